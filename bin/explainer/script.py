@@ -65,13 +65,17 @@ def shown(script, output, status):
     """All that is printed of a script, its output and its status."""
     all_lines = lines.lines_of(script)
     rest = lines.hand_out(all_lines, output)
-    names, printed = Names(), []
+    names, held, printed = Names(), [], []
     for line in all_lines:
         printed += beside(line, [numbers.with_decimals(text) for text in line.answer])
         if line.answer:
             printed += [" " * 8 + text for text in explained(line, names)]
-            if line.answer[0].split(" ")[0] == "ok":
-                names.accept(line.tokens)
+            if line.answer[0] == "held":
+                held.append(line.tokens)
+            elif line.answer[0].split(" ")[0] == "ok":
+                for tokens in held if line.tokens == ["commit"] else [line.tokens]:
+                    names.accept(tokens)
+                held = held if line.tokens[0] not in ("commit", "abandon") else []
     asked = lines.heard(all_lines)
     first = next((line.number for line in asked if not line.is_answered), None)
     if first is not None:

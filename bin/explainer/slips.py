@@ -11,7 +11,7 @@ from . import numbers
 
 KEYWORDS = (
     "var vars reset free delvar renvar row bound vrow vbound min max minvar maxvar feasibility delrow renrow coef const "
-    "vcoef vconst set objcoef objconst attach detach optimize bridged plan target support unsupport cost on off quit "
+    "vcoef vconst set objcoef objconst begin commit abandon attach detach optimize bridged plan target support unsupport cost on off quit "
     "load write"
 ).split()
 OTHER_WORDS = {

@@ -211,9 +211,16 @@ def nothing(it, _):
     return it.draw.choice(("", "  ", "# a remark", *MISTAKES))
 
 
+def edits_at_once(it, kept):
+    """A group of edits. Whatever becomes of it, none is open afterwards."""
+    edits = [it.draw.choices([*EDITS], [*EDITS.values()])[0](it, kept) for _ in range(it.draw.randrange(6))]
+    return "\n".join(["begin", *edits, "commit", "abandon"])
+
+
 # How often each form comes, beside the others.
-FORMS = {
+EDITS = {
     add_variable: 8, add_group: 6, add_row: 10, add_vector_row: 6, add_bound: 4, add_vector_bound: 4, delete_variable: 4,
     delete_row: 5, rename: 4, reset: 8, change_set: 8, change_row: 10, change_vector_row: 8, change_objective: 5,
-    set_objective: 5, change_table: 8, optimize: 3, look: 2, nothing: 2,
+    set_objective: 5,
 }
+FORMS = {**EDITS, edits_at_once: 8, change_table: 8, optimize: 3, look: 2, nothing: 2}

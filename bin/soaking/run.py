@@ -20,6 +20,11 @@ def differing(what, expected, found):
     return Difference("".join([f"{what}\n", *difflib.unified_diff(expected, found, "expected", "found", n=0)]))
 
 
+def told(line, answers):
+    """The first line of an answer; of a group of edits, which ends with `commit` and `abandon`, that to `commit`."""
+    return "".join(answers[-2:-1] if line.startswith("begin\n") else answers[:1])
+
+
 class Script:
     """A script from a seed, as it is run."""
 
@@ -53,7 +58,7 @@ class Script:
         if line == "detach":
             self.keep(self.kept, before[1])
         after = session.answer(line)
-        said = "".join(after[0][:1])
+        said = told(line, after[0])
         if said.startswith("refused ") and after[1:] != before[1:]:
             raise differing(f"`{line}` was refused, and yet it changed something", [before[1], *before[2]], [after[1], *after[2]])
         if said.startswith("ok"):

@@ -2,7 +2,7 @@
 
 import unittest
 
-from explainer import lines, slips
+from explainer import lines, script, slips
 
 CASES = [
     (b"\xef\xbb\xbfvar x free\n", "byte-order mark"),
@@ -83,6 +83,16 @@ class HandingOut(unittest.TestCase):
     def test_looks_without_a_solver_are_refused_one_by_one(self):
         self.assertEqual(self.answers(b"bridged\nbridged\n", ["refused 13 NotAttached"] * 2)[0],
                          [["refused 13 NotAttached"]] * 2)
+
+    def test_looks_in_an_open_group_are_refused(self):
+        refused = ["refused 22 GroupOpen"]
+        self.assertEqual(self.answers(b"begin\nbridged\nvar x free\ncommit\n", ["ok", *refused, "held", "ok"])[0],
+                         [["ok"], refused, ["held"], ["ok"]])
+
+    def test_the_names_of_a_committed_group_are_known(self):
+        answers = ["ok", "held", "held", "ok", "refused 2 UnknownName"]
+        shown = script.shown(b"begin\nvar x free\nrow limits <= 3 : 1*x\ncommit\nset limit <= 2\n", answers, 1)
+        self.assertIn("did you mean `limits`?", "\n".join(shown))
 
     def test_an_empty_model_is_printed_as_nothing(self):
         self.assertEqual(self.answers(b"attach\nbridged\ndetach\n", ["ok 0", "ok"])[0], [["ok 0"], [], ["ok"]])

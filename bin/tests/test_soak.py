@@ -53,7 +53,7 @@ started.stdin.close()
 class Grammar(unittest.TestCase):
     def lines(self, count=4000, seed=1):
         maker = Lines(seed)
-        return [maker.line(MODEL, True, "kept.json") for _ in range(count)]
+        return [line for _ in range(count) for line in maker.line(MODEL, True, "kept.json").split("\n")]
 
     def test_each_form_of_the_documents_is_drawn(self):
         text = document("SCRIPT.md")

@@ -81,7 +81,7 @@ told_as old mid new table model push.Memory told h t =
 abbrev NeverAt : Result ℕ PushFault → Type 0
 NeverAt r = (at : Address) → r ≢ Err (push.Overflow at)
 
-abbrev NeverOverflows : Result ℕ BridgeFault → Type 0
+abbrev pub NeverOverflows : Result ℕ BridgeFault → Type 0
 NeverOverflows r = (place : Place) → r ≢ Err (bridge.Overflow place)
 
 -- where no address is, no place is
@@ -329,9 +329,9 @@ step_answer user new_user old new table model fault given is e h stands settled 
 
 -- ---- a cache to which a solver is to be attached
 
-pub by_fault : {E : Type 0} (r : Result ℕ E) (fault : E) (Q : Result ℕ E → Type 0)
+pub by_fault : {A E : Type 0} (r : Result A E) (fault : E) (Q : Result A E → Type 0)
     → IsErrAnd r (λ e. e ≡ fault) → Q (Err fault) → Q r
-by_fault (Ok n) fault Q h q = absurd h
+by_fault (Ok a) fault Q h q = absurd h
 by_fault (Err e) fault Q h q = subst (λ x. Q (Err x)) (sym h) q
 
 pub attach_answer : (cache : Cached) (user : Stored) (old new : Owned) (attached : Bool)

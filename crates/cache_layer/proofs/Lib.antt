@@ -5,3 +5,5 @@ mod Solved
 mod Carrying
 mod Optimized
 mod FewSteps
+mod Leading
+mod Grouping

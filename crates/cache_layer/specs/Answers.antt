@@ -1,17 +1,20 @@
 -- What the calls of a cache answer, and the state that they leave. After a refusal it is the one
 -- before, and without memory it is that one without its solver.
-use Rattle.std.specs.Prelude.{◌≡◌, ℕ, true, false, List, Option, Some, None, Result, Ok, Err}
+use Rattle.std.specs.Prelude.{◌≡◌, ◌+◌, ℕ, true, false, List, Option, Some, None, Result, Ok, Err}
 use Rattle.cache_layer.specs.Cached.{Cached}
 use Rattle.cache_layer.specs.State.{Changes, HasLeaves, OverflowsAt, State, attached, detached, with_model}
 use Rattle.cache_layer.specs.declared.fault.AttachFault.{AttachFault}
 use Rattle.cache_layer.specs.declared.fault.AttachFault.TheVariants as attach
 use Rattle.cache_layer.specs.declared.fault.EditFault.{EditFault}
 use Rattle.cache_layer.specs.declared.fault.EditFault.TheVariants.{Memory, Overflow, Refused, Unsupported}
+use Rattle.cache_layer.specs.declared.fault.GroupFault.{GroupFault}
+use Rattle.cache_layer.specs.declared.fault.GroupFault.TheVariants as group
 use Rattle.fresh_bridging.specs.FreshBridging.{IsUnsupported}
 use Rattle.lazy_bridge.specs.Pushed.{IsTried}
-use Rattle.model_load.specs.Loads.{after_edits}
+use Rattle.model_load.specs.Loads.{accepted_first, after_edits}
 use Rattle.user_model.specs.declared.edit.Edit.{Edit}
 use Rattle.user_model.specs.Edited.{edited}
+use Rattle.user_model.specs.Model.{ModelValue}
 use Rattle.user_model.specs.Refusals.{first_refusal}
 
 -- the next state is reached; but while a solver is attached not where an item of its model has no
@@ -44,6 +47,28 @@ IsLoaded old edits (Err (Refused refusal)) new =
 IsLoaded old edits (Err Memory) new = new ≡ old
 IsLoaded old edits (Err (Unsupported kind)) new = ⊥
 IsLoaded old edits (Err (Overflow place)) new = ⊥
+
+-- a group's fault as an edit's, which has no number
+abbrev pub fault_alone : GroupFault → EditFault
+fault_alone (group.Refused index refusal) = Refused refusal
+fault_alone (group.Unsupported kind) = Unsupported kind
+fault_alone (group.Overflow place) = Overflow place
+fault_alone group.Memory = Memory
+
+abbrev pub as_edits : {A : Type 0} → Result A GroupFault → Result A EditFault
+as_edits (Ok a) = Ok a
+as_edits (Err fault) = Err (fault_alone fault)
+
+-- a group of edits is refused first for the first of them that is refused, by its number from 1, and
+-- then for the bridging of the model after all of them
+abbrev pub IsGrouped : State → List Edit → Result (Option ℕ) GroupFault → State → Type 0
+IsGrouped old edits (Err (group.Refused index refusal)) new =
+    (after_edits old.model edits ≡ Err refusal)
+    × (index ≡ accepted_first old.model edits + 1) × (new ≡ old)
+IsGrouped old edits (Err group.Memory) new = new ≡ detached old
+IsGrouped old edits answer new =
+    (model : ModelValue) × (after_edits old.model edits ≡ Ok model)
+    × Becomes old (with_model old model) (as_edits answer) new
 
 -- a solver is attached, and has this number of leaves
 abbrev pub IsAttached : State → Result ℕ AttachFault → State → Type 0

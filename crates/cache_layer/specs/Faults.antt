@@ -7,8 +7,12 @@ use Rattle.cache_layer.specs.declared.fault.BridgeFault.{BridgeFault}
 use Rattle.cache_layer.specs.declared.fault.BridgeFault.TheVariants as bridge
 use Rattle.cache_layer.specs.declared.fault.EditFault.{EditFault}
 use Rattle.cache_layer.specs.declared.fault.EditFault.TheVariants.{Memory, Overflow, Refused, Unsupported}
+use Rattle.cache_layer.specs.declared.fault.GroupFault.{GroupFault}
+use Rattle.cache_layer.specs.declared.fault.GroupFault.TheVariants as group
 use Rattle.cache_layer.specs.declared.fault.OptFault.{OptFault}
 use Rattle.cache_layer.specs.declared.fault.OptFault.TheVariants as opt
+use Rattle.model_load.specs.declared.fault.Unmade.{Unmade}
+use Rattle.model_load.specs.declared.fault.Unmade.TheVariants as part
 use Rattle.report_core.specs.declared.refused.Place.TheVariants.{Solver}
 use Rattle.simplex_core.specs.declared.fault.SolveFault.{SolveFault}
 use Rattle.simplex_core.specs.declared.fault.SolveFault.TheVariants as solve
@@ -20,6 +24,15 @@ use Rattle.user_model.specs.declared.refusal.ApplyFault.TheVariants as apply
 abbrev pub edit_fault : ApplyFault → EditFault
 edit_fault (apply.Refused refusal) = Refused refusal
 edit_fault apply.Memory = Memory
+
+abbrev pub group_fault_of : Unmade → GroupFault
+group_fault_of (part.Refused index refusal) = group.Refused index refusal
+group_fault_of part.Memory = group.Memory
+
+abbrev pub group_fault : BridgeFault → GroupFault
+group_fault (bridge.Unsupported kind) = group.Unsupported kind
+group_fault (bridge.Overflow place) = group.Overflow place
+group_fault bridge.Memory = group.Memory
 
 abbrev pub bridge_fault : BridgeFault → EditFault
 bridge_fault (bridge.Unsupported kind) = Unsupported kind

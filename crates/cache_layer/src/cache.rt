@@ -1,25 +1,28 @@
 //! The cache.
-ghost use Rattle.std.specs.Prelude.{◌≡◌, ◌≢◌, [], Err, IfErr, IfOk, IsTrue, false, true};
+ghost use Rattle.std.specs.Prelude.{◌≡◌, ◌≢◌, [], Err, IfErr, IfOk, IsTrue, Ok, false, true};
 ghost use Rattle.std.specs.List.{list_all};
 ghost use Rattle.bridge_graph.specs.Hypergraph.{is_edge_cost};
 ghost use Rattle.lazy_bridge.specs.Few.{ChangesFew};
 ghost use Rattle.lazy_bridge.specs.Native.{supports_native};
 ghost use Rattle.lazy_bridge.specs.Owned.{HoldsNothing};
-ghost use Rattle.cache_layer.specs.Answers.{Becomes, IsAttached, IsEdited, IsLoaded, UnlessAttached, UnlessRefused};
+ghost use Rattle.cache_layer.specs.Answers.{Becomes, IsAttached, IsEdited, IsGrouped, IsLoaded, UnlessAttached, UnlessRefused, as_edits};
 ghost use Rattle.cache_layer.specs.Bridging.{stays};
 ghost use Rattle.cache_layer.specs.Cached.{Stands, model_in, state_of};
 ghost use Rattle.cache_layer.specs.FewCalls.{AttachesFew, EditsFew};
 ghost use Rattle.cache_layer.specs.Outcome.{IsOptimized};
 ghost use Rattle.cache_layer.specs.State.{detached, with_table};
 ghost use Rattle.certificates.specs.Good.{Good};
+ghost use Rattle.model_load.specs.Loads.{after_edits};
 ghost use Rattle.report_core.specs.declared.refused.Place.{Place};
 ghost use Rattle.small_numbers.specs.SmallNumbers.{HasSmallNumbers};
 ghost use Rattle.user_model.specs.Edited.{edited};
+ghost use Rattle.user_model.specs.Model.{ModelValue};
 
 use crate::bridging::fill;
 use crate::edits::{edit_alone, edit_bridged, table_bridged};
+use crate::groups::{group_alone, group_bridged};
 use crate::optimize::optimize;
-use crate::{AttachFault, Certificate, EditFault, NotAttached, OptFault};
+use crate::{AttachFault, Certificate, EditFault, GroupFault, NotAttached, OptFault};
 use bridge_face::Bridge;
 use item_core::Table;
 use lazy_bridge::LazyOver;
@@ -89,6 +92,27 @@ impl<B: Bridge> CacheOver<B> {
         }
         let answer = edit_bridged(&mut self.user, &mut self.lazy, edit);
         self.attached = stays(&answer);
+        answer
+    }
+
+    /// Makes copies of edits one after another, or none of them: the first that is refused is the
+    /// answer, by its number from 1. Only the model after all of them is bridged, and none between
+    /// has to have a bridging. While a solver is attached, the answer is the number of addresses at
+    /// which its model changes from before the first to behind the last, and it is called no more
+    /// often, as by an edit.
+    pub fn group(&mut self, edits: &[Edit]) -> Result<Option<u64>, GroupFault>
+        ensures answer { IsGrouped (state_of self.old) edits.now result (state_of self.new) }
+        ensures untouched { UnlessRefused (as_edits result) self.old self.new }
+        ensures small { (made : ModelValue) → after_edits (model_in self.old) edits.now ≡ Ok made
+            → HasSmallNumbers made → (place : Place) → result ≢ Err (GroupFault.Overflow place) }
+        ensures few { EditsFew (as_edits result) self.old.lazy self.new.lazy }
+    {
+        if !self.attached {
+            group_alone(self.alloc, &mut self.user, edits)?;
+            return Ok(None);
+        }
+        let answer = group_bridged(self.alloc, &mut self.user, &mut self.lazy, edits);
+        self.attached = stays_after(&answer);
         answer
     }
 
@@ -201,4 +225,11 @@ fn stays(answer: &Result<Option<u64>, EditFault>) -> bool
     ensures { result ≡ stays answer.now }
 {
     !matches!(answer, Err(EditFault::Memory))
+}
+
+// The same after a group of edits.
+fn stays_after(answer: &Result<Option<u64>, GroupFault>) -> bool
+    ensures { result ≡ stays (as_edits answer.now) }
+{
+    !matches!(answer, Err(GroupFault::Memory))
 }

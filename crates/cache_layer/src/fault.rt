@@ -1,8 +1,9 @@
 //! Why a call of the cache is refused.
 ghost use Rattle.std.specs.Prelude.{◌≡◌};
-ghost use Rattle.cache_layer.specs.Faults.{attach_fault, bridge_fault, edit_fault, form_fault, read_fault, solve_fault};
+ghost use Rattle.cache_layer.specs.Faults.{attach_fault, bridge_fault, edit_fault, form_fault, group_fault, group_fault_of, read_fault, solve_fault};
 
 use item_core::Kind;
+use model_load::Unmade;
 use ratio_core::NumberFault;
 use report_core::Place;
 use simplex_core::SolveFault;
@@ -16,6 +17,19 @@ pub enum EditFault {
     /// The first of the user's items without a tree is of this kind.
     Unsupported { kind: Kind },
     /// Where the first number of the bridging doesn't fit.
+    Overflow { place: Place },
+    /// Memory ran out, and no solver is attached.
+    Memory,
+}
+
+/// Why a group of edits isn't made. The model and the table are as before.
+#[derive(Debug, Drop)]
+pub enum GroupFault {
+    /// The first of the edits that is refused, numbered from 1.
+    Refused { index: u64, refusal: Refusal },
+    /// After all edits, the first of the user's items without a tree is of this kind.
+    Unsupported { kind: Kind },
+    /// Where, after all edits, the first number of the bridging doesn't fit.
     Overflow { place: Place },
     /// Memory ran out, and no solver is attached.
     Memory,
@@ -56,6 +70,29 @@ pub(crate) enum BridgeFault {
     Unsupported { kind: Kind },
     Overflow { place: Place },
     Memory,
+}
+
+impl From<Unmade> for GroupFault {
+    ghost from_gives = { λ fault result. result ≡ group_fault_of fault };
+
+    fn from(fault: Unmade) -> GroupFault {
+        match fault {
+            Unmade::Refused { index, refusal } => GroupFault::Refused { index, refusal },
+            Unmade::Memory => GroupFault::Memory,
+        }
+    }
+}
+
+impl From<BridgeFault> for GroupFault {
+    ghost from_gives = { λ fault result. result ≡ group_fault fault };
+
+    fn from(fault: BridgeFault) -> GroupFault {
+        match fault {
+            BridgeFault::Unsupported { kind } => GroupFault::Unsupported { kind },
+            BridgeFault::Overflow { place } => GroupFault::Overflow { place },
+            BridgeFault::Memory => GroupFault::Memory,
+        }
+    }
 }
 
 impl From<ApplyFault> for EditFault {

@@ -6,10 +6,11 @@ mod bridging;
 mod cache;
 mod edits;
 mod fault;
+mod groups;
 mod optimize;
 mod solving;
 
 pub use cache::{Cache, CacheOver};
 pub use cert_core::Certificate;
-pub use fault::{AttachFault, EditFault, NotAttached, OptFault};
+pub use fault::{AttachFault, EditFault, GroupFault, NotAttached, OptFault};
 pub use report_core::Place;

@@ -1,12 +1,12 @@
 -- When the shelf is asked for a file, and when its fault is answered.
-use Rattle.std.specs.Prelude.{◌≡◌, ◌≢◌, ℕ, Bool, true, false, List, [], ◌∷◌, Option, Result, Ok, Err, OnOk}
+use Rattle.std.specs.Prelude.{◌≡◌, ◌≢◌, ℕ, Bool, true, false, List, [], ◌∷◌, Option, None, Some, Result, Ok, Err, OnOk, refl}
 use Rattle.std.specs.Result.{result_unwrap_or}
 use Rattle.std.proofs.Common.{sym, ap, subst, inl, inr, ◌∙◌, true≢false}
 use Rattle.std.proofs.lemmas.Bool.{cases_Bool}
 use Rattle.lists.specs.declared.memory.Memory.{Memory as NoMemory}
 use Rattle.cache_layer.specs.State.{State}
 use Rattle.file_answers.specs.AskingLaws.{on_ok}
-use Rattle.edit_engine.specs.Lines.{is_load, line_asks, load_asks, said_asks, says_load}
+use Rattle.edit_engine.specs.Lines.{asks_by, is_load, line_asks, load_asks, said_asks, says_load}
 use Rattle.edit_engine.specs.LinesLaws.{does_fit, fetches}
 use Rattle.edit_engine.specs.Script.{DoesSaid, Machine, Makes}
 use Rattle.io_face.specs.Shelf.{AsksFor}
@@ -17,6 +17,7 @@ use Rattle.script_core.specs.Line.{line_said}
 use Rattle.script_core.specs.declared.command.Command.{Command}
 use Rattle.script_core.specs.declared.command.Command.TheVariants as line
 use Rattle.script_core.specs.declared.fault.LineFault.{LineFault}
+use Rattle.user_model.specs.declared.edit.Edit.{Edit}
 
 abbrev fault_of_result : Result Answer NoMemory → Bool
 fault_of_result (Ok answer) = fetches answer
@@ -69,33 +70,39 @@ asks_bare old new false false name is full asks = absurd (true≢false (sym full
 asks_bare old new false true name is full asks = asks
 
 -- another line asks for none
-asks_nothing : (asked : Option (List (List ℕ))) (s : State) (said : Result Command LineFault)
-    → is_load said ≡ false → AsksFor asked asked (said_asks s said)
-asks_nothing asked s (Ok (line.Load name)) off = absurd (true≢false off)
-asks_nothing asked s (Ok _) off = asks_none asked
-asks_nothing asked s (Err fault) off = asks_none asked
+asks_nothing : (asked : Option (List (List ℕ))) (m : Machine) (said : Result Command LineFault)
+    → is_load said ≡ false → AsksFor asked asked (said_asks m said)
+asks_nothing asked m said off = by m.group said off
+  where
+    by : (group : Option (List Edit)) (said : Result Command LineFault) → is_load said ≡ false
+        → AsksFor asked asked (asks_by group m.state said)
+    by None (Ok (line.Load name)) off = absurd (true≢false off)
+    by None (Ok _) off = asks_none asked
+    by None (Err fault) off = asks_none asked
+    by (Some edits) said off = asks_none asked
 
 -- a line that is read as no command
-pub unread_asks : (asked : Option (List (List ℕ))) (s : State) (text : List ℕ) (fault : LineFault)
+pub unread_asks : (asked : Option (List (List ℕ))) (m : Machine) (text : List ℕ) (fault : LineFault)
     (r : Result Answer NoMemory) → Err fault ≡ line_said text
-    → OnOk r (AsksFor asked asked (line_asks s text))
+    → OnOk r (AsksFor asked asked (line_asks m text))
 unfolding line_asks
-unread_asks asked s text fault r is =
-    on_ok r _ (subst (λ said. AsksFor asked asked (said_asks s said)) is (asks_none asked))
+unread_asks asked m text fault r is =
+    on_ok r _ (subst (λ said. AsksFor asked asked (said_asks m said)) is
+    (asks_nothing asked m (Err fault) refl))
 
 -- a command, by whether it is a `load`
-pub command_asks : (old new : Option (List (List ℕ))) (s : State) (text : List ℕ)
+pub command_asks : (old new : Option (List (List ℕ))) (m : Machine) (text : List ℕ)
     (command : Command) (r : Result Answer NoMemory) → Ok command ≡ line_said text
-    → (is_load (Ok command) ≡ true → OnOk r (AsksFor old new (said_asks s (Ok command))))
+    → (is_load (Ok command) ≡ true → OnOk r (AsksFor old new (said_asks m (Ok command))))
     → (is_load (Ok command) ≡ false → new ≡ old)
-    → OnOk r (AsksFor old new (line_asks s text))
+    → OnOk r (AsksFor old new (line_asks m text))
 unfolding line_asks
-command_asks old new s text command r is loads other =
-    subst (λ said. OnOk r (AsksFor old new (said_asks s said))) is
+command_asks old new m text command r is loads other =
+    subst (λ said. OnOk r (AsksFor old new (said_asks m said))) is
     (elim (cases_Bool (is_load (Ok command))) [
       | inl on ↦ loads on
-      | inr off ↦ on_ok r _ (subst (λ n. AsksFor old n (said_asks s (Ok command)))
-          (sym (other off)) (asks_nothing old s (Ok command) off))
+      | inr off ↦ on_ok r _ (subst (λ n. AsksFor old n (said_asks m (Ok command)))
+          (sym (other off)) (asks_nothing old m (Ok command) off))
     ])
 
 -- the count of faults, likewise

@@ -1,16 +1,18 @@
 -- How few calls a line takes, by what the call behind it was answered.
-use Rattle.std.specs.Prelude.{◌≡◌, ◌≢◌, ◌<◌, ◌^◌, ℕ, Bool, true, false, Option, None, Some, Result, Ok, Err, IfOk, refl}
+use Rattle.std.specs.Prelude.{◌≡◌, ◌≢◌, ◌<◌, ◌^◌, ℕ, Bool, true, false, List, Option, None, Some, Result, Ok, Err, IfOk, refl}
 use Rattle.std.specs.Result.{result_unwrap_or}
 use Rattle.std.proofs.Common.{arith, sym, subst, true≢false, ◌∙◌}
 use Rattle.lists.specs.declared.memory.Memory.{Memory as NoMemory}
-use Rattle.cache_layer.specs.Answers.{Becomes, IsAttached, IsEdited}
+use Rattle.cache_layer.specs.Answers.{Becomes, IsAttached, IsEdited, IsGrouped, as_edits}
 use Rattle.cache_layer.specs.FewCalls.{AttachesFew, EditsFew}
 use Rattle.cache_layer.specs.FewCallsLaws.{few_more, few_same}
-use Rattle.cache_layer.specs.State.{State}
+use Rattle.cache_layer.specs.State.{State, with_model}
 use Rattle.cache_layer.specs.declared.fault.AttachFault.{AttachFault}
 use Rattle.cache_layer.specs.declared.fault.AttachFault.TheVariants as attach
 use Rattle.cache_layer.specs.declared.fault.EditFault.{EditFault}
 use Rattle.cache_layer.specs.declared.fault.EditFault.TheVariants as edit
+use Rattle.cache_layer.specs.declared.fault.GroupFault.{GroupFault}
+use Rattle.cache_layer.specs.declared.fault.GroupFault.TheVariants as group
 use Rattle.lazy_bridge.specs.Few.{ChangesFew}
 use Rattle.lazy_bridge.specs.Owned.{Owned}
 use Rattle.report_core.specs.declared.answer.Answer.{Answer}
@@ -19,7 +21,7 @@ use Rattle.report_core.specs.Replies.{done_text}
 use Rattle.user_model.specs.declared.edit.Edit.{Edit}
 use Rattle.edit_engine.specs.CountLaws.{changes_fit, count_done, leaves_fit}
 use Rattle.edit_engine.specs.Counts.{TakesFew, count_in}
-use Rattle.edit_engine.specs.Script.{attach_answer, edit_answer}
+use Rattle.edit_engine.specs.Script.{attach_answer, edit_answer, group_answer}
 
 -- ---- no call
 
@@ -93,6 +95,34 @@ pub table_told : (s next t : State) (made : Result (Option ℕ) EditFault) (old 
 table_told s next t made old new result is few =
     few_said edit_answer made old new result
     (edit_takes made old new (table_fits s next t made is) few)
+
+-- ---- a group of edits
+
+group_takes : (made : Result (Option ℕ) GroupFault) (old new : Owned)
+    → ((n : ℕ) → made ≡ Ok (Some n) → n < 2 ^ 64) → EditsFew (as_edits made) old new
+    → TakesFew (group_answer made) old new
+group_takes (Ok None) old new fits few =
+    few_more old new 0 (count_in (done_text None)) (omega arith) few
+group_takes (Ok (Some n)) old new fits few =
+    subst (λ k. ChangesFew old k new) (sym (count_done n (fits n refl))) few
+group_takes (Err (group.Refused index refusal)) old new fits few = few
+group_takes (Err (group.Unsupported kind)) old new fits few = few
+group_takes (Err (group.Overflow place)) old new fits few = few
+group_takes (Err group.Memory) old new fits few = tt
+
+group_fits : (s t : State) (edits : List Edit) (made : Result (Option ℕ) GroupFault)
+    → IsGrouped s edits made t → (n : ℕ) → made ≡ Ok (Some n) → n < 2 ^ 64
+group_fits s t edits made is n same =
+    let done = subst (λ r. IsGrouped s edits r t) same is in
+    changes_fit s (with_model s done.0) n done.2.1
+
+pub group_told : (s t : State) (edits : List Edit) (made : Result (Option ℕ) GroupFault)
+    (old new : Owned) (result : Result Answer NoMemory) → IsGrouped s edits made t
+    → EditsFew (as_edits made) old new → IfOk result (λ answer. answer ≡ group_answer made)
+    → IfOk result (λ answer. TakesFew answer old new)
+group_told s t edits made old new result is few =
+    few_said group_answer made old new result
+    (group_takes made old new (group_fits s t edits made is) few)
 
 -- where no solver is attached no number is answered
 none_there : (s next t : State) (count : Option ℕ) (old new : Owned) → Becomes s next (Ok count) t

@@ -1,5 +1,6 @@
 mod Asking
 mod FewTold
+mod Grouped
 mod PlanSteps
 mod Shown
 mod Steps

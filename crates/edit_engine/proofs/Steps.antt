@@ -1,7 +1,7 @@
 -- Steps of the script machine, from what calls gave and what was printed.
 use Rattle.std.specs.Prelude.{◌≡◌, ◌↔◌, ℕ, IfSome, IsNone, Bool, true, false, List, Option, Some, None, Result, Ok, Err, IfOk, refl}
 use Rattle.std.specs.Result.{result_unwrap_or}
-use Rattle.std.proofs.Common.{sym, subst, inl, inr, true≢false}
+use Rattle.std.proofs.Common.{ap, sym, subst, inl, inr, true≢false, ◌∙◌}
 use Rattle.lists.specs.declared.memory.Memory.{Memory as NoMemory}
 use Rattle.bridge_graph.specs.Hypergraph.{Hypergraph}
 use Rattle.bridge_graph.specs.Tree.{IsLeastCost, IsTreeless}
@@ -12,7 +12,8 @@ use Rattle.fresh_bridging.specs.TheRules.{graph_of}
 use Rattle.report_core.specs.Plan.{plan_text}
 use Rattle.report_core.specs.declared.answer.Answer.{Answer}
 use Rattle.report_core.specs.declared.answer.Answer.TheVariants.{Memory, Printed, Quit, ReadFault, Refused, Silent, TooLong}
-use Rattle.edit_engine.specs.Script.{Answered, DoesLine, IsCost, IsPlan, Machine, Makes, Plans, Shows, Steps, Tells, with_state}
+use Rattle.script_core.specs.Line.{line_said}
+use Rattle.edit_engine.specs.Script.{Answered, DoesLine, IsCost, IsPlan, Machine, Makes, Plans, Shows, Steps, Tells, group_after, moved}
 
 -- what a call gave is reported
 pub told : {A : Type 0} (text : A → Answer) (gives : A → State → Type 0) (old new : State)
@@ -38,20 +39,26 @@ answered old new line (Refused text) h = h
 answered old new line Quit h = h
 answered old new line ReadFault h = h
 answered old new line TooLong h = h
-answered old new line Memory h = (inr (inr (Memory, h.0)), h.1)
+answered old new line Memory h = (
+  inr (inr (Memory, h.0)),
+  h.1 ∙ ap (moved old new.state) (sym (ap (λ (m : Machine). m.group) h.1)),
+)
 
 -- and where memory ran out, that is answered
 pub answered_or : (old new : Machine) (line : List ℕ) (made : Result Answer NoMemory)
     (result : Answer) → result ≡ result_unwrap_or made Memory
-    → Makes (DoesLine old line) old.state made new.state → new ≡ with_state old new.state
+    → Makes (DoesLine old line) old.state made new.state → new ≡ moved old new.state new.group
+    → IfOk made (λ answer. new.group ≡ group_after old.group (line_said line) answer)
     → Answered old line result new
-answered_or old new line made result is h kept =
-    subst (λ (a : Answer). Answered old line a new) (sym is) (by made h)
+answered_or old new line made result is h kept group =
+    subst (λ (a : Answer). Answered old line a new) (sym is) (by made h group)
   where
     by : (made : Result Answer NoMemory) → Makes (DoesLine old line) old.state made new.state
+        → IfOk made (λ answer. new.group ≡ group_after old.group (line_said line) answer)
         → Answered old line (result_unwrap_or made Memory) new
-    by (Ok answer) h = answered old new line answer (h, kept)
-    by (Err memory) h = (h, kept)
+    by (Ok answer) h group =
+        answered old new line answer (h, kept ∙ ap (moved old new.state) group)
+    by (Err memory) h group = (h, kept)
 
 -- the choices are printed
 pub plans : (s : State) (choices : List (Choice × Option ℕ)) (result : Result Answer NoMemory)

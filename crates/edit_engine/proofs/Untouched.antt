@@ -3,16 +3,18 @@ use Rattle.std.specs.Prelude.{◌≡◌, ℕ, Option, Result, Ok, Err, IfOk}
 use Rattle.std.specs.Result.{result_unwrap_or}
 use Rattle.std.proofs.Common.{sym, subst}
 use Rattle.lists.specs.declared.memory.Memory.{Memory as NoMemory}
-use Rattle.cache_layer.specs.Answers.{UnlessAttached, UnlessRefused}
+use Rattle.cache_layer.specs.Answers.{UnlessAttached, UnlessRefused, as_edits}
 use Rattle.cache_layer.specs.Cached.{Cached}
 use Rattle.cache_layer.specs.declared.fault.AttachFault.{AttachFault}
 use Rattle.cache_layer.specs.declared.fault.AttachFault.TheVariants as attach
 use Rattle.cache_layer.specs.declared.fault.EditFault.{EditFault}
 use Rattle.cache_layer.specs.declared.fault.EditFault.TheVariants as edit
+use Rattle.cache_layer.specs.declared.fault.GroupFault.{GroupFault}
+use Rattle.cache_layer.specs.declared.fault.GroupFault.TheVariants as group
 use Rattle.report_core.specs.declared.answer.Answer.{Answer}
 use Rattle.report_core.specs.declared.answer.Answer.TheVariants.{Memory}
 use Rattle.edit_engine.specs.Held.{KeepsRefused}
-use Rattle.edit_engine.specs.Script.{attach_answer, edit_answer}
+use Rattle.edit_engine.specs.Script.{attach_answer, edit_answer, group_answer}
 
 -- what is printed of what a call gave
 told_keeps : {A : Type 0} (text : A → Answer) (given : A) (old new : Cached)
@@ -37,6 +39,21 @@ pub edit_untouched : (made : Result (Option ℕ) EditFault) (old new : Cached)
     → IfOk result (λ answer. KeepsRefused answer old new)
 edit_untouched made old new result h is =
     told_keeps edit_answer made old new result (edit_keeps made old new h) is
+
+group_keeps : (made : Result (Option ℕ) GroupFault) (old new : Cached)
+    → UnlessRefused (as_edits made) old new → KeepsRefused (group_answer made) old new
+group_keeps (Ok count) old new h = tt
+group_keeps (Err (group.Refused index refusal)) old new h = h
+group_keeps (Err (group.Unsupported kind)) old new h = h
+group_keeps (Err (group.Overflow place)) old new h = h
+group_keeps (Err group.Memory) old new h = tt
+
+pub group_untouched : (made : Result (Option ℕ) GroupFault) (old new : Cached)
+    (result : Result Answer NoMemory) → UnlessRefused (as_edits made) old new
+    → IfOk result (λ answer. answer ≡ group_answer made)
+    → IfOk result (λ answer. KeepsRefused answer old new)
+group_untouched made old new result h is =
+    told_keeps group_answer made old new result (group_keeps made old new h) is
 
 attach_keeps : (made : Result ℕ AttachFault) (old new : Cached)
     → UnlessAttached made old new → KeepsRefused (attach_answer made) old new

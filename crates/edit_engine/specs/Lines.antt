@@ -1,6 +1,6 @@
 -- Lines, one after another: which of them are heard, what they are answered, and the state that
 -- they leave.
-use Rattle.std.specs.Prelude.{ℕ, Bool, true, false, ◌||◌, List, [], ◌∷◌, ◌++◌, Result, Ok, if◌then◌else◌}
+use Rattle.std.specs.Prelude.{ℕ, Bool, true, false, ◌||◌, List, [], ◌∷◌, ◌++◌, Option, None, Result, Ok, if◌then◌else◌}
 use Rattle.cache_layer.specs.State.{State}
 use Rattle.edit_engine.specs.Bare.{is_bare}
 use Rattle.edit_engine.specs.Script.{Machine, Steps}
@@ -10,6 +10,7 @@ use Rattle.script_core.specs.Line.{line_said}
 use Rattle.script_core.specs.declared.command.Command.{Command}
 use Rattle.script_core.specs.declared.command.Command.TheVariants as line
 use Rattle.script_core.specs.declared.fault.LineFault.{LineFault}
+use Rattle.user_model.specs.declared.edit.Edit.{Edit}
 
 abbrev pub is_quit : Result Command LineFault → Bool
 is_quit (Ok line.Quit) = true
@@ -33,13 +34,17 @@ abbrev pub load_asks : Bool → Bool → List ℕ → List (List ℕ)
 load_asks false true name = name ∷ []
 load_asks attached bare name = []
 
-abbrev pub said_asks : State → Result Command LineFault → List (List ℕ)
-said_asks s (Ok (line.Load name)) = load_asks s.attached (is_bare s.model) name
-said_asks s said = []
+-- while a group of edits is open no file is asked for
+abbrev pub asks_by : Option (List Edit) → State → Result Command LineFault → List (List ℕ)
+asks_by None s (Ok (line.Load name)) = load_asks s.attached (is_bare s.model) name
+asks_by group s said = []
+
+abbrev pub said_asks : Machine → Result Command LineFault → List (List ℕ)
+said_asks m = asks_by m.group m.state
 
 -- the names of the files that a line asks for
-unfoldable pub line_asks : State → List ℕ → List (List ℕ)
-line_asks s line = said_asks s (line_said line)
+unfoldable pub line_asks : Machine → List ℕ → List (List ℕ)
+line_asks m line = said_asks m (line_said line)
 
 -- the lines up to their end, or through the first that ends the run
 abbrev pub heard : List (List ℕ) → List (List ℕ)

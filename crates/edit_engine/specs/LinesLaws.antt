@@ -1,5 +1,5 @@
 -- Lines that are answered one after another, and which of them ends the run.
-use Rattle.std.specs.Prelude.{◌≡◌, ◌⊎◌, ℕ, Bool, true, false, ◌||◌, List, [], ◌∷◌, ◌++◌, Option, Some, Result, Ok, Err, cond, refl}
+use Rattle.std.specs.Prelude.{◌≡◌, ◌⊎◌, ℕ, Bool, true, false, ◌||◌, List, [], ◌∷◌, ◌++◌, Option, None, Some, Result, Ok, Err, cond, refl}
 use Rattle.std.specs.List.{list_any}
 use Rattle.std.proofs.Common.{inl, inr, sym, ap, ◌∙◌, subst, append_assoc, append-nil, true≢false}
 use Rattle.std.proofs.lemmas.Bool.{cond-false, cond-true}
@@ -8,12 +8,14 @@ use Rattle.cache_layer.specs.declared.fault.AttachFault.{AttachFault}
 use Rattle.cache_layer.specs.declared.fault.AttachFault.TheVariants as attach
 use Rattle.cache_layer.specs.declared.fault.EditFault.{EditFault}
 use Rattle.cache_layer.specs.declared.fault.EditFault.TheVariants as edit
+use Rattle.cache_layer.specs.declared.fault.GroupFault.{GroupFault}
+use Rattle.cache_layer.specs.declared.fault.GroupFault.TheVariants as group
 use Rattle.cache_layer.specs.declared.fault.OptFault.{OptFault}
 use Rattle.cache_layer.specs.declared.fault.OptFault.TheVariants as opt
 use Rattle.certificates.specs.declared.certificate.Certificate.{Certificate}
 use Rattle.edit_engine.specs.Bare.{is_bare}
 use Rattle.edit_engine.specs.Lines.{Answers, Prints, heard, is_quit, next, none, says_quit}
-use Rattle.edit_engine.specs.Script.{Detaches, DoesSaid, LoadsEdits, LoadsWhere, Machine, Shows, Steps, attach_answer, edit_answer, load_answer, optimize_answer}
+use Rattle.edit_engine.specs.Script.{Detaches, Does, DoesAlone, DoesBy, DoesInGroup, DoesSaid, LoadsEdits, LoadsWhere, Machine, Shows, Steps, attach_answer, edit_answer, group_answer, load_answer, optimize_answer}
 use Rattle.io_face.specs.Told.{MayGive}
 use Rattle.io_face.specs.declared.shelf.FetchFault.{FetchFault}
 use Rattle.io_face.specs.declared.shelf.FetchFault.TheVariants as fetch
@@ -107,6 +109,12 @@ fetches ReadFault = true
 fetches TooLong = true
 fetches answer = false
 
+-- a command while no group is open
+pub does_alone : (m : Machine) (command : Command) (new : State) (answer : Answer)
+    → m.group ≡ None → Does m command answer new → DoesAlone m command answer new
+does_alone m command new answer none does =
+    subst (λ (open_group : Option (List Edit)). DoesBy open_group m command answer new) none does
+
 -- whether an answer ends the run, and whether it is a file's
 abbrev pub ends_or_fetches : Answer → Bool × Bool
 ends_or_fetches answer = (answers_quit answer, fetches answer)
@@ -151,6 +159,12 @@ load_plain : (made : Result Unit EditFault)
 load_plain (Ok loaded) = refl
 load_plain (Err edit.Memory) = refl
 load_plain (Err _) = refl
+
+group_plain : (made : Result (Option ℕ) GroupFault)
+    → ends_or_fetches (group_answer made) ≡ (false, false)
+group_plain (Ok count) = refl
+group_plain (Err group.Memory) = refl
+group_plain (Err _) = refl
 
 attach_plain : (made : Result ℕ AttachFault) → ends_or_fetches (attach_answer made) ≡ (false, false)
 attach_plain (Ok count) = refl
@@ -210,32 +224,52 @@ loads_fit m name false false new answer does = inl (ap ends_or_fetches does.0)
 loads_fit m name false true new answer (read, read_so, does) =
     load_fits m name read new answer read_so does
 
+alone_what : (m : Machine) (command : Command) (new : State) (answer : Answer)
+    → DoesAlone m command answer new → IsPlainly m (Ok command) answer new
+alone_what m line.Silent new answer does = inl (ap ends_or_fetches does.0)
+alone_what m line.Quit new answer does = inl (ap ends_or_fetches does.0)
+alone_what m (line.Edit e) new answer does =
+    inl (ap ends_or_fetches does.2 ∙ edit_plain does.0)
+alone_what m line.Begin new answer does = inl (ap ends_or_fetches does.0)
+alone_what m line.Commit new answer does = inl (ap ends_or_fetches does.0)
+alone_what m line.Abandon new answer does = inl (ap ends_or_fetches does.0)
+alone_what m (line.Target target) new answer does =
+    inl (ap ends_or_fetches does.2 ∙ edit_plain does.0)
+alone_what m (line.Support kind value) new answer does =
+    inl (ap ends_or_fetches does.2 ∙ edit_plain does.0)
+alone_what m (line.Cost edge cost) new answer does =
+    inl (ap ends_or_fetches does.2 ∙ edit_plain does.0)
+alone_what m (line.Switch family value) new answer does =
+    inl (ap ends_or_fetches does.2 ∙ edit_plain does.0)
+alone_what m line.Attach new answer does =
+    inl (ap ends_or_fetches does.2 ∙ attach_plain does.0)
+alone_what m line.Detach new answer does =
+    inl (detach_plain m.state.attached m.state new answer does)
+alone_what m line.Bridged new answer does =
+    inl (show_plain m.state.attached m.state new answer does)
+alone_what m line.Plan new answer does = inl (ap ends_or_fetches does.2.0)
+alone_what m (line.Optimize own) new answer does =
+    inl (ap ends_or_fetches does.2 ∙ optimize_plain m.state.model does.0)
+alone_what m line.Write new answer does = inl (ap ends_or_fetches does.0)
+alone_what m (line.Load name) new answer does =
+    loads_fit m name m.state.attached (is_bare m.state.model) new answer does
+
+group_what : (m : Machine) (edits : List Edit) (command : Command) (new : State)
+    (answer : Answer) → DoesInGroup m.state edits command answer new
+    → IsPlainly m (Ok command) answer new
+group_what m edits line.Commit new answer does =
+    inl (ap ends_or_fetches does.2 ∙ group_plain does.0)
+group_what m edits line.Quit new answer does = inl (ap ends_or_fetches does.0)
+group_what m edits _ new answer does = inl (ap ends_or_fetches does.0)
+
 does_what : (m : Machine) (said : Result Command LineFault) (new : State) (answer : Answer)
     → DoesSaid m said answer new → IsPlainly m said answer new
-does_what m (Ok line.Silent) new answer does = inl (ap ends_or_fetches does.0)
-does_what m (Ok line.Quit) new answer does = inl (ap ends_or_fetches does.0)
-does_what m (Ok (line.Edit e)) new answer does =
-    inl (ap ends_or_fetches does.2 ∙ edit_plain does.0)
-does_what m (Ok (line.Target target)) new answer does =
-    inl (ap ends_or_fetches does.2 ∙ edit_plain does.0)
-does_what m (Ok (line.Support kind value)) new answer does =
-    inl (ap ends_or_fetches does.2 ∙ edit_plain does.0)
-does_what m (Ok (line.Cost edge cost)) new answer does =
-    inl (ap ends_or_fetches does.2 ∙ edit_plain does.0)
-does_what m (Ok (line.Switch family value)) new answer does =
-    inl (ap ends_or_fetches does.2 ∙ edit_plain does.0)
-does_what m (Ok line.Attach) new answer does =
-    inl (ap ends_or_fetches does.2 ∙ attach_plain does.0)
-does_what m (Ok line.Detach) new answer does =
-    inl (detach_plain m.state.attached m.state new answer does)
-does_what m (Ok line.Bridged) new answer does =
-    inl (show_plain m.state.attached m.state new answer does)
-does_what m (Ok line.Plan) new answer does = inl (ap ends_or_fetches does.2.0)
-does_what m (Ok (line.Optimize own)) new answer does =
-    inl (ap ends_or_fetches does.2 ∙ optimize_plain m.state.model does.0)
-does_what m (Ok line.Write) new answer does = inl (ap ends_or_fetches does.0)
-does_what m (Ok (line.Load name)) new answer does =
-    loads_fit m name m.state.attached (is_bare m.state.model) new answer does
+does_what m (Ok command) new answer does = by m.group does
+  where
+    by : (open_group : Option (List Edit)) → DoesBy open_group m command answer new
+        → IsPlainly m (Ok command) answer new
+    by None does = alone_what m command new answer does
+    by (Some edits) does = group_what m edits command new answer does
 does_what m (Err fault.BadLine) new answer does = inl (ap ends_or_fetches does.0)
 does_what m (Err fault.Overflow) new answer does = inl (ap ends_or_fetches does.0)
 does_what m (Err fault.Memory) new answer does = inl (ap ends_or_fetches does.0)

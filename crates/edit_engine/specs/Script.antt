@@ -1,27 +1,32 @@
 -- The script machine: what each line answers in a state, and the state that it leaves. A state is
 -- the user's model, the table, and whether a solver is attached; what an attached solver holds is
 -- the fresh bridging of the model by the table, a function of these. The machine has beside its
--- state what no line changes: how many pivots an optimise may take whose line names no number, and
--- what the shelf tells from which a line `load` fetches its file.
+-- state the edits of a group, while one is open, and what no line changes: how many pivots an
+-- optimise may take whose line names no number, and what the shelf tells from which a line `load`
+-- fetches its file.
 --
---     Does machine command answer new         a line that says the command
+--     DoesAlone machine command answer new    a command while no group is open
+--     DoesInGroup state edits command ..      a command while a group of these edits is open
+--     group_after group said answer           the group that a line leaves
 --     DoesLine machine line answer new        a line, by the state that it leaves
 --     Steps machine line answer new           a line, by the machine that it leaves
 --     Answered machine line answer new        a line, where memory may run out
-use Rattle.std.specs.Prelude.{◌≡◌, ℕ, Bool, true, false, List, ◌++◌, All, IfOk, Option, Some, None, Result, Ok, Err, ◌⊎◌, length, unwrap_or}
+use Rattle.std.specs.Prelude.{◌≡◌, ℕ, Bool, true, false, List, [], ◌∷◌, ◌++◌, All, IfOk, Option, Some, None, Result, Ok, Err, ◌⊎◌, length, unwrap_or}
 use Rattle.std.specs.List.{zip}
 use Rattle.lists.specs.declared.memory.Memory.{Memory as NoMemory}
 use Rattle.bridge_graph.specs.Hypergraph.{Hypergraph}
 use Rattle.bridge_graph.specs.Tree.{IsLeastCost, IsTreeless}
 use Rattle.bridge_graph.specs.declared.Choice.{Choice}
 use Rattle.bridged_report.specs.Lines.{bridged_text}
-use Rattle.cache_layer.specs.Answers.{Becomes, IsAttached, IsEdited, IsLoaded}
+use Rattle.cache_layer.specs.Answers.{Becomes, IsAttached, IsEdited, IsGrouped, IsLoaded}
 use Rattle.cache_layer.specs.Outcome.{IsOptimized}
 use Rattle.cache_layer.specs.State.{Bridging, State, detached, leaves, with_table}
 use Rattle.cache_layer.specs.declared.fault.AttachFault.{AttachFault}
 use Rattle.cache_layer.specs.declared.fault.AttachFault.TheVariants as attach
 use Rattle.cache_layer.specs.declared.fault.EditFault.{EditFault}
 use Rattle.cache_layer.specs.declared.fault.EditFault.TheVariants as edit
+use Rattle.cache_layer.specs.declared.fault.GroupFault.{GroupFault}
+use Rattle.cache_layer.specs.declared.fault.GroupFault.TheVariants as grouped
 use Rattle.cache_layer.specs.declared.fault.OptFault.{OptFault}
 use Rattle.cache_layer.specs.declared.fault.OptFault.TheVariants as opt
 use Rattle.certificates.specs.Points.{variables_of}
@@ -40,12 +45,12 @@ use Rattle.mof_fetch.specs.declared.fault.FileFault.{FileFault}
 use Rattle.mof_write.specs.Written.{written}
 use Rattle.report_core.specs.Plan.{plan_text}
 use Rattle.report_core.specs.Refused.{refused_of}
-use Rattle.report_core.specs.Replies.{done_text}
+use Rattle.report_core.specs.Replies.{done_text, held_text}
 use Rattle.report_core.specs.Words.{newline}
 use Rattle.report_core.specs.declared.answer.Answer.{Answer}
 use Rattle.report_core.specs.declared.answer.Answer.TheVariants.{Memory, Printed, Quit, Silent}
 use Rattle.report_core.specs.declared.refused.Place.TheVariants.{Line}
-use Rattle.report_core.specs.declared.refused.Refused.TheVariants.{AlreadyAttached, BadLine, Limit, NotAttached, NotEmpty, Overflow, TooLarge, Unsupported}
+use Rattle.report_core.specs.declared.refused.Refused.TheVariants.{AlreadyAttached, BadLine, Group, GroupOpen, Limit, NoGroup, NotAttached, NotEmpty, Overflow, TooLarge, Unsupported}
 use Rattle.script_core.specs.declared.command.Command.{Command}
 use Rattle.script_core.specs.declared.command.Command.TheVariants as line
 use Rattle.script_core.specs.declared.fault.LineFault.{LineFault}
@@ -58,14 +63,17 @@ use Rattle.edit_engine.specs.Tables.{costing, supporting, switched, targeted}
 
 pub record Machine : Type 0 where
   pub state : State
+  pub group : Option (List Edit)
   pub pivots : ℕ
   pub shelf : Told
 
-abbrev pub machine_by : State → ℕ → Told → Machine
-machine_by s pivots shelf = record { state = s; pivots = pivots; shelf = shelf }
+abbrev pub machine_by : State → Option (List Edit) → ℕ → Told → Machine
+machine_by s group pivots shelf =
+    record { state = s; group = group; pivots = pivots; shelf = shelf }
 
-abbrev pub with_state : Machine → State → Machine
-with_state machine s = record machine { state = s }
+-- in another state, and with another group or none
+abbrev pub moved : Machine → State → Option (List Edit) → Machine
+moved machine s group = record machine { state = s; group = group }
 
 -- ---- what is printed
 
@@ -78,6 +86,18 @@ edit_answer (Err (edit.Refused r)) = refused (refused_of r)
 edit_answer (Err (edit.Unsupported kind)) = refused (Unsupported kind)
 edit_answer (Err (edit.Overflow place)) = refused (Overflow place)
 edit_answer (Err edit.Memory) = Memory
+
+-- an edit is held
+abbrev pub held : Answer
+held = Printed held_text
+
+-- the edits of a group were made, or none of them
+abbrev pub group_answer : Result (Option ℕ) GroupFault → Answer
+group_answer (Ok count) = done count
+group_answer (Err (grouped.Refused index r)) = refused (Group index r)
+group_answer (Err (grouped.Unsupported kind)) = refused (Unsupported kind)
+group_answer (Err (grouped.Overflow place)) = refused (Overflow place)
+group_answer (Err grouped.Memory) = Memory
 
 abbrev pub attach_answer : Result ℕ AttachFault → Answer
 attach_answer (Ok count) = done (Some count)
@@ -178,21 +198,58 @@ LoadsWhere false true shelf s name answer new =
 abbrev pub Loads : Told → State → List ℕ → Step
 Loads shelf s = LoadsWhere s.attached (is_bare s.model) shelf s
 
+-- while no group is open
+abbrev pub DoesAlone : Machine → Command → Step
+DoesAlone m line.Silent = Says m.state Silent
+DoesAlone m line.Quit = Says m.state Quit
+DoesAlone m (line.Edit e) = Tells edit_answer (IsEdited m.state e)
+DoesAlone m line.Begin = Says m.state (done None)
+DoesAlone m line.Commit = Says m.state (refused NoGroup)
+DoesAlone m line.Abandon = Says m.state (refused NoGroup)
+DoesAlone m (line.Target target) = Tabled m.state (targeted target)
+DoesAlone m (line.Support kind value) = Tabled m.state (supporting kind value)
+DoesAlone m (line.Cost edge cost) = Tabled m.state (costing edge cost)
+DoesAlone m (line.Switch family value) = Tabled m.state (switched family value)
+DoesAlone m line.Attach = Tells attach_answer (IsAttached m.state)
+DoesAlone m line.Detach = Detaches m.state.attached m.state
+DoesAlone m line.Bridged = Shows m.state.attached m.state
+DoesAlone m line.Plan = Plans m.state
+DoesAlone m (line.Optimize own) = Optimizes m.state (unwrap_or own m.pivots)
+DoesAlone m line.Write = Says m.state (Printed (file_line m.state.model))
+DoesAlone m (line.Load name) = Loads m.shelf m.state name
+
+-- while a group of these edits is open: they are made at once or not at all
+abbrev pub DoesInGroup : State → List Edit → Command → Step
+DoesInGroup s edits line.Silent = Says s Silent
+DoesInGroup s edits line.Quit = Says s Quit
+DoesInGroup s edits (line.Edit e) = Says s held
+DoesInGroup s edits line.Commit = Tells group_answer (IsGrouped s edits)
+DoesInGroup s edits line.Abandon = Says s (done None)
+DoesInGroup s edits _ = Says s (refused GroupOpen)
+
+abbrev pub DoesBy : Option (List Edit) → Machine → Command → Step
+DoesBy None m = DoesAlone m
+DoesBy (Some edits) m = DoesInGroup m.state edits
+
 abbrev pub Does : Machine → Command → Step
-Does m line.Silent = Says m.state Silent
-Does m line.Quit = Says m.state Quit
-Does m (line.Edit e) = Tells edit_answer (IsEdited m.state e)
-Does m (line.Target target) = Tabled m.state (targeted target)
-Does m (line.Support kind value) = Tabled m.state (supporting kind value)
-Does m (line.Cost edge cost) = Tabled m.state (costing edge cost)
-Does m (line.Switch family value) = Tabled m.state (switched family value)
-Does m line.Attach = Tells attach_answer (IsAttached m.state)
-Does m line.Detach = Detaches m.state.attached m.state
-Does m line.Bridged = Shows m.state.attached m.state
-Does m line.Plan = Plans m.state
-Does m (line.Optimize own) = Optimizes m.state (unwrap_or own m.pivots)
-Does m line.Write = Says m.state (Printed (file_line m.state.model))
-Does m (line.Load name) = Loads m.shelf m.state name
+Does m = DoesBy m.group m
+
+-- an accepted `begin` opens a group, an edit is appended to it, and `commit` and `abandon` close it
+abbrev pub group_by : Option (List Edit) → Result Command LineFault → Option (List Edit)
+group_by None (Ok line.Begin) = Some []
+group_by (Some edits) (Ok (line.Edit e)) = Some (edits ++ e ∷ [])
+group_by (Some edits) (Ok line.Commit) = None
+group_by (Some edits) (Ok line.Abandon) = None
+group_by group said = group
+
+abbrev pub is_printed : Answer → Bool
+is_printed (Printed text) = true
+is_printed answer = false
+
+-- the group after a line that was answered so
+abbrev pub group_after : Option (List Edit) → Result Command LineFault → Answer → Option (List Edit)
+group_after group said (Printed text) = group_by group said
+group_after group said answer = group
 
 abbrev pub DoesSaid : Machine → Result Command LineFault → Step
 DoesSaid m (Ok command) = Does m command
@@ -204,7 +261,8 @@ abbrev pub DoesLine : Machine → List ℕ → Step
 DoesLine m line = DoesSaid m (line_said line)
 
 abbrev pub Steps : Machine → List ℕ → Answer → Machine → Type 0
-Steps old line answer new = DoesLine old line answer new.state × (new ≡ with_state old new.state)
+Steps old line answer new = DoesLine old line answer new.state
+    × (new ≡ moved old new.state (group_after old.group (line_said line) answer))
 
 -- ---- out of memory
 
@@ -217,7 +275,8 @@ abbrev pub Makes : Step → State → Result Answer NoMemory → State → Type 
 Makes step old (Ok answer) new = step answer new
 Makes step old (Err memory) new = IsLeftBy step old new
 
+-- of a group nothing is said after that
 abbrev pub Answered : Machine → List ℕ → Answer → Machine → Type 0
 Answered old line Memory new =
-    IsLeftBy (DoesLine old line) old.state new.state × (new ≡ with_state old new.state)
+    IsLeftBy (DoesLine old line) old.state new.state × (new ≡ moved old new.state new.group)
 Answered old line answer new = Steps old line answer new

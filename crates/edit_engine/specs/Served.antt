@@ -18,4 +18,4 @@ pub data Serves : Machine → List (List ℕ) → List Answer → List (List ℕ
   next : {s middle new : Machine} {line : List ℕ} {lines : List (List ℕ)} {answer : Answer}
       {answers : List Answer} {asked : List (List ℕ)} → Steps s line answer middle
       → Serves middle lines answers asked new
-      → Serves s (line ∷ lines) (answer ∷ answers) (line_asks s.state line ++ asked) new
+      → Serves s (line ∷ lines) (answer ∷ answers) (line_asks s line ++ asked) new

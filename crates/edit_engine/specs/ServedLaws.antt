@@ -10,10 +10,10 @@ pub Serves-none : {s : Machine} → Serves s [] [] [] s
 Serves-none = none
 
 pub Serves-one : {s new : Machine} {line : List ℕ} {answer : Answer} → Steps s line answer new
-    → Serves s (line ∷ []) (answer ∷ []) (line_asks s.state line) new
+    → Serves s (line ∷ []) (answer ∷ []) (line_asks s line) new
 Serves-one {s} {new} {line} {answer} steps =
     subst (λ asked. Serves s (line ∷ []) (answer ∷ []) asked new)
-    (append-nil (line_asks s.state line)) (next steps none)
+    (append-nil (line_asks s line)) (next steps none)
 
 pub Serves-append : {s middle new : Machine} {lines more : List (List ℕ)}
     {answers others : List Answer} {asked rest : List (List ℕ)}
@@ -24,7 +24,7 @@ Serves-append {new = new} {more = more} {others = others} {rest = rest}
     (next {s = s} {line = line} {lines = lines} {answer = answer} {answers = answers}
     {asked = asked} steps before) after =
     subst (λ names. Serves s (line ∷ (lines ++ more)) (answer ∷ (answers ++ others)) names new)
-    (sym (append_assoc (line_asks s.state line) asked rest))
+    (sym (append_assoc (line_asks s line) asked rest))
     (next steps (Serves-append before after))
 
 -- an answer that prints a text prints this one

@@ -1,6 +1,7 @@
 //! The session of a script: each line is a step of the script machine.
 #![tactic(auto)]
 
+mod groups;
 mod held;
 mod lines;
 mod loading;

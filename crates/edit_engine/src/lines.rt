@@ -1,5 +1,5 @@
 //! What lines do to a cache: for each a step of the script machine.
-ghost use Rattle.std.specs.Prelude.{◌≡◌, ◌≢◌, ◌≤◌, IfOk, IsTrue, Ok, OnErr, OnOk, false, true};
+ghost use Rattle.std.specs.Prelude.{◌≡◌, ◌≢◌, ◌≤◌, IfOk, IsTrue, None, Ok, OnErr, OnOk, false, true};
 ghost use Rattle.std.specs.List.{list_all};
 ghost use Rattle.bridge_graph.specs.Hypergraph.{is_edge_cost};
 ghost use Rattle.cache_layer.specs.Answers.{Becomes, IsAttached, IsEdited};
@@ -9,14 +9,16 @@ ghost use Rattle.lazy_bridge.specs.Few.{ChangesFew};
 ghost use Rattle.lazy_bridge.specs.Native.{supports_native};
 ghost use Rattle.edit_engine.specs.Counts.{TakesFew};
 ghost use Rattle.edit_engine.specs.Held.{KeepsRefused};
-ghost use Rattle.edit_engine.specs.Lines.{is_load, line_asks, said_asks, says_load};
-ghost use Rattle.edit_engine.specs.Script.{Detaches, Does, DoesLine, Makes, Plans, Says, Shows, Tells, attach_answer, edit_answer, file_line, machine_by};
+ghost use Rattle.edit_engine.specs.Lines.{asks_by, is_load, line_asks, says_load};
+ghost use Rattle.edit_engine.specs.Script.{Detaches, DoesAlone, DoesLine, Makes, Plans, Says, Shows, Tells, attach_answer, edit_answer, file_line, group_after, machine_by};
 ghost use Rattle.file_answers.specs.FileAnswers.{refused};
 ghost use Rattle.io_face.specs.Fault.{HasFaulted};
 ghost use Rattle.io_face.specs.Shelf.{AsksFor};
 ghost use Rattle.io_face.specs.Told.{told_by};
 ghost use Rattle.report_core.specs.declared.answer.Answer.TheVariants.{Printed};
+ghost use Rattle.script_core.specs.Line.{line_said};
 
+use crate::groups::obey;
 use crate::held::held;
 use crate::loading::load;
 use crate::optimizing::optimize;
@@ -27,6 +29,7 @@ use cache_layer::{AttachFault, CacheOver, EditFault, NotAttached};
 use io_face::Shelf;
 use item_core::Table;
 use lists::Memory;
+use mof_read::Edits;
 use name_index::Text;
 use report_core::{Answer, Place, Refused, done, plan, refusal};
 use script_core::{Command, LineFault, parse_line};
@@ -38,13 +41,17 @@ use user_model::Edit;
 pub(crate) fn step<B: Bridge, H: Shelf>(
     alloc: Global,
     cache: &mut CacheOver<B>,
+    group: &mut Option<Edits>,
     pivots: u32,
     shelf: &mut H,
     line: &[u8],
 ) -> Result<Answer, Memory>
     ensures step { let old = state_of cache.old in
         let told = told_by (H.files shelf.old) (H.sure shelf.old) in
-        Makes (DoesLine (machine_by old pivots told) line.now) old result (state_of cache.new) }
+        Makes (DoesLine (machine_by old group.old pivots told) line.now) old result
+        (state_of cache.new) }
+    ensures group { IfOk result (λ answer.
+        group.new ≡ group_after group.old (line_said line.now) answer) }
     ensures untouched { IfOk result (λ answer.
         KeepsRefused answer cache.old cache.new) }
     ensures few { IfOk result (λ answer.
@@ -56,18 +63,20 @@ pub(crate) fn step<B: Bridge, H: Shelf>(
         → HasFaulted (H.faults shelf.old) (H.faults shelf.new) }
     ensures sound { result ≢ Ok Answer.ReadFault → H.faults shelf.new ≡ H.faults shelf.old }
     ensures asks { OnOk result (AsksFor (H.asked shelf.old) (H.asked shelf.new)
-        (line_asks (state_of cache.old) line.now)) }
+        (line_asks (machine_by (state_of cache.old) group.old pivots
+        (told_by (H.files shelf.old) (H.sure shelf.old))) line.now)) }
     ensures unasked { says_load line.now ≡ false → shelf.new ≡ shelf.old }
 {
     match parse_line(alloc, line) {
-        Ok(command) => obey(alloc, cache, pivots, shelf, command),
+        Ok(command) => obey(alloc, cache, group, pivots, shelf, command),
         Err(LineFault::BadLine) => refuse(alloc, &Refused::BadLine),
         Err(LineFault::Overflow) => refuse(alloc, &Refused::Overflow { place: Place::Line }),
         Err(LineFault::Memory) => Err(Memory),
     }
 }
 
-fn obey<B: Bridge, H: Shelf>(
+// A command while no group is open. One that opens a group changes nothing else.
+pub(crate) fn obey_alone<B: Bridge, H: Shelf>(
     alloc: Global,
     cache: &mut CacheOver<B>,
     pivots: u32,
@@ -76,7 +85,8 @@ fn obey<B: Bridge, H: Shelf>(
 ) -> Result<Answer, Memory>
     ensures step { let old = state_of cache.old in
         let told = told_by (H.files shelf.old) (H.sure shelf.old) in
-        Makes (Does (machine_by old pivots told) command) old result (state_of cache.new) }
+        Makes (DoesAlone (machine_by old None pivots told) command) old result
+        (state_of cache.new) }
     ensures untouched { IfOk result (λ answer.
         KeepsRefused answer cache.old cache.new) }
     ensures few { IfOk result (λ answer.
@@ -90,13 +100,15 @@ fn obey<B: Bridge, H: Shelf>(
         → H.faults shelf.new ≡ H.faults shelf.old }
     ensures asks { is_load (Ok command) ≡ true
         → OnOk result (AsksFor (H.asked shelf.old) (H.asked shelf.new)
-        (said_asks (state_of cache.old) (Ok command))) }
+        (asks_by None (state_of cache.old) (Ok command))) }
     ensures unasked { is_load (Ok command) ≡ false → shelf.new ≡ shelf.old }
 {
     match command {
         Command::Silent => Ok(Answer::Silent),
         Command::Quit => Ok(Answer::Quit),
         Command::Edit(edit) => make(alloc, cache, edit),
+        Command::Begin => done(alloc, None),
+        Command::Commit | Command::Abandon => refuse(alloc, &Refused::NoGroup),
         Command::Target(target) => {
             let table = targeted(target, cache.lazy().table());
             set_table(alloc, cache, table)

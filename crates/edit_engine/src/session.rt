@@ -1,5 +1,5 @@
 //! The session of a script.
-ghost use Rattle.std.specs.Prelude.{◌≡◌, ◌≢◌, ◌≤◌, All, IsTrue, OnErr, OnOk, false};
+ghost use Rattle.std.specs.Prelude.{◌≡◌, ◌≢◌, ◌≤◌, All, IsTrue, None, OnErr, OnOk, false};
 ghost use Rattle.std.specs.Prelude as prelude;
 ghost use Rattle.std.specs.FinMap as finite;
 ghost use Rattle.bridge_set.specs.Boxed.{families_of, occur_once, setting_by};
@@ -26,6 +26,7 @@ use item_core::Target;
 use lazy_bridge::LazyOver;
 use lists::Memory;
 use model_store::UserModel;
+use mof_read::Edits;
 use report_core::Answer;
 use solver_store::SolverModel;
 use std::alloc::Global;
@@ -34,11 +35,12 @@ use std::marker::Model;
 /// The session over boxed bridges.
 pub type Session = SessionOver<Box<dyn Bridge>>;
 
-/// A cache that lines drive.
+/// A cache that lines drive, with the edits of a group while one is open.
 #[derive(Drop)]
 pub struct SessionOver<B: Bridge> {
     alloc: Global,
     cache: CacheOver<B>,
+    group: Option<Edits>,
     pivots: u32,
 }
 
@@ -49,17 +51,18 @@ impl<B: Bridge> Model for SessionOver<B> {
 
     ghost coded = { held_code };
 
-    ghost view = { λ s. record { cache = s.cache; pivots = s.pivots } };
+    ghost view = { λ s. record { cache = s.cache; group = s.group; pivots = s.pivots } };
 }
 
 impl<B: Bridge> SessionOver<B> {
-    /// An empty model with no solver attached, the target `standard`, and an allowance of 100,000
-    /// pivots. No family occurs twice among the bridges, and they keep nothing.
+    /// An empty model with no solver attached and no group open, the target `standard`, and an
+    /// allowance of 100,000 pivots. No family occurs twice among the bridges, and they keep nothing.
     pub fn new(alloc: Global, bridges: Vec<B>) -> SessionOver<B>
         requires once { IsTrue (occur_once (families_of (prelude.map B.state bridges.items))) }
         requires kept { All (λ s. s.kept ≡ finite.empty) (prelude.map B.state bridges.items) }
         ensures state { state_of result
             ≡ start (setting_by (target_table Standard) (prelude.map B.state bridges.items)) }
+        ensures group { result.group ≡ None }
         ensures pivots { result.pivots ≡ 100000 }
     {
         let lazy = LazyOver::new(
@@ -72,6 +75,7 @@ impl<B: Bridge> SessionOver<B> {
         SessionOver {
             alloc,
             cache: CacheOver::new(alloc, UserModel::new(alloc), lazy),
+            group: None,
             pivots: 100_000,
         }
     }
@@ -85,6 +89,7 @@ impl<B: Bridge> SessionOver<B> {
         ensures allowance { OnOk result (self.new.pivots ≡ pivots) }
         ensures err { OnErr result (state_of self.new ≡ state_of self.old) }
         ensures kept { OnErr result (self.new.pivots ≡ self.old.pivots) }
+        ensures group { self.new.group ≡ self.old.group }
         ensures few { OnOk result (ChangesFew self.old.cache.lazy 0 self.new.cache.lazy) }
     {
         preset(&mut self.cache, target_table(target))?;
@@ -115,13 +120,21 @@ impl<B: Bridge> SessionOver<B> {
             → HasFaulted (H.faults shelf.old) (H.faults shelf.new) }
         // And each fault was answered.
         ensures sound { result ≢ Answer.ReadFault → H.faults shelf.new ≡ H.faults shelf.old }
-        // Only a line `load` asks for a file, for its own and once, while no solver is attached and
-        // nothing stands in the model.
+        // Only a line `load` asks for a file, for its own and once, while no group is open, no solver
+        // is attached and nothing stands in the model.
         ensures asks { result ≢ Answer.Memory → AsksFor (H.asked shelf.old) (H.asked shelf.new)
-            (line_asks (state_of self.old) line.now) }
+            (line_asks (machine_of self.old (told_by (H.files shelf.old) (H.sure shelf.old)))
+            line.now) }
         ensures unasked { says_load line.now ≡ false → shelf.new ≡ shelf.old }
     {
-        let made = step(self.alloc, &mut self.cache, self.pivots, shelf, line);
+        let made = step(
+            self.alloc,
+            &mut self.cache,
+            &mut self.group,
+            self.pivots,
+            shelf,
+            line,
+        );
         // what this ensures: what stands in the cache
         let _stands = self.cache.attached();
         made.unwrap_or(Answer::Memory)

@@ -1,6 +1,6 @@
 -- What a line `write` prints makes the model again: a line `load` that fetches it, in a session in
 -- which nothing was made yet, is accepted and leaves a model that is the same up to numbers.
-use Rattle.std.specs.Prelude.{◌≡◌, ◌≢◌, ◌⊎◌, ℕ, false, true, IsTrue, List, [], ◌∷◌, Some, None, Result, Ok, Err, refl}
+use Rattle.std.specs.Prelude.{◌≡◌, ◌≢◌, ◌⊎◌, ℕ, false, true, IsTrue, List, [], ◌∷◌, Option, Some, None, Result, Ok, Err, refl}
 use Rattle.std.specs.Option.{option_map_or}
 use Rattle.std.proofs.Common.{ap, inl, inr, subst, sym, ◌∙◌}
 use Rattle.cache_layer.specs.Answers.{IsLoaded}
@@ -9,7 +9,9 @@ use Rattle.cache_layer.specs.State.{State}
 use Rattle.cache_layer.specs.declared.fault.EditFault.{EditFault}
 use Rattle.cache_layer.specs.declared.fault.EditFault.TheVariants as edit
 use Rattle.edit_engine.specs.Bare.{is_bare}
-use Rattle.edit_engine.specs.Script.{DoesSaid, LoadsEdits, LoadsWhere, Machine, Steps, done, file_line, load_answer}
+use Rattle.edit_engine.specs.LinesLaws.{does_alone}
+use Rattle.edit_engine.specs.Script.{DoesBy, DoesSaid, LoadsEdits, LoadsWhere, Machine, Steps, done, file_line, load_answer}
+use Rattle.file_answers.specs.FileAnswers.{refused}
 use Rattle.io_face.specs.Shelf.{FilesByName, Gives, fetched}
 use Rattle.io_face.specs.Told.{MayGive, Told}
 use Rattle.io_face.specs.declared.shelf.FetchFault.{FetchFault}
@@ -19,6 +21,7 @@ use Rattle.mof_round_trip_laws.specs.Accepted.{LeadTo}
 use Rattle.mof_round_trip_laws.specs.RoundTrip.{MakesAgain}
 use Rattle.report_core.specs.declared.answer.Answer.{Answer}
 use Rattle.report_core.specs.declared.answer.Answer.TheVariants.{Memory, Printed}
+use Rattle.report_core.specs.declared.refused.Refused.TheVariants.{GroupOpen}
 use Rattle.script_core.specs.Line.{line_said}
 use Rattle.script_core.specs.declared.command.Command.TheVariants as line
 use Rattle.user_model.specs.Edited.{edited}
@@ -32,10 +35,12 @@ Gets shelf name text =
     (given : Result (List ℕ) FetchFault) → MayGive shelf name given
     → (given ≡ Ok text) ⊎ (given ≡ Err fetch.Memory)
 
--- a session with no solver in which nothing was made yet, and whose shelf has the text by the name
+-- a session with no solver and no open group in which nothing was made yet, and whose shelf has the
+-- text by the name
 pub record CanLoad (machine : Machine) (name text : List ℕ) : Type 0 where
   pub empty : machine.state.model ≡ empty_model
   pub free : machine.state.attached ≡ false
+  pub alone : machine.group ≡ None
   pub gets : Gets machine.shelf name text
 
 -- a line that loads the text is accepted, unless memory runs out, and leaves the model up to
@@ -109,7 +114,8 @@ module _ (model : ModelValue) (text : List ℕ) (makes : MakesAgain model text) 
           subst (λ b. LoadsWhere false b machine.shelf s name answer new.state)
           (ap is_bare can.empty)
           (subst (λ b. LoadsWhere b (is_bare s.model) machine.shelf s name answer new.state)
-          can.free (subst (λ r. DoesSaid machine r answer new.state) is steps.0))
+          can.free (does_alone machine (line.Load name) new.state answer can.alone
+          (subst (λ r. DoesSaid machine r answer new.state) is steps.0)))
 
       fetched : (given : Result (List ℕ) FetchFault) × MayGive machine.shelf name given
           × (step.0 ≡ read_of given)
@@ -130,6 +136,11 @@ pub write_prints : (machine : Machine) (said text : List ℕ) (new : Machine)
     → line_said said ≡ Ok line.Write → Steps machine said (Printed text) new
     → text ≡ file_line machine.state.model
 write_prints machine said text new is steps =
-    let step = subst (λ r. DoesSaid machine r (Printed text) new.state) is steps.0 in
-    let told : Printed text ≡ Printed (file_line machine.state.model) = step.0 in
-    cc
+    by machine.group (subst (λ r. DoesSaid machine r (Printed text) new.state) is steps.0)
+  where
+    by : (open_group : Option (List Edit)) → DoesBy open_group machine line.Write (Printed text) new.state
+        → text ≡ file_line machine.state.model
+    by None does =
+        let told : Printed text ≡ Printed (file_line machine.state.model) = does.0 in cc
+    by (Some edits) does =
+        let told : Printed text ≡ refused GroupOpen = does.0 in cc

@@ -1,5 +1,6 @@
 //! What a line `write` prints of a session's model, a line `load` makes again: in a session in
-//! which nothing was made yet it leaves a model that differs in nothing but numbers.
+//! which nothing was made yet and no group is open it leaves a model that differs in nothing but
+//! numbers.
 #![tactic(auto)]
 
 ghost use Rattle.std.specs.Prelude.{◌≡◌, IfOk};

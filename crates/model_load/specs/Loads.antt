@@ -1,5 +1,5 @@
 -- Edits made one after another, and what leads back from them.
-use Rattle.std.specs.Prelude.{◌≡◌, List, [], ◌∷◌, ◌++◌, None, Result, Ok, Err}
+use Rattle.std.specs.Prelude.{◌≡◌, ◌+◌, ℕ, List, [], ◌∷◌, ◌++◌, None, Result, Ok, Err, reverse}
 use Rattle.std.specs.Option.{option_map_or}
 use Rattle.model_store.specs.Store.{HasParked, Stored, refusal_of}
 use Rattle.model_store.specs.declared.parked.Parked.{Parked}
@@ -7,18 +7,26 @@ use Rattle.user_model.specs.Accepted.{LeadsTo}
 use Rattle.user_model.specs.Edited.{edited}
 use Rattle.user_model.specs.Model.{ModelValue}
 use Rattle.user_model.specs.Refusals.{first_refusal}
-use Rattle.user_model.specs.Undone.{before}
+use Rattle.user_model.specs.Undone.{IsUndo, before}
 use Rattle.user_model.specs.declared.edit.Edit.{Edit}
 use Rattle.user_model.specs.declared.refusal.Refusal.{Refusal}
 use Rattle.user_model.specs.declared.refusal.ApplyFault.{ApplyFault}
 use Rattle.user_model.specs.declared.refusal.ApplyFault.TheVariants.{Memory, Refused}
 use Rattle.user_model.specs.declared.undo.Undo.{Undo}
+use Rattle.model_load.specs.declared.fault.Unmade.{Unmade}
+use Rattle.model_load.specs.declared.fault.Unmade.TheVariants as part
 
 -- edits one after another, or why the first that is refused is
 unfoldable pub after_edits : ModelValue → List Edit → Result ModelValue Refusal
 after_edits model [] = Ok model
 after_edits model (edit ∷ edits) =
     option_map_or Err (first_refusal model edit) (after_edits (edited model edit) edits)
+
+-- how many of them come before the first that is refused
+unfoldable pub accepted_first : ModelValue → List Edit → ℕ
+accepted_first model [] = 0
+accepted_first model (edit ∷ edits) =
+    option_map_or (λ _. 0) (first_refusal model edit) (1 + accepted_first (edited model edit) edits)
 
 -- an edit is made for good, or nothing changed
 abbrev pub IsMadeBy : Stored → Edit → Result Unit ApplyFault → Stored → Type 0
@@ -40,6 +48,7 @@ AreMadeBy old edits (Err Memory) new = new ≡ old
 -- the undo leads back from an edit, and is the last that waits
 pub record IsLastStep (old : Stored) (undo : Undo) (new : Stored) : Type 0 where
   pub edit : LeadsTo old.model new.model
+  pub lists : IsUndo old.model new.model undo
   pub back : before new.model undo ≡ old.model
   pub parked : HasParked old.parked new.parked new.model undo
 
@@ -64,3 +73,31 @@ AreParkedFor shorter [] longer = longer ≡ shorter
 AreParkedFor shorter (undo ∷ undos) longer =
     (others : List Parked) × AreParkedFor shorter undos others
     × ((model : ModelValue) × HasParked others longer model undo)
+
+-- ---- all or none
+
+-- all edits are made, and the undos, the last first, lead back from them
+pub record AreMade (old : Stored) (edits : List Edit) (undos : List Undo)
+    (new : Stored) : Type 0 where
+  pub made : after_edits old.model edits ≡ Ok new.model
+  pub back : LeadBack old (reverse undos) new
+
+-- all edits are made for good
+pub record AreKept (old : Stored) (edits : List Edit) (new : Stored) : Type 0 where
+  pub made : after_edits old.model edits ≡ Ok new.model
+  pub settled : new.parked ≡ old.parked
+
+-- the first of the edits that is refused is this one
+abbrev pub IsUnmade : ModelValue → List Edit → Unmade → Type 0
+IsUnmade model edits (part.Refused index refusal) =
+    (after_edits model edits ≡ Err refusal) × (index ≡ accepted_first model edits + 1)
+IsUnmade model edits part.Memory = Unit {0}
+
+-- the fault of the edit behind this number of edits
+abbrev pub unmade_behind : ℕ → ApplyFault → Unmade
+unmade_behind made (Refused refusal) = part.Refused (made + 1) refusal
+unmade_behind made Memory = part.Memory
+
+abbrev pub apply_fault : Unmade → ApplyFault
+apply_fault (part.Refused index refusal) = Refused refusal
+apply_fault part.Memory = Memory

@@ -5,7 +5,7 @@ use Rattle.std.specs.Str.Lines.{lines}
 use Rattle.edit_engine.specs.Held.{SessionValue as Session}
 use Rattle.edit_engine.specs.Lines.{heard, says_quit}
 use Rattle.edit_engine.specs.LinesLaws.{stops_by}
-use Rattle.edit_engine.specs.Script.{Answered, Machine, with_state}
+use Rattle.edit_engine.specs.Script.{Answered, Machine, moved}
 use Rattle.io_face.specs.Fault.{HasFaulted}
 use Rattle.io_face.specs.FaultLaws.{HasFaulted-within}
 use Rattle.io_face.specs.Shelf.{FilesByName}
@@ -79,7 +79,8 @@ pub stays_at_fault : (s new : Tally) (line : List ℕ) → Moves s line ReadFaul
 stays_at_fault s new line moves =
     let steps = moves.steps in record {
       machine = steps.1
-          ∙ ap (with_state s.machine) (stops_by s.machine new.machine line ReadFault steps).kept;
+          ∙ ap (λ t. moved s.machine t s.machine.group)
+          (stops_by s.machine new.machine line ReadFault steps).kept;
       calls = omega (arith, moves.rises, moves.few);
     }
 
@@ -87,7 +88,8 @@ pub stays_at_limit : (s new : Tally) (line : List ℕ) → Moves s line TooLong 
 stays_at_limit s new line moves =
     let steps = moves.steps in record {
       machine = steps.1
-          ∙ ap (with_state s.machine) (stops_by s.machine new.machine line TooLong steps).kept;
+          ∙ ap (λ t. moved s.machine t s.machine.group)
+          (stops_by s.machine new.machine line TooLong steps).kept;
       calls = omega (arith, moves.rises, moves.few);
     }
 

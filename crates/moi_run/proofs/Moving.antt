@@ -6,7 +6,7 @@ use Rattle.std.proofs.lemmas.List.{flat_map_more}
 use Rattle.std.proofs.lemmas.List.Sums.{sum_by-append}
 use Rattle.edit_engine.specs.CountLaws.{takes_calls}
 use Rattle.edit_engine.specs.Counts.{TakesFew, count_of}
-use Rattle.edit_engine.specs.Held.{SessionValue, machine_of, state_of}
+use Rattle.edit_engine.specs.Held.{SessionValue, machine_of}
 use Rattle.edit_engine.specs.Lines.{Prints, line_asks}
 use Rattle.edit_engine.specs.Script.{Answered, Machine, Steps}
 use Rattle.edit_engine.specs.Served.{text_of}
@@ -33,7 +33,7 @@ steps_of s new line Memory answered other = absurd (other refl)
 pub moved : (old new : SessionValue) (told : Told) (asked asked' : Option (List (List ℕ))) (line : List ℕ)
     (answer : Answer) → Answered (machine_of old told) line answer (machine_of new told)
     → TakesFew answer old.cache.lazy new.cache.lazy
-    → (answer ≢ Memory → AsksFor asked asked' (line_asks (state_of old) line))
+    → (answer ≢ Memory → AsksFor asked asked' (line_asks (machine_of old told) line))
     → answer ≢ Memory → Moves (tally_of old told asked) line answer (tally_of new told asked')
 moved old new told asked asked' line answer answered few asks other =
     let calls = takes_calls answer old.cache.lazy new.cache.lazy few other in
@@ -64,7 +64,7 @@ pub through_more : {s middle new : Tally} {lines : List (List ℕ)} {line text p
 through_more {s} {middle} {new} {lines} {line} {text} {part} {answer} {was} before moves prints =
     record {
       answers = before.answers ++ answer ∷ [];
-      asked = before.asked ++ line_asks middle.machine.state line;
+      asked = before.asked ++ line_asks middle.machine line;
       serves = Serves-append before.serves (Serves-one moves.steps);
       makes =
           ap (λ t. t ++ part) before.makes
@@ -80,7 +80,7 @@ through_more {s} {middle} {new} {lines} {line} {text} {part} {answer} {was} befo
           );
       asks =
           asks_more s.asked middle.asked new.asked before.asked
-          (line_asks middle.machine.state line) before.asks moves.asks;
+          (line_asks middle.machine line) before.asks moves.asks;
     }
 
 pub still : (s : Tally) → IsStill s s

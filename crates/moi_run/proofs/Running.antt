@@ -6,7 +6,7 @@ use Rattle.std.proofs.lemmas.Option.{none-some}
 use Rattle.command_words.specs.declared.words.Invocation.{Invocation}
 use Rattle.command_words.specs.declared.words.Invocation.TheVariants.{Check, Generate, Plan, Run, Solve}
 use Rattle.command_words.specs.declared.words.Setup.{Setup}
-use Rattle.edit_engine.specs.Held.{SessionValue, machine_of, state_of}
+use Rattle.edit_engine.specs.Held.{SessionValue, machine_of, set_up, state_of}
 use Rattle.edit_engine.specs.Lines.{Answers, heard, is_load, next, none, says_load}
 use Rattle.edit_engine.specs.LinesLaws.{IsStopped, stops_by}
 use Rattle.cache_layer.specs.State.{with_table}
@@ -181,22 +181,24 @@ runs_script setup end left left' shelf faults faults' source sink s middle new w
 -- the session was told the options
 pub machine_set_up : (setup : Setup) (old new : SessionValue) (shelf : Told)
     → state_of new ≡ with_table (state_of old) (target_table setup.target)
-    → new.pivots ≡ setup.pivots
+    → new.group ≡ old.group → new.pivots ≡ setup.pivots
     → machine_of new shelf
-    ≡ machine_by (with_table (state_of old) (target_table setup.target)) setup.pivots shelf
-machine_set_up setup old new shelf state pivots =
-    ap (λ s. machine_by s new.pivots shelf) state
-    ∙ ap (λ n. machine_by (with_table (state_of old) (target_table setup.target)) n shelf) pivots
+    ≡ set_up (machine_of old shelf) (target_table setup.target) setup.pivots
+machine_set_up setup old new shelf state group pivots =
+    let after = with_table (state_of old) (target_table setup.target) in
+    ap (λ s. machine_by s new.group new.pivots shelf) state
+    ∙ (ap (λ g. machine_by after g new.pivots shelf) group
+    ∙ ap (λ n. machine_by after old.group n shelf) pivots)
 
 pub set_up_is : (setup : Setup) (old new : SessionValue) (shelf : Told) (asked : Option (List (List ℕ)))
     → state_of new ≡ with_table (state_of old) (target_table setup.target)
-    → new.pivots ≡ setup.pivots
+    → new.group ≡ old.group → new.pivots ≡ setup.pivots
     → new.cache.lazy.solver.leaves.calls ≡ old.cache.lazy.solver.leaves.calls
     → tally_of new shelf asked ≡ start_by (Some setup) (tally_of old shelf asked)
-set_up_is setup old new shelf asked state pivots calls =
+set_up_is setup old new shelf asked state group pivots calls =
     let machine : machine_of new shelf
-    ≡ machine_by (with_table (state_of old) (target_table setup.target)) setup.pivots shelf =
-    machine_set_up setup old new shelf state pivots in
+    ≡ set_up (machine_of old shelf) (target_table setup.target) setup.pivots =
+    machine_set_up setup old new shelf state group pivots in
     λ i. record { machine = machine i; calls = calls i; asked = asked }
 
 -- ---- given lines

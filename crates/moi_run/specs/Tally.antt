@@ -33,7 +33,7 @@ pub record Moves (s : Tally) (line : List ℕ) (answer : Answer) (new : Tally) :
   pub steps : Steps s.machine line answer new.machine
   pub rises : s.calls ≤ new.calls
   pub few : new.calls ≤ s.calls + count_of answer
-  pub asks : AsksFor s.asked new.asked (line_asks s.machine.state line)
+  pub asks : AsksFor s.asked new.asked (line_asks s.machine line)
 
 -- the answers to lines make this text; the solver's model was called at most as often as the
 -- numbers after `ok` in them say together, and the lines' files were asked for, in turn

@@ -1,9 +1,10 @@
 -- One answer: two sessions that are the same to their users answer an optimise alike, and a look at
 -- the solver's model, whatever lines led there. Running out of memory alone is free.
-use Rattle.std.specs.Prelude.{◌≡◌, ◌≢◌, ℕ, List, Result, Ok, unwrap_or}
+use Rattle.std.specs.Prelude.{◌≡◌, ◌≢◌, ℕ, List, None, Result, Ok, unwrap_or}
 use Rattle.std.proofs.Common.{subst, sym}
 use Rattle.bridge_graph.specs.Hypergraph.{IsCostly}
 use Rattle.cache_layer.specs.State.{State}
+use Rattle.edit_engine.specs.LinesLaws.{does_alone}
 use Rattle.edit_engine.specs.Script.{DoesSaid, Machine, Optimizes, Steps}
 use Rattle.fresh_bridging.specs.TheRules.{graph_of}
 use Rattle.report_core.specs.declared.answer.Answer.{Answer}
@@ -20,9 +21,11 @@ Asks (Ok (line.Optimize own)) = Unit {0}
 Asks (Ok line.Bridged) = Unit {0}
 Asks _ = ⊥
 
--- two sessions that are the same to their users, with one allowance of pivots
+-- two sessions that are the same to their users, with one allowance of pivots and no open group
 pub record AreTwins (one other : Machine) : Type 0 where
   pub state : AreAlike one.state other.state
+  pub alone : one.group ≡ None
+  pub other_alone : other.group ≡ None
   pub pivots : one.pivots ≡ other.pivots
 
 -- their answers to such a line are the same, unless memory runs out
@@ -38,10 +41,13 @@ module _ (one other : Machine) (twins : AreTwins one other)
       → a ≢ Memory → b ≢ Memory → DoesSaid one said a new → DoesSaid other said b after → a ≡ b
   said_alike (Ok (line.Optimize own)) a b new after asks m n h k =
       optimize_alike one.state other.state twins.state costly (unwrap_or own one.pivots) a b new
-      after m n h
-      (subst (λ pivots. Optimizes other.state (unwrap_or own pivots) b after) (sym twins.pivots) k)
+      after m n (does_alone one (line.Optimize own) new a twins.alone h)
+      (subst (λ pivots. Optimizes other.state (unwrap_or own pivots) b after) (sym twins.pivots)
+      (does_alone other (line.Optimize own) after b twins.other_alone k))
   said_alike (Ok line.Bridged) a b new after asks m n h k =
-      show_alike one.state other.state twins.state costly a b new after h k
+      show_alike one.state other.state twins.state costly a b new after
+      (does_alone one line.Bridged new a twins.alone h)
+      (does_alone other line.Bridged after b twins.other_alone k)
   said_alike _ a b new after asks m n h k = absurd asks
 
 pub one_answer : (one other : Machine) → AreTwins one other

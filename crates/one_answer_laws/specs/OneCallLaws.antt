@@ -4,7 +4,7 @@ use Rattle.std.specs.Prelude.{◌≡◌, ◌≤◌, ◌&&◌, ◌-◌, ◌^◌, 
 use Rattle.std.specs.Cmp.{IsEquivalence, eq_by_cmp_equiv}
 use Rattle.std.specs.Option.{option_map, option_or}
 use Rattle.std.specs.Set.{is_member}
-use Rattle.std.proofs.Common.{ap, arith, subst, sym, true≢false, ◌∙◌}
+use Rattle.std.proofs.Common.{ap, ap₂, arith, subst, sym, true≢false, ◌∙◌}
 use Rattle.std.proofs.lemmas.List.Elements.{All-cons, All-head, All-map, All-nil, All-tail}
 use Rattle.std.proofs.lemmas.Map.Made.{length-le_from_is_member}
 use Rattle.std.proofs.lemmas.Map.Views.{Contains-from_any, list_any-from_Contains}
@@ -14,13 +14,15 @@ use Rattle.bridge_graph.specs.Hypergraph.{Hypergraph, IsCostly}
 use Rattle.bridge_graph.specs.Tree.{IsTreeless, by as by_edge, native}
 use Rattle.bridge_graph.specs.declared.Choice.{Choice}
 use Rattle.bridged_report.specs.Places.{place_at}
-use Rattle.cache_layer.specs.Answers.{Becomes, IsAttached, IsEdited, IsLoaded}
+use Rattle.cache_layer.specs.Answers.{Becomes, IsAttached, IsEdited, IsGrouped, IsLoaded, as_edits}
 use Rattle.model_load.specs.Loads.{after_edits}
 use Rattle.cache_layer.specs.State.{Bridging, Changes, HasLeaves, OverflowsAt, State, leaves, with_model}
 use Rattle.cache_layer.specs.declared.fault.AttachFault.{AttachFault}
 use Rattle.cache_layer.specs.declared.fault.AttachFault.TheVariants as attach
 use Rattle.cache_layer.specs.declared.fault.EditFault.{EditFault}
 use Rattle.cache_layer.specs.declared.fault.EditFault.TheVariants as edit
+use Rattle.cache_layer.specs.declared.fault.GroupFault.{GroupFault}
+use Rattle.cache_layer.specs.declared.fault.GroupFault.TheVariants as group
 use Rattle.expansion.specs.Bridged.{Bridged, EachBridged, EachBridgedIn, by, each, each_in, natively, none, none_in}
 use Rattle.expansion.specs.GrownLaws.{held_each_once}
 use Rattle.expansion.specs.Read.{fits, fits_each, fits_in, unfit_each, unfit_in}
@@ -386,3 +388,50 @@ loaded_once s edits (Err (edit.Refused r)) (Err (edit.Refused q)) new after m n 
   ap (λ a. Err (edit.Refused a)) (same_refusal (after_edits s.model edits) r q h.0 k.0),
   h.1 ∙ sym k.1,
 )
+
+-- ---- a group of edits
+
+-- it is refused for no edit of its own
+abbrev IsWhole : Result (Option ℕ) GroupFault → Type 0
+IsWhole (Err (group.Refused index refusal)) = ⊥
+IsWhole made = Unit {0}
+
+-- and then it is as one edit
+from_edits : (x y : Result (Option ℕ) GroupFault) → IsWhole x → IsWhole y
+    → as_edits x ≡ as_edits y → x ≡ y
+from_edits (Err (group.Refused i r)) y p q e = absurd p
+from_edits x (Err (group.Refused j r)) p q e = absurd q
+from_edits (Ok a) (Ok b) p q e = let same : a ≡ b = cc in ap Ok same
+from_edits (Err (group.Unsupported k)) (Err (group.Unsupported l)) p q e =
+    let same : k ≡ l = cc in ap (λ kind. Err (group.Unsupported kind)) same
+from_edits (Err (group.Overflow a)) (Err (group.Overflow b)) p q e =
+    let same : a ≡ b = cc in ap (λ place. Err (group.Overflow place)) same
+from_edits (Err group.Memory) (Err group.Memory) p q e = refl
+from_edits x y p q e = cc
+
+no_memory : (x : Result (Option ℕ) GroupFault) → ¬ (x ≡ Err group.Memory)
+    → ¬ (as_edits x ≡ Err edit.Memory)
+no_memory (Err group.Memory) m e = m refl
+no_memory _ m e = cc
+
+pub grouped_once : (s : State) → IsCostly (graph_of s.setting) → (edits : List Edit)
+    (x y : Result (Option ℕ) GroupFault) (new after : State) → ¬ (x ≡ Err group.Memory)
+    → ¬ (y ≡ Err group.Memory) → IsGrouped s edits x new → IsGrouped s edits y after
+    → (x ≡ y) × (new ≡ after)
+grouped_once s c edits (Err group.Memory) y new after m n h k = absurd (m refl)
+grouped_once s c edits x (Err group.Memory) new after m n h k = absurd (n refl)
+grouped_once s c edits (Err (group.Refused i r)) (Err (group.Refused j q)) new after m n h k = (
+  ap₂ (λ a b. Err (group.Refused a b)) (h.1 ∙ sym k.1)
+      (same_refusal (after_edits s.model edits) r q h.0 k.0),
+  h.2 ∙ sym k.2,
+)
+grouped_once s c edits (Err (group.Refused i r)) y new after m n h k =
+    absurd (made_or_refused (after_edits s.model edits) k.0 r k.1 h.0)
+grouped_once s c edits x (Err (group.Refused j q)) new after m n h k =
+    absurd (made_or_refused (after_edits s.model edits) h.0 q h.1 k.0)
+grouped_once s c edits x y new after m n h k =
+    let same = same_model (after_edits s.model edits) h.0 k.0 h.1 k.1 in
+    let one = becomes_once s (with_model s k.0) c c (as_edits x) (as_edits y) new after
+    (no_memory x m) (no_memory y n)
+    (subst (λ model. Becomes s (with_model s model) (as_edits x) new) same h.2) k.2 in
+    (from_edits x y tt tt one.0, one.1)

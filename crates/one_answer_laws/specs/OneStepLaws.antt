@@ -8,17 +8,19 @@ use Rattle.std.proofs.lemmas.Option.{same_Some}
 use Rattle.bridge_graph.specs.Hypergraph.{Hypergraph, IsCostly}
 use Rattle.bridge_graph.specs.declared.Choice.{Choice}
 use Rattle.bridged_report.specs.Lines.{bridged_text}
-use Rattle.cache_layer.specs.Answers.{Becomes, IsAttached, IsEdited, IsLoaded}
+use Rattle.cache_layer.specs.Answers.{Becomes, IsAttached, IsEdited, IsGrouped, IsLoaded, as_edits}
 use Rattle.cache_layer.specs.State.{State, attached, detached, with_model, with_table}
 use Rattle.cache_layer.specs.declared.fault.AttachFault.{AttachFault}
 use Rattle.cache_layer.specs.declared.fault.AttachFault.TheVariants as attach
 use Rattle.cache_layer.specs.declared.fault.EditFault.{EditFault}
 use Rattle.cache_layer.specs.declared.fault.EditFault.TheVariants as edit
+use Rattle.cache_layer.specs.declared.fault.GroupFault.{GroupFault}
+use Rattle.cache_layer.specs.declared.fault.GroupFault.TheVariants as group
 use Rattle.cache_layer.specs.declared.fault.OptFault.{OptFault}
 use Rattle.cache_layer.specs.declared.fault.OptFault.TheVariants as opt
 use Rattle.certificates.specs.declared.certificate.Certificate.{Certificate}
 use Rattle.edit_engine.specs.Bare.{is_bare}
-use Rattle.edit_engine.specs.Script.{Detaches, DoesSaid, IsChosen, IsCost, IsPlan, LoadsEdits, LoadsWhere, Machine, Shows, Tabled, attach_answer, done, edit_answer, load_answer, optimize_answer}
+use Rattle.edit_engine.specs.Script.{Detaches, DoesAlone, DoesBy, DoesInGroup, DoesSaid, IsChosen, IsCost, IsPlan, LoadsEdits, LoadsWhere, Machine, Shows, Tabled, attach_answer, done, edit_answer, group_answer, load_answer, optimize_answer}
 use Rattle.file_answers.specs.FileAnswers.{fault_answer}
 use Rattle.edit_engine.specs.Tables.{costing, supporting, switched, targeted}
 use Rattle.fresh_bridging.specs.ChoiceLaws.{one_choice}
@@ -48,7 +50,7 @@ use Rattle.script_core.specs.declared.fault.LineFault.TheVariants as fault
 use Rattle.user_model.specs.Edited.{edited}
 use Rattle.user_model.specs.declared.edit.Edit.{Edit}
 use Rattle.one_answer_laws.specs.CostLaws.{CostsSome}
-use Rattle.one_answer_laws.specs.OneCallLaws.{attached_once, becomes_once, edited_once, loaded_once}
+use Rattle.one_answer_laws.specs.OneCallLaws.{attached_once, becomes_once, edited_once, grouped_once, loaded_once}
 use Rattle.one_answer_laws.specs.OneOutcomeLaws.{optimized_once}
 
 -- memory didn't run out, and no file stopped the work
@@ -109,6 +111,10 @@ module _ (graph : Hypergraph) (costly : IsCostly graph) where
 edit_goes_on : (x : Result (Option ℕ) EditFault) (a : Answer) → a ≡ edit_answer x → GoesOn a
     → ¬ (x ≡ Err edit.Memory)
 edit_goes_on x a is on e = subst GoesOn (is ∙ ap edit_answer e) on
+
+group_goes_on : (x : Result (Option ℕ) GroupFault) (a : Answer) → a ≡ group_answer x → GoesOn a
+    → ¬ (x ≡ Err group.Memory)
+group_goes_on x a is on e = subst GoesOn (is ∙ ap group_answer e) on
 
 attach_goes_on : (x : Result ℕ AttachFault) (a : Answer) → a ≡ attach_answer x → GoesOn a
     → ¬ (x ≡ Err attach.Memory)
@@ -246,39 +252,42 @@ tabled_once s new after change c d a b m n h k =
 
 module _ (m : Machine) (costly : IsCostly (graph_of m.state.setting)) (new after : State)
     (a b : Answer) (on : GoesOn a) (on_too : GoesOn b) where
-  pub said_once : (said : Result Command LineFault) → CostsSome said → IsKnown m.shelf said
-      → DoesSaid m said a new → DoesSaid m said b after → Same a b new after
-  said_once (Ok line.Silent) some known h k = (h.0 ∙ sym k.0, h.1 ∙ sym k.1)
-  said_once (Ok line.Quit) some known h k = (h.0 ∙ sym k.0, h.1 ∙ sym k.1)
-  said_once (Ok (line.Edit e)) some known h k =
+  alone_once : (command : Command) → CostsSome (Ok command) → IsKnown m.shelf (Ok command)
+      → DoesAlone m command a new → DoesAlone m command b after → Same a b new after
+  alone_once line.Silent some known h k = (h.0 ∙ sym k.0, h.1 ∙ sym k.1)
+  alone_once line.Quit some known h k = (h.0 ∙ sym k.0, h.1 ∙ sym k.1)
+  alone_once (line.Edit e) some known h k =
       let one = edited_once m.state costly e h.0 k.0 new after (edit_goes_on h.0 a h.2 on)
       (edit_goes_on k.0 b k.2 on_too) h.1 k.1 in
       (h.2 ∙ ap edit_answer one.0 ∙ sym k.2, one.1)
-  said_once (Ok (line.Target target)) some known h k =
+  alone_once line.Begin some known h k = (h.0 ∙ sym k.0, h.1 ∙ sym k.1)
+  alone_once line.Commit some known h k = (h.0 ∙ sym k.0, h.1 ∙ sym k.1)
+  alone_once line.Abandon some known h k = (h.0 ∙ sym k.0, h.1 ∙ sym k.1)
+  alone_once (line.Target target) some known h k =
       tabled_once m.state new after (targeted target) costly costly a b on on_too h k
-  said_once (Ok (line.Support kind value)) some known h k =
+  alone_once (line.Support kind value) some known h k =
       tabled_once m.state new after (supporting kind value) costly costly a b on on_too h k
-  said_once (Ok (line.Cost edge cost)) some known h k =
+  alone_once (line.Cost edge cost) some known h k =
       tabled_once m.state new after (costing edge cost) costly
       (costing_costly m.state edge cost some costly) a b on on_too h k
-  said_once (Ok (line.Switch family value)) some known h k =
+  alone_once (line.Switch family value) some known h k =
       tabled_once m.state new after (switched family value) costly costly a b on on_too h k
-  said_once (Ok line.Attach) some known h k =
+  alone_once line.Attach some known h k =
       let one = attached_once m.state costly h.0 k.0 new after (attach_goes_on h.0 a h.2 on)
       (attach_goes_on k.0 b k.2 on_too) h.1 k.1 in
       (h.2 ∙ ap attach_answer one.0 ∙ sym k.2, one.1)
-  said_once (Ok line.Detach) some known h k =
+  alone_once line.Detach some known h k =
       detaches_once m.state new after m.state.attached a b h k
-  said_once (Ok line.Bridged) some known h k =
+  alone_once line.Bridged some known h k =
       shows_once m.state new after costly m.state.attached a b h k
-  said_once (Ok line.Plan) some known h k = (
+  alone_once line.Plan some known h k = (
     h.2.0
         ∙ ap (λ choices. Printed (plan_text choices))
         (plan_once (graph_of m.state.setting) costly h.0 k.0 h.1 k.1)
         ∙ sym k.2.0,
     h.2.1 ∙ sym k.2.1,
   )
-  said_once (Ok (line.Optimize own)) some known h k = (
+  alone_once (line.Optimize own) some known h k = (
     h.2
         ∙ ap (optimize_answer m.state.model)
         (optimized_once m.state costly (unwrap_or own m.pivots) h.0 k.0
@@ -287,10 +296,27 @@ module _ (m : Machine) (costly : IsCostly (graph_of m.state.setting)) (new after
         ∙ sym k.2,
     h.1.2 ∙ sym k.1.2,
   )
-  said_once (Ok line.Write) some known h k = (h.0 ∙ sym k.0, h.1 ∙ sym k.1)
-  said_once (Ok (line.Load name)) some known h k =
+  alone_once line.Write some known h k = (h.0 ∙ sym k.0, h.1 ∙ sym k.1)
+  alone_once (line.Load name) some known h k =
       loads_once m.state new after m.state.attached (is_bare m.state.model) m.shelf name a b known
       on on_too h k
+
+  in_group_once : (edits : List Edit) (command : Command) → DoesInGroup m.state edits command a new
+      → DoesInGroup m.state edits command b after → Same a b new after
+  in_group_once edits line.Commit h k =
+      let one = grouped_once m.state costly edits h.0 k.0 new after (group_goes_on h.0 a h.2 on)
+      (group_goes_on k.0 b k.2 on_too) h.1 k.1 in
+      (h.2 ∙ ap group_answer one.0 ∙ sym k.2, one.1)
+  in_group_once edits _ h k = (h.0 ∙ sym k.0, h.1 ∙ sym k.1)
+
+  pub said_once : (said : Result Command LineFault) → CostsSome said → IsKnown m.shelf said
+      → DoesSaid m said a new → DoesSaid m said b after → Same a b new after
+  said_once (Ok command) some known h k = by m.group h k
+    where
+      by : (open_group : Option (List Edit)) → DoesBy open_group m command a new
+          → DoesBy open_group m command b after → Same a b new after
+      by None h k = alone_once command some known h k
+      by (Some edits) h k = in_group_once edits command h k
   said_once (Err fault.BadLine) some known h k = (h.0 ∙ sym k.0, h.1 ∙ sym k.1)
   said_once (Err fault.Overflow) some known h k = (h.0 ∙ sym k.0, h.1 ∙ sym k.1)
   said_once (Err fault.Memory) some known h k = absurd (subst GoesOn h.0 on)
@@ -324,6 +350,14 @@ edited_costly s new c e (Err (edit.Refused r)) h = same_costly s s new c h.1
 edited_costly s new c e (Err edit.Memory) h = same_costly s (detached s) new c h
 edited_costly s new c e x h =
     becomes_costly s (with_model s (edited s.model e)) new c c x h.1
+
+grouped_costly : (s new : State) → IsCostly (graph_of s.setting) → (edits : List Edit)
+    (x : Result (Option ℕ) GroupFault) → IsGrouped s edits x new
+    → IsCostly (graph_of new.setting)
+grouped_costly s new c edits (Err (group.Refused i r)) h = same_costly s s new c h.2
+grouped_costly s new c edits (Err group.Memory) h = same_costly s (detached s) new c h
+grouped_costly s new c edits x h =
+    becomes_costly s (with_model s h.0) new c c (as_edits x) h.2
 
 attached_costly : (s new : State) → IsCostly (graph_of s.setting) → (x : Result ℕ AttachFault)
     → IsAttached s x new → IsCostly (graph_of new.setting)
@@ -366,32 +400,49 @@ shows_costly s new c false a h = same_costly s s new c h.1
 
 module _ (m : Machine) (costly : IsCostly (graph_of m.state.setting)) (new : State)
     (a : Answer) where
-  pub said_costly : (said : Result Command LineFault) → CostsSome said
-      → DoesSaid m said a new → IsCostly (graph_of new.setting)
-  said_costly (Ok line.Silent) some h = same_costly m.state m.state new costly h.1
-  said_costly (Ok line.Quit) some h = same_costly m.state m.state new costly h.1
-  said_costly (Ok (line.Edit e)) some h = edited_costly m.state new costly e h.0 h.1
-  said_costly (Ok (line.Target target)) some h =
+  alone_costly : (command : Command) → CostsSome (Ok command) → DoesAlone m command a new
+      → IsCostly (graph_of new.setting)
+  alone_costly line.Silent some h = same_costly m.state m.state new costly h.1
+  alone_costly line.Quit some h = same_costly m.state m.state new costly h.1
+  alone_costly (line.Edit e) some h = edited_costly m.state new costly e h.0 h.1
+  alone_costly line.Begin some h = same_costly m.state m.state new costly h.1
+  alone_costly line.Commit some h = same_costly m.state m.state new costly h.1
+  alone_costly line.Abandon some h = same_costly m.state m.state new costly h.1
+  alone_costly (line.Target target) some h =
       becomes_costly m.state (with_table m.state (targeted target m.state.setting.table)) new costly costly
       h.0 h.1
-  said_costly (Ok (line.Support kind value)) some h =
+  alone_costly (line.Support kind value) some h =
       becomes_costly m.state (with_table m.state (supporting kind value m.state.setting.table)) new costly costly
       h.0 h.1
-  said_costly (Ok (line.Cost edge cost)) some h =
+  alone_costly (line.Cost edge cost) some h =
       becomes_costly m.state (with_table m.state (costing edge cost m.state.setting.table)) new costly
       (costing_costly m.state edge cost some costly) h.0 h.1
-  said_costly (Ok (line.Switch family value)) some h =
+  alone_costly (line.Switch family value) some h =
       becomes_costly m.state (with_table m.state (switched family value m.state.setting.table)) new costly costly
       h.0 h.1
-  said_costly (Ok line.Attach) some h = attached_costly m.state new costly h.0 h.1
-  said_costly (Ok line.Detach) some h =
+  alone_costly line.Attach some h = attached_costly m.state new costly h.0 h.1
+  alone_costly line.Detach some h =
       detaches_costly m.state new costly m.state.attached a h
-  said_costly (Ok line.Bridged) some h = shows_costly m.state new costly m.state.attached a h
-  said_costly (Ok line.Plan) some h = same_costly m.state m.state new costly h.2.1
-  said_costly (Ok (line.Optimize own)) some h = same_costly m.state m.state new costly h.1.2
-  said_costly (Ok line.Write) some h = same_costly m.state m.state new costly h.1
-  said_costly (Ok (line.Load name)) some h =
+  alone_costly line.Bridged some h = shows_costly m.state new costly m.state.attached a h
+  alone_costly line.Plan some h = same_costly m.state m.state new costly h.2.1
+  alone_costly (line.Optimize own) some h = same_costly m.state m.state new costly h.1.2
+  alone_costly line.Write some h = same_costly m.state m.state new costly h.1
+  alone_costly (line.Load name) some h =
       loads_costly m.state new costly m.state.attached (is_bare m.state.model) m.shelf name a h
+
+  in_group_costly : (edits : List Edit) (command : Command)
+      → DoesInGroup m.state edits command a new → IsCostly (graph_of new.setting)
+  in_group_costly edits line.Commit h = grouped_costly m.state new costly edits h.0 h.1
+  in_group_costly edits _ h = same_costly m.state m.state new costly h.1
+
+  pub said_costly : (said : Result Command LineFault) → CostsSome said
+      → DoesSaid m said a new → IsCostly (graph_of new.setting)
+  said_costly (Ok command) some h = by m.group h
+    where
+      by : (open_group : Option (List Edit)) → DoesBy open_group m command a new
+          → IsCostly (graph_of new.setting)
+      by None h = alone_costly command some h
+      by (Some edits) h = in_group_costly edits command h
   said_costly (Err fault.BadLine) some h = same_costly m.state m.state new costly h.1
   said_costly (Err fault.Overflow) some h = same_costly m.state m.state new costly h.1
   said_costly (Err fault.Memory) some h = same_costly m.state m.state new costly h.1

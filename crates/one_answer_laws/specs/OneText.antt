@@ -4,8 +4,9 @@ use Rattle.std.specs.Prelude.{◌≡◌, ◌++◌, ◌||◌, ℕ, Bool, true, fa
 use Rattle.std.proofs.Common.{ap, ap₂, subst, sym, ◌∙◌}
 use Rattle.std.proofs.lemmas.List.Elements.{All-head, All-tail}
 use Rattle.bridge_graph.specs.Hypergraph.{IsCostly}
+use Rattle.cache_layer.specs.State.{State}
 use Rattle.edit_engine.specs.Lines.{Answers, Prints, accepted, next, none, quit, refusal, silent}
-use Rattle.edit_engine.specs.Script.{Machine, Steps, with_state}
+use Rattle.edit_engine.specs.Script.{Machine, Steps, group_after, moved}
 use Rattle.fresh_bridging.specs.TheRules.{graph_of}
 use Rattle.io_face.specs.Told.{Told}
 use Rattle.report_core.specs.declared.answer.Answer.{Answer}
@@ -66,7 +67,11 @@ step_once m costly line known a b new after on on_too h k =
     (line_some line) known h.0 k.0
     in record {
       answer = one.0;
-      machine = h.1 ∙ ap (with_state m) one.1 ∙ sym k.1;
+      machine =
+          h.1
+          ∙ ap₂ (λ (s : State) (said : Answer). moved m s (group_after m.group (line_said line) said))
+          one.1 one.0
+          ∙ sym k.1;
       costly = said_costly m costly after.state b (line_said line) (line_some line) k.0;
       shelf = ap (λ (n : Machine). n.shelf) k.1;
     }

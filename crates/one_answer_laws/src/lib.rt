@@ -7,17 +7,18 @@
 ghost use Rattle.one_answer_laws.specs.OneAnswer.{OneAnswer};
 ghost use Rattle.one_answer_laws.specs.OneText.{OneText};
 
-/// States the law of one answer: two sessions whose models are valid and differ in nothing but
-/// their numbers, with equal tables, families and allowances of pivots, and both solvers attached
-/// or neither, answer `optimize` and `bridged` alike, unless memory runs out, as long as each edge
-/// costs something.
+/// States the law of one answer: two sessions without an open group, whose models are valid and
+/// differ in nothing but their numbers, with equal tables, families and allowances of pivots, and
+/// both solvers attached or neither, answer `optimize` and `bridged` alike, unless memory runs out,
+/// as long as each edge costs something.
 pub fn one_answer()
     ensures { OneAnswer }
 {}
 
 /// States the law of one text: the text by which the script machine answers lines, whether one was
-/// refused, and the machine that they leave are a function of the machine before them, the lines
-/// and the files that they load, as long as each edge costs something.
+/// refused, and the machine that they leave, with the edits of an open group, are a function of the
+/// machine before them, the lines and the files that they load, as long as each edge costs
+/// something.
 pub fn one_text()
     ensures { OneText }
 {}

@@ -7,7 +7,7 @@ use Rattle.name_index.specs.Escape.{escaped}
 use Rattle.report_core.specs.declared.refused.Place.{Place}
 use Rattle.report_core.specs.declared.refused.Place.TheVariants as place
 use Rattle.report_core.specs.declared.refused.Refused.{Refused}
-use Rattle.report_core.specs.declared.refused.Refused.TheVariants.{BadLine, UnknownName, NameTaken, FunctionShape, BadDimension, OutputIndex, BadInterval, LowerBoundAlreadySet, UpperBoundAlreadySet, SetTypeMismatch, DeleteNotAllowed, Full, NotAttached, AlreadyAttached, TooLarge, Unsupported, Overflow, Limit, NotEmpty, File}
+use Rattle.report_core.specs.declared.refused.Refused.TheVariants.{BadLine, UnknownName, NameTaken, FunctionShape, BadDimension, OutputIndex, BadInterval, LowerBoundAlreadySet, UpperBoundAlreadySet, SetTypeMismatch, DeleteNotAllowed, Full, NotAttached, AlreadyAttached, TooLarge, Unsupported, Overflow, Limit, NotEmpty, File, Group, GroupOpen, NoGroup}
 use Rattle.user_model.specs.declared.refusal.Refusal.{Refusal}
 use Rattle.user_model.specs.declared.refusal.Refusal.TheVariants as edit
 use Rattle.report_core.specs.Words.{newline, spaced}
@@ -34,6 +34,9 @@ heading (Overflow place) = (17, codes "Overflow")
 heading (Limit pivots) = (18, codes "Limit")
 heading NotEmpty = (19, codes "NotEmpty")
 heading (File kind place) = (20, codes "File")
+heading (Group index refusal) = (21, codes "Group")
+heading GroupOpen = (22, codes "GroupOpen")
+heading NoGroup = (23, codes "NoGroup")
 
 -- why an edit of the user's model is refused
 abbrev pub refused_of : Refusal → Refused
@@ -73,6 +76,17 @@ fault_heading fault.Dimension = (8, codes "Dimension")
 abbrev pub most_cells : ℕ
 most_cells = 16777216
 
+-- the fields of an edit's refusal
+abbrev pub own_fields : Refusal → List (List ℕ)
+own_fields (edit.Full count limit) = decimal count ∷ decimal limit ∷ []
+own_fields _ = []
+
+-- an edit's refusal inside another: its number, its name and its fields
+abbrev pub edit_fields : Refusal → List (List ℕ)
+edit_fields refusal =
+    let heads = heading (refused_of refusal) in
+    decimal heads.0 ∷ heads.1 ∷ own_fields refusal
+
 abbrev pub fields : Refused → List (List ℕ)
 fields (Full count limit) = decimal count ∷ decimal limit ∷ []
 fields (TooLarge cells) = decimal cells ∷ decimal most_cells ∷ []
@@ -80,6 +94,7 @@ fields (Unsupported kind) = name_of kind ∷ []
 fields (Overflow place) = place_text place ∷ []
 fields (Limit pivots) = decimal pivots ∷ []
 fields (File kind place) = decimal (fault_heading kind).0 ∷ (fault_heading kind).1 ∷ place ∷ []
+fields (Group index refusal) = decimal index ∷ edit_fields refusal
 fields _ = []
 
 abbrev pub heading_text : Refused → List ℕ

@@ -1,4 +1,4 @@
--- The reply to an accepted line.
+-- The replies to accepted lines.
 use Rattle.std.specs.Prelude.{ℕ, List, ◌++◌, codes, decimal, Option, Some, None}
 use Rattle.report_core.specs.Words.{newline}
 
@@ -6,3 +6,7 @@ use Rattle.report_core.specs.Words.{newline}
 unfoldable pub done_text : Option ℕ → List ℕ
 done_text None = codes "ok" ++ newline
 done_text (Some count) = codes "ok " ++ decimal count ++ newline
+
+-- of an edit that an open group holds
+abbrev pub held_text : List ℕ
+held_text = codes "held" ++ newline

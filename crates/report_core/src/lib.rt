@@ -11,4 +11,4 @@ pub use answer::Answer;
 pub use choices::plan;
 pub use draft::Draft;
 pub use refused::{Place, Refused};
-pub use replies::{done, refusal};
+pub use replies::{done, held, refusal};

@@ -64,6 +64,12 @@ pub enum Refused {
     NotEmpty,
     /// 20: the file has a fault of this kind at this place.
     File { kind: FaultKind, place: Text },
+    /// 21: an edit of the group is refused, the first one, numbered from 1.
+    Group { index: u64, refusal: Refusal },
+    /// 22: a group is open.
+    GroupOpen,
+    /// 23: no group is open.
+    NoGroup,
 }
 
 impl From<Refusal> for Refused {
@@ -89,7 +95,7 @@ impl From<Refusal> for Refused {
 }
 
 impl Refused {
-    /// The number, 1 to 20, and the name.
+    /// The number, 1 to 23, and the name.
     pub fn heading(&self) -> (u8, &'static str)
         ensures number { result.0 ≡ (texts.heading self.now).0 }
         ensures name { result.1.now ≡ (texts.heading self.now).1 }
@@ -115,6 +121,9 @@ impl Refused {
             Refused::Limit { .. } => (18, "Limit"),
             Refused::NotEmpty => (19, "NotEmpty"),
             Refused::File { .. } => (20, "File"),
+            Refused::Group { .. } => (21, "Group"),
+            Refused::GroupOpen => (22, "GroupOpen"),
+            Refused::NoGroup => (23, "NoGroup"),
         }
     }
 }

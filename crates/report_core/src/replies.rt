@@ -1,8 +1,8 @@
 //! The replies to accepted lines and to refused ones.
 ghost use Rattle.std.specs.Prelude.{◌≡◌, [], ◌∷◌, ◌++◌, OnOk, IfOk, decimal, flat_map};
 ghost use Rattle.item_core.specs.Kind.{name_of};
-ghost use Rattle.report_core.specs.Refused.{fault_heading, fields, heading_text, place_text, refusal_text};
-ghost use Rattle.report_core.specs.Replies.{done_text};
+ghost use Rattle.report_core.specs.Refused.{edit_fields, fault_heading, fields, heading_text, place_text, refusal_text};
+ghost use Rattle.report_core.specs.Replies.{done_text, held_text};
 ghost use Rattle.report_core.specs.Words.{spaced};
 
 use crate::draft::Draft;
@@ -12,6 +12,7 @@ use item_core::Kind;
 use mof_values::FaultKind;
 use ratio_core::Memory;
 use std::alloc::Global;
+use user_model::Refusal;
 
 /// The most cells of a standard form.
 const MOST_CELLS: u64 = 16_777_216;
@@ -22,6 +23,15 @@ pub fn done(alloc: Global, count: Option<u64>) -> Result<Answer, Memory>
 {
     let mut draft = Draft::new(alloc);
     push_done(&mut draft, count)?;
+    Ok(Answer::Printed(draft.into_text()))
+}
+
+/// `held`, of an edit that an open group holds.
+pub fn held(alloc: Global) -> Result<Answer, Memory>
+    ensures { IfOk result (λ answer. answer ≡ Answer.Printed held_text) }
+{
+    let mut draft = Draft::new(alloc);
+    draft.push("held\n")?;
     Ok(Answer::Printed(draft.into_text()))
 }
 
@@ -72,12 +82,30 @@ fn push_fields(draft: &mut Draft, refused: &Refused) -> Result<(), Memory>
         Refused::Overflow { place } => push_place(draft, place),
         Refused::Limit { pivots } => push_one_number(draft, *pivots),
         Refused::File { kind, place } => push_fault(draft, *kind, place.as_slice()),
+        Refused::Group { index, refusal } => push_group(draft, *index, *refusal),
         Refused::BadLine | Refused::UnknownName | Refused::NameTaken => Ok(()),
         Refused::FunctionShape | Refused::BadDimension | Refused::OutputIndex => Ok(()),
         Refused::BadInterval | Refused::LowerBoundAlreadySet => Ok(()),
         Refused::UpperBoundAlreadySet | Refused::SetTypeMismatch => Ok(()),
         Refused::DeleteNotAllowed | Refused::NotAttached => Ok(()),
         Refused::AlreadyAttached | Refused::NotEmpty => Ok(()),
+        Refused::GroupOpen | Refused::NoGroup => Ok(()),
+    }
+}
+
+// The number of the edit in its group, and then its own refusal.
+fn push_group(draft: &mut Draft, index: u64, refusal: Refusal) -> Result<(), Memory>
+    ensures { OnOk result (draft.new
+        ≡ draft.old ++ flat_map spaced (decimal index ∷ edit_fields refusal)) }
+{
+    let (number, name) = Refused::from(refusal).heading();
+    push_one_number(draft, index)?;
+    push_one_number(draft, u64::from(number))?;
+    draft.push(" ")?;
+    draft.push(name)?;
+    match refusal {
+        Refusal::Full { count, limit } => push_two_numbers(draft, count, limit),
+        _ => Ok(()),
     }
 }
 

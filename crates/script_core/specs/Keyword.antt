@@ -2,7 +2,7 @@
 use Rattle.std.specs.Prelude.{ℕ, List, Option, bytes_eq, codes}
 use Rattle.std.specs.List.{find}
 use Rattle.script_core.specs.declared.keyword.Keyword.{Keyword}
-use Rattle.script_core.specs.declared.keyword.Keyword.TheVariants.{Var, Vars, Bound, Row, Vbound, Vrow, Min, Max, Minvar, Maxvar, Feasibility, Coef, Vcoef, Const, Vconst, Objcoef, Objconst, Set, Reset, Free, Delvar, Delrow, Renvar, Renrow, Target, Support, Unsupport, Cost, On, Off, Attach, Detach, Optimize, Bridged, Plan, Write, Load, Quit}
+use Rattle.script_core.specs.declared.keyword.Keyword.TheVariants.{Var, Vars, Bound, Row, Vbound, Vrow, Min, Max, Minvar, Maxvar, Feasibility, Coef, Vcoef, Const, Vconst, Objcoef, Objconst, Set, Reset, Free, Delvar, Delrow, Renvar, Renrow, Target, Support, Unsupport, Cost, On, Off, Attach, Detach, Begin, Commit, Abandon, Optimize, Bridged, Plan, Write, Load, Quit}
 use Rattle.script_core.specs.declared.keyword.TheConstants.{KEYWORDS}
 
 abbrev pub keyword_text : Keyword → List ℕ
@@ -38,6 +38,9 @@ keyword_text On = codes "on"
 keyword_text Off = codes "off"
 keyword_text Attach = codes "attach"
 keyword_text Detach = codes "detach"
+keyword_text Begin = codes "begin"
+keyword_text Commit = codes "commit"
+keyword_text Abandon = codes "abandon"
 keyword_text Optimize = codes "optimize"
 keyword_text Bridged = codes "bridged"
 keyword_text Plan = codes "plan"

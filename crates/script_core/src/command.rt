@@ -24,6 +24,12 @@ pub enum Command {
     Attach,
     /// Empties the solver.
     Detach,
+    /// Opens a group of edits.
+    Begin,
+    /// Makes the edits of the group, all or none.
+    Commit,
+    /// Closes the group; none of its edits is made.
+    Abandon,
     /// Solves, with at most this number of pivots where one is given.
     Optimize(Option<u32>),
     /// Prints the solver's model.

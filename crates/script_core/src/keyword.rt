@@ -40,6 +40,9 @@ pub enum Keyword {
     Off,
     Attach,
     Detach,
+    Begin,
+    Commit,
+    Abandon,
     Optimize,
     Bridged,
     Plan,
@@ -55,10 +58,10 @@ macro_rules! keywords {
 }
 
 /// The keywords, in order.
-pub const KEYWORDS: [Keyword; 38] = keywords! {
+pub const KEYWORDS: [Keyword; 41] = keywords! {
     Var Vars Bound Row Vbound Vrow Min Max Minvar Maxvar Feasibility Coef Vcoef Const Vconst
     Objcoef Objconst Set Reset Free Delvar Delrow Renvar Renrow Target Support Unsupport Cost On
-    Off Attach Detach Optimize Bridged Plan Write Load Quit
+    Off Attach Detach Begin Commit Abandon Optimize Bridged Plan Write Load Quit
 };
 
 impl Keyword {
@@ -98,6 +101,9 @@ impl Keyword {
             Keyword::Off => "off",
             Keyword::Attach => "attach",
             Keyword::Detach => "detach",
+            Keyword::Begin => "begin",
+            Keyword::Commit => "commit",
+            Keyword::Abandon => "abandon",
             Keyword::Optimize => "optimize",
             Keyword::Bridged => "bridged",
             Keyword::Plan => "plan",

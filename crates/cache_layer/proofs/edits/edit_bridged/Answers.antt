@@ -24,14 +24,14 @@ push-requires g c =
 pub take_back-requires : goal.take_back-requires
 take_back-requires g c =
     let was = c.in-Ok.ensures in
-    (c.args.model.now, record { edit = was.edit; back = was.before; parked = was.parked })
+    (c.args.model.now, record { edit = was.edit; lists = was.undo; back = was.before; parked = was.parked })
 
 pub returns-in-Err-clause-answer : goal.returns-in-Err-clause-answer
 returns-in-Err-clause-answer g c =
     let was = c.in-Ok.ensures in
     let back =
     c.take_back.ensures c.args.model.now
-    (record { edit = was.edit; back = was.before; parked = was.parked }) in
+    (record { edit = was.edit; lists = was.undo; back = was.before; parked = was.parked }) in
     edit_answer c.args.model.now c.take_back.new.model c.args.lazy.now c.push.new.lazy c.args.edit
     c.apply.new.self.model c.in-Err.fault c.from.result c.from.ensures was.ok was.model back
     c.in-Err.ensures.bridged
@@ -41,7 +41,7 @@ returns-in-Err-clause-in_step g c =
     let was = c.in-Ok.ensures in
     let back =
     c.take_back.ensures c.args.model.now
-    (record { edit = was.edit; back = was.before; parked = was.parked }) in
+    (record { edit = was.edit; lists = was.undo; back = was.before; parked = was.parked }) in
     step_answer c.args.model.now c.take_back.new.model c.args.lazy.now c.push.new.lazy
     c.args.lazy.now.boxes.table c.apply.new.self.model c.in-Err.fault c.from.result c.from.ensures
     back c.in-Err.ensures.bridged c.requires.stands c.requires.settled

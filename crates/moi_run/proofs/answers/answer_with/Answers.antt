@@ -12,7 +12,7 @@ returns-in-Ok-clause-runs g c =
     (tally_of c.set_up.new.self told (g.H.Shelf.asked c.args.shelf.now)) (tally_of c.answer_each.new.session told (g.H.Shelf.asked c.answer_each.new.shelf)) _ _
     (set_up_is c.args.setup c.args.session.now c.set_up.new.self told
     (g.H.Shelf.asked c.args.shelf.now) c.in-Ok.ensures.ok
-    c.in-Ok.ensures.allowance
+    c.set_up.ensures.group c.in-Ok.ensures.allowance
     (calls_stay c.args.session.now.cache.lazy c.set_up.new.self.cache.lazy c.in-Ok.ensures.few))
     c.answer_each.ensures.pivots c.answer_each.ensures.outcome c.answer_each.ensures.prefix
 

@@ -14,4 +14,4 @@ returns-in-Ok-clause-outcome g c =
     (machine_of c.sum_up_answers.new.session told) (g.O.Sink.written c.args.output.now)
     (g.O.Sink.written c.sum_up_answers.new.output))
     (machine_set_up generate_setup c.args.session.now c.set_up.new.self told c.in-Ok.ensures.ok
-    c.in-Ok.ensures.allowance) c.sum_up_answers.ensures.outcome
+    c.set_up.ensures.group c.in-Ok.ensures.allowance) c.sum_up_answers.ensures.outcome

@@ -21,7 +21,7 @@ returns-in-Ok-set_up-clause-runs g c =
     (tally_of c.answer_lines.new.session told (g.H.Shelf.asked c.answer_lines.new.shelf)) _ _
     (set_up_is c.args.setup c.args.session.now c.set_up.new.self told
     (g.H.Shelf.asked c.args.shelf.now) c.in-Ok-set_up.ensures.ok
-    c.in-Ok-set_up.ensures.allowance
+    c.set_up.ensures.group c.in-Ok-set_up.ensures.allowance
     (calls_stay c.args.session.now.cache.lazy c.set_up.new.self.cache.lazy
     c.in-Ok-set_up.ensures.few)) refl
     c.answer_lines.ensures.pivots c.answer_lines.ensures.outcome c.answer_lines.ensures.prefix

@@ -1,6 +1,5 @@
 use Rattle.std.proofs.Common.{refl, subst}
-use Rattle.cache_layer.specs.Cached as cached
-use Rattle.edit_engine.specs.Held.{SessionValue, KeepsRefused, machine_of, state_of}
+use Rattle.edit_engine.specs.Held.{SessionValue, KeepsRefused, machine_of}
 use Rattle.edit_engine.specs.Lines.{line_asks}
 use Rattle.edit_engine.specs.Script.{Answered}
 use Rattle.edit_engine.proofs.Asking.{asks_or, fault_made, sound_or}
@@ -16,12 +15,21 @@ pub returns-clause-step : goal.returns-clause-step
 returns-clause-step g c =
     let told : Told =
     told_by (g.H.Shelf.files c.args.shelf.now) (g.H.Shelf.sure c.args.shelf.now) in
-    let before : SessionValue = record { cache = c.self.inside.cache; pivots = c.self.inside.pivots } in
-    let after : SessionValue = record { cache = c.step-made.new.cache; pivots = c.self.inside.pivots } in
+    let before : SessionValue = record {
+      cache = c.self.inside.cache;
+      group = c.self.inside.group;
+      pivots = c.self.inside.pivots;
+    } in
+    let after : SessionValue = record {
+      cache = c.step-made.new.cache;
+      group = c.step-made.new.group;
+      pivots = c.self.inside.pivots;
+    } in
     subst (λ (h : SessionValue). Answered (machine_of h told) c.args.line.now c.unwrap_or.result
     (machine_of after told)) c.self.view_is
     (answered_or (machine_of before told) (machine_of after told) c.args.line.now
-    c.step-made.result c.unwrap_or.result c.unwrap_or.ensures c.step-made.ensures.step refl)
+    c.step-made.result c.unwrap_or.result c.unwrap_or.ensures c.step-made.ensures.step refl
+    c.step-made.ensures.group)
 
 pub returns-clause-untouched : goal.returns-clause-untouched
 returns-clause-untouched g c =
@@ -44,9 +52,17 @@ pub returns-clause-asks : goal.returns-clause-asks
 returns-clause-asks g c = λ other.
     let old = g.H.Shelf.asked c.args.shelf.now in
     let new = g.H.Shelf.asked c.step-made.new.shelf in
-    subst (λ (h : SessionValue). AsksFor old new (line_asks (state_of h) c.args.line.now)) c.self.view_is
+    let told : Told =
+    told_by (g.H.Shelf.files c.args.shelf.now) (g.H.Shelf.sure c.args.shelf.now) in
+    let before : SessionValue = record {
+      cache = c.self.inside.cache;
+      group = c.self.inside.group;
+      pivots = c.self.inside.pivots;
+    } in
+    subst (λ (h : SessionValue). AsksFor old new (line_asks (machine_of h told) c.args.line.now))
+    c.self.view_is
     (asks_or c.step-made.result c.unwrap_or.result
-    (AsksFor old new (line_asks (cached.state_of c.self.inside.cache) c.args.line.now))
+    (AsksFor old new (line_asks (machine_of before told) c.args.line.now))
     c.unwrap_or.ensures other c.step-made.ensures.asks)
 
 pub returns-clause-few : goal.returns-clause-few

@@ -1,7 +1,7 @@
 use Rattle.std.proofs.Common.{◌≡◌, length}
 use Rattle.std.specs.Vec.Iter.{into_iter_items, into_iter_len}
 use Rattle.model_load.proofs.Stepping.{MadeSoFar}
-use Rattle.model_load.proofs.loading.load_all.Given as goal
+use Rattle.model_load.proofs.loading.make_all.Given as goal
 
 abbrev pub invariant-loop-edit : goal.invariant-loop-edit
 invariant-loop-edit l =
