@@ -1,5 +1,5 @@
 -- Which group a line leaves, and what it answers while one is open.
-use Rattle.std.specs.Prelude.{◌≡◌, ◌≢◌, ◌∷◌, ◌++◌, ℕ, Bool, true, false, List, [], Option, None, Some, Result, Ok, Err, IfOk, OnOk, refl}
+use Rattle.std.specs.Prelude.{◌≡◌, ◌≢◌, ◌&&◌, ◌∷◌, ◌++◌, ℕ, Bool, true, false, List, [], Option, None, Some, Result, Ok, Err, IfOk, OnOk, refl}
 use Rattle.std.specs.Result.{result_unwrap_or}
 use Rattle.std.proofs.Common.{ap, sym, subst, ◌∙◌, true≢false}
 use Rattle.lists.specs.declared.memory.Memory.{Memory as NoMemory}
@@ -12,7 +12,10 @@ use Rattle.script_core.specs.declared.command.Command.TheVariants as line
 use Rattle.script_core.specs.declared.fault.LineFault.{LineFault}
 use Rattle.user_model.specs.declared.edit.Edit.{Edit}
 use Rattle.edit_engine.specs.LinesLaws.{fetches}
-use Rattle.edit_engine.specs.Script.{DoesAlone, Machine, Makes, done, group_after, group_by, held, is_printed}
+use Rattle.edit_engine.specs.Lines.{asks_by}
+use Rattle.edit_engine.specs.Script.{DoesAlone, Machine, Makes, done, edits_after, group_after, group_by, held, is_end, is_printed}
+use Rattle.io_face.specs.Shelf.{AsksFor}
+use Rattle.io_face.specs.ToldLaws.{asks_none}
 use Rattle.file_answers.specs.FileAnswers.{refused}
 
 -- a refusal leaves the group
@@ -23,32 +26,53 @@ pub refused_stays : (r : Result Answer NoMemory) (group : Option (List Edit))
 refused_stays (Ok answer) group said why is = ap (group_after group said) (sym is)
 refused_stays (Err memory) group said why is = tt
 
+-- ---- in an open group
+
 -- an edit is appended
 pub held_more : (r : Result Answer NoMemory) (edits more : List Edit) (e : Edit)
     → OnOk r (more ≡ edits ++ e ∷ []) → IfOk r (λ answer. answer ≡ held)
-    → IfOk r (λ answer. Some more ≡ group_after (Some edits) (Ok (line.Edit e)) answer)
+    → IfOk r (λ answer. more ≡ edits_after edits answer (line.Edit e))
 held_more (Ok answer) edits more e longer is =
-    ap Some longer ∙ ap (group_after (Some edits) (Ok (line.Edit e))) (sym is)
+    longer ∙ ap (λ (a : Answer). edits_after edits a (line.Edit e)) (sym is)
 held_more (Err memory) edits more e longer is = tt
 
--- a group is closed where its commit is accepted
-pub commit_closes : (edits : List Edit) (answer : Answer) → is_printed answer ≡ true
-    → None ≡ group_after (Some edits) (Ok line.Commit) answer
-commit_closes edits (Printed text) is = refl
-commit_closes edits _ is = absurd (true≢false (sym is))
+-- a commit, `abandon` and a refusal append nothing
+pub commit_keeps : (r : Result Answer NoMemory) (edits : List Edit)
+    → IfOk r (λ answer. edits ≡ edits_after edits answer line.Commit)
+commit_keeps (Ok (Printed text)) edits = refl
+commit_keeps (Ok _) edits = refl
+commit_keeps (Err memory) edits = tt
 
-pub commit_stays : (edits : List Edit) (answer : Answer) → is_printed answer ≡ false
-    → Some edits ≡ group_after (Some edits) (Ok line.Commit) answer
-commit_stays edits (Printed text) is = absurd (true≢false is)
-commit_stays edits _ is = refl
+pub abandon_keeps : (r : Result Answer NoMemory) (edits : List Edit)
+    → IfOk r (λ answer. edits ≡ edits_after edits answer line.Abandon)
+abandon_keeps (Ok (Printed text)) edits = refl
+abandon_keeps (Ok _) edits = refl
+abandon_keeps (Err memory) edits = tt
 
--- and where it is abandoned
-pub abandon_closes : (r : Result Answer NoMemory) (edits : List Edit)
-    → IfOk r (λ answer. answer ≡ done None)
-    → IfOk r (λ answer. None ≡ group_after (Some edits) (Ok line.Abandon) answer)
-abandon_closes (Ok answer) edits is =
-    ap (group_after (Some edits) (Ok line.Abandon)) (sym is)
-abandon_closes (Err memory) edits is = tt
+pub refused_keeps : (r : Result Answer NoMemory) (edits : List Edit) (command : Command)
+    (why : reason.Refused) → IfOk r (λ answer. answer ≡ refused why)
+    → IfOk r (λ answer. edits ≡ edits_after edits answer command)
+refused_keeps (Ok answer) edits command why is =
+    ap (λ (a : Answer). edits_after edits a command) (sym is)
+refused_keeps (Err memory) edits command why is = tt
+
+-- the group stays open, with what it holds then
+pub stays_open : (edits more : List Edit) (command : Command) (answer : Answer)
+    → more ≡ edits_after edits answer command → (is_end command && is_printed answer) ≡ false
+    → Some more ≡ group_after (Some edits) (Ok command) answer
+stays_open edits more (line.Edit e) (Printed text) is open_still = ap Some is
+stays_open edits more line.Commit (Printed text) is open_still = absurd (true≢false open_still)
+stays_open edits more line.Abandon (Printed text) is open_still = absurd (true≢false open_still)
+stays_open edits more command (Printed text) is open_still = ap Some is
+stays_open edits more command answer is open_still = ap Some is
+
+-- or it is closed
+pub closes : (edits : List Edit) (command : Command) (answer : Answer)
+    → (is_end command && is_printed answer) ≡ true
+    → None ≡ group_after (Some edits) (Ok command) answer
+closes edits line.Commit (Printed text) both = refl
+closes edits line.Abandon (Printed text) both = refl
+closes edits command answer both = absurd (true≢false (sym both))
 
 -- ---- while no group is open
 
@@ -71,6 +95,10 @@ opened m command (Ok answer) old new group does is = is ∙ opens m command answ
 opened m command (Err memory) old new group does is = tt
 
 -- ---- while one is open no file is asked for
+
+pub asks_open : (asked : Option (List (List ℕ))) (edits : List Edit) (s : State)
+    (said : Result Command LineFault) → AsksFor asked asked (asks_by (Some edits) s said)
+asks_open asked edits s said = asks_none asked
 
 abbrev fault_of : Result Answer NoMemory → Bool
 fault_of (Ok answer) = fetches answer

@@ -112,8 +112,8 @@ fetches answer = false
 -- a command while no group is open
 pub does_alone : (m : Machine) (command : Command) (new : State) (answer : Answer)
     → m.group ≡ None → Does m command answer new → DoesAlone m command answer new
-does_alone m command new answer none does =
-    subst (λ (open_group : Option (List Edit)). DoesBy open_group m command answer new) none does
+does_alone m command new answer shut does =
+    subst (λ (open_group : Option (List Edit)). DoesBy open_group m command answer new) shut does
 
 -- whether an answer ends the run, and whether it is a file's
 abbrev pub ends_or_fetches : Answer → Bool × Bool

@@ -246,6 +246,17 @@ abbrev pub is_printed : Answer → Bool
 is_printed (Printed text) = true
 is_printed answer = false
 
+-- a command that closes a group where it is accepted
+abbrev pub is_end : Command → Bool
+is_end line.Commit = true
+is_end line.Abandon = true
+is_end command = false
+
+-- the edits that are held after a command in an open group was answered so, before it is closed
+abbrev pub edits_after : List Edit → Answer → Command → List Edit
+edits_after edits (Printed text) (line.Edit e) = edits ++ e ∷ []
+edits_after edits answer command = edits
+
 -- the group after a line that was answered so
 abbrev pub group_after : Option (List Edit) → Result Command LineFault → Answer → Option (List Edit)
 group_after group said (Printed text) = group_by group said

@@ -1,11 +1,11 @@
 //! What lines do by whether a group of edits is open.
-ghost use Rattle.std.specs.Prelude.{◌≡◌, ◌≢◌, ◌≤◌, ◌∷◌, ◌++◌, [], IfOk, None, Ok, OnOk, false, true};
+ghost use Rattle.std.specs.Prelude.{◌≡◌, ◌≢◌, ◌≤◌, ◌&&◌, ◌∷◌, ◌++◌, [], IfOk, None, Ok, OnOk, false, true};
 ghost use Rattle.cache_layer.specs.Answers.{IsGrouped};
 ghost use Rattle.cache_layer.specs.Cached.{state_of};
 ghost use Rattle.edit_engine.specs.Counts.{TakesFew};
 ghost use Rattle.edit_engine.specs.Held.{KeepsRefused};
 ghost use Rattle.edit_engine.specs.Lines.{asks_by, is_load};
-ghost use Rattle.edit_engine.specs.Script.{DoesBy, Makes, Tells, group_after, group_answer, group_by, held as is_held, is_printed, machine_by};
+ghost use Rattle.edit_engine.specs.Script.{DoesBy, DoesInGroup, Makes, Tells, edits_after, group_after, group_answer, group_by, held as is_held, is_end, is_printed, machine_by};
 ghost use Rattle.io_face.specs.Fault.{HasFaulted};
 ghost use Rattle.io_face.specs.Shelf.{AsksFor};
 ghost use Rattle.io_face.specs.Told.{told_by};
@@ -55,33 +55,63 @@ pub(crate) fn obey<B: Bridge, H: Shelf>(
             open_for(alloc, group, &command);
             obey_alone(alloc, cache, pivots, shelf, command)
         }
-        Some(edits) => match command {
-            Command::Silent => Ok(Answer::Silent),
-            Command::Quit => Ok(Answer::Quit),
-            Command::Edit(edit) => hold(alloc, edits, edit),
-            Command::Commit => {
-                let answer = commit(alloc, cache, edits)?;
-                if is_accepted(&answer) {
-                    *group = None;
-                }
-                Ok(answer)
-            }
-            Command::Abandon => {
+        Some(edits) => {
+            let may_close = ends_group(&command);
+            let answer = obey_in_group(alloc, cache, edits, command)?;
+            if closes(may_close, &answer) {
                 *group = None;
-                done(alloc, None)
+                return Ok(answer);
             }
-            Command::Begin | Command::Target(_) | Command::Support { .. } => {
-                refuse(alloc, &Refused::GroupOpen)
-            }
-            Command::Cost { .. } | Command::Switch { .. } | Command::Attach | Command::Detach => {
-                refuse(alloc, &Refused::GroupOpen)
-            }
-            Command::Optimize(_) | Command::Bridged | Command::Plan | Command::Write => {
-                refuse(alloc, &Refused::GroupOpen)
-            }
-            Command::Load(_) => refuse(alloc, &Refused::GroupOpen),
-        },
+            Ok(answer)
+        }
     }
+}
+
+// A command while a group of these edits is open.
+fn obey_in_group<B: Bridge>(
+    alloc: Global,
+    cache: &mut CacheOver<B>,
+    edits: &mut Edits,
+    command: Command,
+) -> Result<Answer, Memory>
+    ensures step { let old = state_of cache.old in
+        Makes (DoesInGroup old edits.old command) old result (state_of cache.new) }
+    ensures edits { IfOk result (λ answer. edits.new ≡ edits_after edits.old answer command) }
+    ensures untouched { IfOk result (λ answer. KeepsRefused answer cache.old cache.new) }
+    ensures few { IfOk result (λ answer. TakesFew answer cache.old.lazy cache.new.lazy) }
+    ensures unread { is_load (Ok command) ≡ true → result ≢ Ok Answer.ReadFault }
+{
+    match command {
+        Command::Silent => Ok(Answer::Silent),
+        Command::Quit => Ok(Answer::Quit),
+        Command::Edit(edit) => hold(alloc, edits, edit),
+        Command::Commit => commit(alloc, cache, edits),
+        Command::Abandon => done(alloc, None),
+        Command::Begin | Command::Target(_) | Command::Support { .. } => {
+            refuse(alloc, &Refused::GroupOpen)
+        }
+        Command::Cost { .. } | Command::Switch { .. } | Command::Attach | Command::Detach => {
+            refuse(alloc, &Refused::GroupOpen)
+        }
+        Command::Optimize(_) | Command::Bridged | Command::Plan | Command::Write => {
+            refuse(alloc, &Refused::GroupOpen)
+        }
+        Command::Load(_) => refuse(alloc, &Refused::GroupOpen),
+    }
+}
+
+// Whether a command that is accepted closes a group.
+fn ends_group(command: &Command) -> bool
+    ensures { result ≡ is_end command.now }
+{
+    matches!(command, Command::Commit | Command::Abandon)
+}
+
+// Whether a group is closed, by whether its command ends it and by what that was answered.
+fn closes(may_close: bool, answer: &Answer) -> bool
+    ensures { result ≡ (may_close && is_printed answer.now) }
+{
+    may_close && matches!(answer, Answer::Printed(_))
 }
 
 // Opens a group at a command that opens one.
@@ -133,10 +163,4 @@ fn tell(alloc: Global, made: Result<Option<u64>, GroupFault>) -> Result<Answer, 
         Err(GroupFault::Overflow { place }) => refuse(alloc, &Refused::Overflow { place }),
         Err(GroupFault::Memory) => Err(Memory),
     }
-}
-
-fn is_accepted(answer: &Answer) -> bool
-    ensures { result ≡ is_printed answer.now }
-{
-    matches!(answer, Answer::Printed(_))
 }

@@ -1,14 +1,12 @@
-use Rattle.std.proofs.Common.{List, Ok, Option, refl, subst, sym}
-use Rattle.std.specs.Prelude.{IfOk, None, OnOk, ◌≡◌}
+use Rattle.std.proofs.Common.{List, Ok, Option, ap, subst, sym, ◌∙◌}
+use Rattle.std.specs.Prelude.{IfOk, None, OnOk, Some, ◌&&◌, ◌≡◌}
 use Rattle.cache_layer.specs.Cached.{state_of}
 use Rattle.edit_engine.specs.Lines.{asks_by}
-use Rattle.edit_engine.specs.Script.{DoesBy, Makes, group_after, machine_by}
-use Rattle.edit_engine.proofs.FewTold.{few_stays}
-use Rattle.edit_engine.proofs.Grouped.{opened}
+use Rattle.edit_engine.specs.Script.{DoesBy, Makes, group_after, is_printed, machine_by}
+use Rattle.edit_engine.proofs.Grouped.{closes, opened, stays_open}
 use Rattle.edit_engine.proofs.groups.obey.Goals as goal
 use Rattle.io_face.specs.Shelf.{AsksFor}
 use Rattle.io_face.specs.Told.{Told, told_by}
-use Rattle.report_core.specs.declared.answer.Answer.TheVariants.{Quit, Silent}
 use Rattle.user_model.specs.declared.edit.Edit.{Edit}
 
 -- ---- no group is open
@@ -40,36 +38,21 @@ returns-in-None-clause-asks g c = λ on.
     (asks_by o (state_of c.args.cache.now) (Ok c.args.command)))) (sym c.in-None.is)
     (c.obey_alone.ensures.asks on)
 
--- ---- a group is open: the solver's model is not called but by a commit
+-- ---- a group is open
 
-pub returns-in-Silent-clause-few : goal.returns-in-Silent-clause-few
-returns-in-Silent-clause-few g c =
-    few_stays (Ok Silent) c.args.cache.now.lazy c.args.cache.now.lazy refl
+pub returns-then-closes-clause-group : goal.returns-then-closes-clause-group
+returns-then-closes-clause-group g c =
+    subst (λ (o : Option (List Edit)).
+    None ≡ group_after o (Ok c.args.command) c.in_ok-answer-in-Some.answer) (sym c.in-Some.is)
+    (closes c.in-Some.edits c.args.command c.in_ok-answer-in-Some.answer
+    (ap (λ b. b && is_printed c.in_ok-answer-in-Some.answer) (sym c.ends_group-may_close.ensures)
+    ∙ sym c.closes.ensures ∙ c.if-closes.true))
 
-pub returns-in-Quit-clause-few : goal.returns-in-Quit-clause-few
-returns-in-Quit-clause-few g c =
-    few_stays (Ok Quit) c.args.cache.now.lazy c.args.cache.now.lazy refl
-
-pub returns-in-Edit-clause-few : goal.returns-in-Edit-clause-few
-returns-in-Edit-clause-few g c =
-    few_stays c.hold.result c.args.cache.now.lazy c.args.cache.now.lazy refl
-
-pub returns-in-Abandon-clause-few : goal.returns-in-Abandon-clause-few
-returns-in-Abandon-clause-few g c =
-    few_stays c.done.result c.args.cache.now.lazy c.args.cache.now.lazy refl
-
-pub returns-in-Begin-clause-few : goal.returns-in-Begin-clause-few
-returns-in-Begin-clause-few g c =
-    few_stays c.refuse.result c.args.cache.now.lazy c.args.cache.now.lazy refl
-
-pub returns-in-Cost-clause-few : goal.returns-in-Cost-clause-few
-returns-in-Cost-clause-few g c =
-    few_stays c.refuse-in-Cost.result c.args.cache.now.lazy c.args.cache.now.lazy refl
-
-pub returns-in-Optimize-clause-few : goal.returns-in-Optimize-clause-few
-returns-in-Optimize-clause-few g c =
-    few_stays c.refuse-in-Optimize.result c.args.cache.now.lazy c.args.cache.now.lazy refl
-
-pub returns-clause-few : goal.returns-clause-few
-returns-clause-few g c =
-    few_stays c.refuse-in-Load.result c.args.cache.now.lazy c.args.cache.now.lazy refl
+pub returns-else-closes-clause-group : goal.returns-else-closes-clause-group
+returns-else-closes-clause-group g c =
+    subst (λ (o : Option (List Edit)). Some c.obey_in_group.new.edits
+    ≡ group_after o (Ok c.args.command) c.in_ok-answer-in-Some.answer) (sym c.in-Some.is)
+    (stays_open c.in-Some.edits c.obey_in_group.new.edits c.args.command
+    c.in_ok-answer-in-Some.answer c.in_ok-answer-in-Some.ensures.edits
+    (ap (λ b. b && is_printed c.in_ok-answer-in-Some.answer) (sym c.ends_group-may_close.ensures)
+    ∙ sym c.closes.ensures ∙ c.if-closes.false))
