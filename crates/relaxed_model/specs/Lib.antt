@@ -1,0 +1,10 @@
+pub mod Relaxed
+pub mod SlackLaws
+pub mod FunctionLaws
+pub mod RowLaws
+pub mod OwnLaws
+pub mod PlacedLaws
+pub mod LeastLaws
+pub mod SoftDuals
+pub mod HardLaws
+pub mod NameLaws
