@@ -1,0 +1,6 @@
+mod Cuts
+mod Digits
+mod InStep
+mod NameSteps
+mod PlaceSteps
+mod ReadSteps

@@ -1,0 +1,4 @@
+mod Folds
+mod Made
+mod MatrixSteps
+mod Told
