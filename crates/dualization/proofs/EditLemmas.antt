@@ -52,7 +52,7 @@ few_components : (groups : List Group) (r : Row) → IsValidRow groups r → Has
 few_components groups r h = omega (arith, h.limit, component_count r.func)
 
 module _ (model : ModelValue) (valid : IsValid model) where
-  few : All HasFewComponents model.rows
+  pub few : All HasFewComponents model.rows
   few = All-weaker (IsValidRow model.groups) HasFewComponents (few_components model.groups) model.rows
       valid.parts.valid_rows
 

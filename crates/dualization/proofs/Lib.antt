@@ -14,3 +14,6 @@ pub mod MadeLemmas
 pub mod LoopLemmas
 pub mod WholeLemmas
 pub mod ZeroLemmas
+pub mod PassedLemmas
+pub mod LimitLemmas
+pub mod PointLemmas

@@ -47,7 +47,7 @@ after_both : (es fs : List Edit) (model : ModelValue)
 after_both [] fs model = refl
 after_both (e ∷ es) fs model = after_both es fs (edited model e)
 
-abbrev state : List Group → List Row → Objective → ℕ → ℕ → ℕ → ModelValue
+abbrev pub state : List Group → List Row → Objective → ℕ → ℕ → ℕ → ModelValue
 state groups rows objective n m r = record {
   groups = groups;
   rows = rows;
@@ -61,12 +61,12 @@ along a b c = omega arith
 stay : (n : ℕ) → n ≡ n + 0
 stay n = omega arith
 
-from_none : (n : ℕ) → 0 + n ≡ n
+pub from_none : (n : ℕ) → 0 + n ≡ n
 from_none n = omega arith
 
 -- ---- groups
 
-groups_made : (gs : List NewGroup) (groups : List Group) (n m : ℕ)
+pub groups_made : (gs : List NewGroup) (groups : List Group) (n m : ℕ)
     → all_edited (state groups [] objective.Feasibility n m 0) (map edit_of_group gs)
     ≡ state (groups ++ numbered_groups n m gs) [] objective.Feasibility (n + length gs)
     (m + variable_count gs) 0
@@ -94,7 +94,7 @@ names_on n (name ∷ ns) ms =
     ∙ ap (λ k. numbered_from (suc n) ns ++ numbered_from k ms) on)
 
 -- the variables of numbered groups, one after another
-variables_are : (id n : ℕ) (gs : List NewGroup)
+pub variables_are : (id n : ℕ) (gs : List NewGroup)
     → variables_of (numbered_groups id n gs) ≡ numbered_from n (flat_map (λ g. g.names) gs)
 variables_are id n [] = refl
 variables_are id n (g ∷ gs) =
@@ -111,7 +111,7 @@ differs [] first j h lt = absurd (omega (arith, lt))
 differs (m ∷ names) first zero h lt = h.0
 differs (m ∷ names) first (suc j) h lt = differs names first j h.1 (omega (arith, lt))
 
-found_there : (names : List (List ℕ)) (n j : ℕ) → IsDistinct bytes_eq names → j < length names
+pub found_there : (names : List (List ℕ)) (n j : ℕ) → IsDistinct bytes_eq names → j < length names
     → option_map (λ (v : GroupVar). v.number) (found names n (slice_index_or names j []))
     ≡ Some (n + j)
 found_there [] n j d lt = absurd (omega (arith, lt))
@@ -143,10 +143,10 @@ gathered_is ts k rise =
 
 module _ (names : List (List ℕ)) (distinct : IsDistinct bytes_eq names) where
   -- one of the first variables, of which there are as many as names
-  abbrev IsFirst : Address → Type 0
+  abbrev pub IsFirst : Address → Type 0
   IsFirst at = (j : ℕ) × (j < length names) × (at ≡ variable_address j)
 
-  abbrev HasFirst : Function → Type 0
+  abbrev pub HasFirst : Function → Type 0
   HasFirst f = All (λ t. IsFirst t.0) (terms_of f)
 
   -- a model with just these variables
@@ -211,7 +211,7 @@ module _ (names : List (List ℕ)) (distinct : IsDistinct bytes_eq names) where
       (terms_from (suc n) qs) (n, omega (arith, h), refl)
       (first_terms (suc n) qs (omega (arith, h)))
 
-  has_first : (qs : List Rational) (k : Rational) → length qs ≤ length names
+  pub has_first : (qs : List Rational) (k : Rational) → length qs ≤ length names
       → HasFirst (function_of (terms_from 0 qs) k)
   has_first qs k h =
       subst (All (λ t. IsFirst t.0)) (sym (terms-function_of (terms_from 0 qs) k (from_rises 0 qs)))
@@ -219,13 +219,13 @@ module _ (names : List (List ℕ)) (distinct : IsDistinct bytes_eq names) where
       (first_terms 0 qs (omega (arith, h))))
 
   module _ (model : ModelValue) (n : ℕ) (columns : ColumnsFit model n) where
-    left_first : n ≤ length names → (v : Address) → HasFirst (left_for model v)
+    pub left_first : n ≤ length names → (v : Address) → HasFirst (left_for model v)
     left_first size v =
         let column : List Rational = column_in model.rows v in
         has_first (negated column) (cost_of model v)
         (omega (arith, size, columns v, length-negated column))
 
-    less_two_first : n + 2 ≤ length names → (v : Address) → HasFirst (left_less_two model n v)
+    pub less_two_first : n + 2 ≤ length names → (v : Address) → HasFirst (left_less_two model n v)
     less_two_first size v =
         let column : List Rational = column_in model.rows v in
         let two : List Rational = neg_ℚ one_ℚ ∷ neg_ℚ one_ℚ ∷ [] in
@@ -234,13 +234,13 @@ module _ (names : List (List ℕ)) (distinct : IsDistinct bytes_eq names) where
         (has_first (padded (negated column) n two) (cost_of model v)
         (omega (arith, size, length-padded (negated column) two n low)))
 
-    each_first : (f : Address → Function) → ((v : Address) → HasFirst (f v)) → (vs : List Address)
+    pub each_first : (f : Address → Function) → ((v : Address) → HasFirst (f v)) → (vs : List Address)
         → All {X = Function} HasFirst (map f vs)
     each_first f h [] = All-nil HasFirst
     each_first f h (v ∷ vs) = All-cons HasFirst (f v) (map f vs) (h v) (each_first f h vs)
 
   -- a row is made again of its edit
-  abbrev IsAgain : Row → Type 0
+  abbrev pub IsAgain : Row → Type 0
   IsAgain r = (m : ModelValue) → HasNames m → located m (function_by_name names r.func) ≡ r.func
 
   abbrev row_with : ℕ → ℕ → Set → List Function → Row
@@ -285,7 +285,7 @@ module _ (names : List (List ℕ)) (distinct : IsDistinct bytes_eq names) where
 
   -- ---- numbers of rows
 
-  abbrev NumberedFrom : ℕ → List Row → Type 0
+  abbrev pub NumberedFrom : ℕ → List Row → Type 0
   NumberedFrom id [] = Unit {0}
   NumberedFrom id (r ∷ rows) = (id ≡ r.id) × NumberedFrom (id + 1) rows
 
@@ -309,7 +309,7 @@ module _ (names : List (List ℕ)) (distinct : IsDistinct bytes_eq names) where
   numbered_row model id k n vs (NormInfinityCone d) = (refl, tt)
   numbered_row model id k n vs (NormOneCone d) = (refl, tt)
 
-  numbered_rows : (model : ModelValue) (id k n : ℕ) (groups : List Group)
+  pub numbered_rows : (model : ModelValue) (id k n : ℕ) (groups : List Group)
       → NumberedFrom id (group_rows model id k n groups)
   numbered_rows model id k n [] = tt
   numbered_rows model id k n (g ∷ groups) =
@@ -319,10 +319,10 @@ module _ (names : List (List ℕ)) (distinct : IsDistinct bytes_eq names) where
       (numbered_row model id k n (addresses_of g.vars) g.set)
       (numbered_rows model (id + length first) (suc k) more groups)
 
-  columns_more : (model : ModelValue) (n more : ℕ) → ColumnsFit model n → ColumnsFit model (n + more)
+  pub columns_more : (model : ModelValue) (n more : ℕ) → ColumnsFit model n → ColumnsFit model (n + more)
   columns_more model n more c v = omega (arith, c v)
 
-  rows_again : (model : ModelValue) (id k n : ℕ) (groups : List Group) → ColumnsFit model n
+  pub rows_again : (model : ModelValue) (id k n : ℕ) (groups : List Group) → ColumnsFit model n
       → n + own_total groups ≤ length names → All IsAgain (group_rows model id k n groups)
   rows_again model id k n [] c h = All-nil IsAgain
   rows_again model id k n (g ∷ groups) c h =
@@ -336,7 +336,7 @@ module _ (names : List (List ℕ)) (distinct : IsDistinct bytes_eq names) where
 
   -- ---- rows
 
-  made_row : (groups : List Group) (rows : List Row) (o : Objective) (n m id : ℕ) (r : Row)
+  pub made_row : (groups : List Group) (rows : List Row) (o : Objective) (n m id : ℕ) (r : Row)
       → variables_of groups ≡ numbered_from 0 names → id ≡ r.id → IsAgain r
       → edited (state groups rows o n m id) (edit_of_row names r)
       ≡ state groups (rows ++ r ∷ []) o n m (id + 1)
@@ -349,7 +349,7 @@ module _ (names : List (List ℕ)) (distinct : IsDistinct bytes_eq names) where
         set = r.set;
       } ∷ []) o n m (id + 1)
 
-  rows_made : (groups : List Group) (o : Objective) (n m id : ℕ) (rs rows : List Row)
+  pub rows_made : (groups : List Group) (o : Objective) (n m id : ℕ) (rs rows : List Row)
       → variables_of groups ≡ numbered_from 0 names → NumberedFrom id rs → All IsAgain rs
       → all_edited (state groups rows o n m id) (map (edit_of_row names) rs)
       ≡ state groups (rows ++ rs) o n m (id + length rs)

@@ -16,7 +16,7 @@ use Rattle.dualization.proofs.MadeLemmas.{all_made}
 use Rattle.dualization.proofs.ValidLemmas.{row_sets}
 
 module _ (model : ModelValue) (valid : IsValid model) where
-  size_of_costs : length (costs model) ≡ length (dual_names model)
+  pub size_of_costs : length (costs model) ≡ length (dual_names model)
   size_of_costs =
       length-append (flat_map (row_costs (at_bounds model)) model.rows)
       (flat_map (λ (g : Group). own_bounds g.set) model.groups)

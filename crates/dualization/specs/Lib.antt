@@ -4,3 +4,4 @@ pub mod Rows
 pub mod Fitting
 pub mod Told
 pub mod Answers
+pub mod Refusals

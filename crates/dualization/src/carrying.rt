@@ -77,7 +77,7 @@ fn carried_rows(alloc: Global, rows: &Rows, x: &[Ratio]) -> Result<Vec<Ratios>, 
 }
 
 // How many variables of the dual hold the duals of a row.
-fn part_count(row: &Row) -> usize
+pub(crate) fn part_count(row: &Row) -> usize
     ensures { result ≡ part_size row.now }
 {
     match row.set {

@@ -9,6 +9,7 @@ ghost use Rattle.user_model.specs.Model.{empty_model};
 ghost use Rattle.dual_model.specs.DualOf.{dual_of_model, opposite, signed};
 ghost use Rattle.dualization.specs.Answers.{IsDual};
 ghost use Rattle.dualization.specs.DualEdits.{all_edited, dual_edits};
+ghost use Rattle.dualization.specs.Refusals.{FullAlone};
 ghost use Rattle.dualization.specs.Rows.{IsObjectiveOf, all_bounds, edit_of_objective};
 
 use crate::DualFault;
@@ -35,11 +36,13 @@ pub type Edits = Sequence<Edit>;
 ///
 /// `Overflow` comes exactly where a product or a sum of the dual's objective exceeds 128 bits: at
 /// the first row whose bound less its constant does, or else at the first variable with which it
-/// does as each variable is moved to the one bound that its creation set has.
+/// does as each variable is moved to the one bound that its creation set has. No edit is refused of
+/// an empty model for anything but a limit.
 pub fn dual(alloc: Global, model: &UserModel) -> Result<Edits, DualFault>
     ensures dual { IsDual model.now.model result }
     ensures made { IfOk result (λ edits. all_edited empty_model edits ≡ dual_of_model model.now.model) }
     ensures holds { HoldsDuals model.now.model }
+    ensures limits { OnOk result (FullAlone model.now.model) }
 {
     let rows = model.rows();
     let objective = model.objective();

@@ -50,8 +50,8 @@ pub(crate) fn push_rows(
     Ok(())
 }
 
-// How many variables a group has of its own.
-fn own_count(set: &Set) -> usize
+/// How many variables a group has of its own.
+pub(crate) fn own_count(set: &Set) -> usize
     ensures { result ≡ length (own_bounds set.now) }
 {
     match set {

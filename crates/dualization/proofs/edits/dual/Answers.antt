@@ -4,6 +4,7 @@ use Rattle.dualization.specs.Fitting.{after_moves, moves, start_sums}
 use Rattle.dualization.specs.Rows.{IsObjectiveOf}
 use Rattle.user_model.specs.Model.{empty_model}
 use Rattle.dualization.specs.DualEdits.{all_edited}
+use Rattle.dualization.proofs.LimitLemmas.{limits_alone}
 use Rattle.dualization.proofs.MovedLemmas.{all_moved}
 use Rattle.dualization.proofs.WholeLemmas.{edits_make}
 use Rattle.dualization.proofs.ValidLemmas.{group_sets, row_sets, variables_apart}
@@ -40,3 +41,6 @@ pub returns-clause-made : goal.returns-clause-made
 returns-clause-made c =
     ap (all_edited empty_model) (c.from_vec.ensures ∙ c.in_ok-edits_with.ensures)
     ∙ edits_make c.args.model.now.model c.rows-rows.ensures.valid
+
+pub returns-clause-limits : goal.returns-clause-limits
+returns-clause-limits c = limits_alone c.args.model.now.model c.rows-rows.ensures.valid

@@ -1,0 +1,169 @@
+-- What is answered to a dual that is solved.
+use Rattle.std.proofs.Common.{◌≡◌, ◌∙◌, ℕ, suc, ◌+◌, List, [], ◌∷◌, ap, ap₂, flat_map, length, length-append, refl, subst, sym, Ok, Err}
+use Rattle.std.specs.Prelude.{IfOk, Result}
+use Rattle.cache_layer.specs.Answers.{IsAttached}
+use Rattle.cache_layer.specs.Outcome.{IsOptimized}
+use Rattle.cache_layer.specs.State.{State}
+use Rattle.cache_layer.specs.declared.fault.AttachFault.{AttachFault}
+use Rattle.cache_layer.specs.declared.fault.OptFault.{OptFault}
+use Rattle.certificates.specs.Good.{IsOptimal, IsUnbounded}
+use Rattle.certificates.specs.declared.certificate.Certificate.{Certificate}
+use Rattle.certificates.specs.declared.certificate.Certificate.TheVariants.{Infeasible, Unbounded}
+use Rattle.dual_command.specs.Says.{NoneRight, SaysCarried, SaysCertificate, SaysDual, SaysOptimized, SaysSolved, pivots}
+use Rattle.dual_command.specs.Text.{duals_text, file_line, none_text, unbounded_text}
+use Rattle.dual_command.specs.declared.command.Task.{Task}
+use Rattle.dual_command.specs.declared.command.Task.TheVariants.{Solve, Write}
+use Rattle.dual_model.specs.Carried.{carried_rows, carried_variables}
+use Rattle.dual_model.specs.DualOf.{NewGroup, dual_of_model, new_groups, numbered_groups, variable_count}
+use Rattle.dual_model.specs.Solved.{AreBestDuals}
+use Rattle.dualization.specs.Answers.{CarriesPoint}
+use Rattle.dualization.specs.declared.carrying.Carried.{Carried}
+use Rattle.dualization.specs.declared.fault.DualFault.{DualFault}
+use Rattle.dualization.specs.declared.fault.DualFault.TheVariants as dual
+use Rattle.file_answers.specs.FileAnswers.{refused}
+use Rattle.fresh_bridging.specs.TheRules.{Setting}
+use Rattle.lists.specs.declared.memory.Memory.{Memory as NoMemory}
+use Rattle.model_command.specs.Alone.{alone}
+use Rattle.model_command.specs.Telling.{attach_fault_answer, optimize_fault_answer}
+use Rattle.ratio_core.specs.Rational.{Rational}
+use Rattle.report_core.specs.declared.answer.Answer.{Answer}
+use Rattle.report_core.specs.declared.answer.Answer.TheVariants.{Printed}
+use Rattle.report_core.specs.declared.refused.Place.{Place}
+use Rattle.report_core.specs.declared.refused.Refused.TheVariants.{Overflow}
+use Rattle.user_model.specs.Edited.{numbered_from}
+use Rattle.user_model.specs.Model.{ModelValue}
+use Rattle.user_model.specs.declared.group.Group.{Group}
+
+-- what holds of an answer, if there is one
+if_told : (P Q : Answer → Type 0) (told : Result Answer NoMemory)
+    → ((answer : Answer) → P answer → Q answer) → IfOk told P → IfOk told Q
+if_told P Q (Ok answer) h p = h answer p
+if_told P Q (Err e) h p = tt
+
+module _ (model : ModelValue) (told : Result Answer NoMemory) where
+  -- ---- the certificate
+
+  pub says_given : (s : State) (c : Certificate) → IsOptimized s pivots (Ok c)
+      → IfOk told (SaysCertificate model c) → IfOk told (SaysOptimized model s)
+  says_given s c outcome =
+      if_told (SaysCertificate model c) (SaysOptimized model s) told
+      (λ answer said. (Ok c, outcome, said))
+
+  pub says_not_given : (s : State) (fault : OptFault) → IsOptimized s pivots (Err fault)
+      → IfOk told (λ answer. answer ≡ optimize_fault_answer fault)
+      → IfOk told (SaysOptimized model s)
+  says_not_given s fault outcome =
+      if_told (λ answer. answer ≡ optimize_fault_answer fault) (SaysOptimized model s) told
+      (λ answer said. (Err fault, outcome, said))
+
+  -- ---- the solver
+
+  pub says_attached : (old after : State) (n : ℕ) → IsAttached old (Ok n) after
+      → IfOk told (SaysOptimized model after) → IfOk told (SaysSolved model old)
+  says_attached old after n is =
+      if_told (SaysOptimized model after) (SaysSolved model old) told
+      (λ answer said. (Ok n, after, is, said))
+
+  pub says_unattached : (old after : State) (fault : AttachFault)
+      → IsAttached old (Err fault) after
+      → IfOk told (λ answer. answer ≡ attach_fault_answer fault)
+      → IfOk told (SaysSolved model old)
+  says_unattached old after fault is =
+      if_told (λ answer. answer ≡ attach_fault_answer fault) (SaysSolved model old) told
+      (λ answer said. (Err fault, after, is, said))
+
+  -- the dual alone
+  pub says_alone : (s : State) (setting : Setting) (dual : ModelValue) → s ≡ alone setting dual
+      → dual ≡ dual_of_model model → IfOk told (SaysSolved model s)
+      → IfOk told (SaysDual model setting Solve)
+  says_alone s setting dual is same =
+      subst (λ t. IfOk told (SaysSolved model t)) (is ∙ ap (alone setting) same)
+
+  -- ---- the task
+
+  pub says_written : (setting : Setting) (task : Task) (dual : ModelValue) → task ≡ Write
+      → dual ≡ dual_of_model model → IfOk told (λ answer. answer ≡ Printed (file_line dual))
+      → IfOk told (SaysDual model setting task)
+  says_written setting task dual is same h =
+      subst (λ t. IfOk told (SaysDual model setting t)) (sym is)
+      (subst (λ m. IfOk told (λ answer. answer ≡ Printed (file_line m))) same h)
+
+  pub says_solved : (setting : Setting) (task : Task) → task ≡ Solve
+      → IfOk told (SaysDual model setting Solve) → IfOk told (SaysDual model setting task)
+  says_solved setting task is h =
+      subst (λ t. IfOk told (SaysDual model setting t)) (sym is) h
+
+  -- ---- by the kind of certificate
+
+  pub says_none : (c : Certificate) (gap : Rational) (rows : List (List Rational))
+      (vars : List Rational) → c ≡ Infeasible gap rows vars → NoneRight model
+      → IfOk told (λ answer. answer ≡ Printed none_text) → IfOk told (SaysCertificate model c)
+  says_none c gap rows vars is none h =
+      subst (λ d. IfOk told (SaysCertificate model d)) (sym is)
+      (if_told (λ answer. answer ≡ Printed none_text)
+      (SaysCertificate model (Infeasible gap rows vars)) told (λ answer said. (none, said)) h)
+
+  pub says_unbounded : (c : Certificate) (x d : List Rational) → c ≡ Unbounded x d
+      → IsUnbounded (dual_of_model model) x d
+      → IfOk told (λ answer. answer ≡ Printed unbounded_text)
+      → IfOk told (SaysCertificate model c)
+  says_unbounded c x d is ray h =
+      subst (λ e. IfOk told (SaysCertificate model e)) (sym is)
+      (if_told (λ answer. answer ≡ Printed unbounded_text)
+      (SaysCertificate model (Unbounded x d)) told (λ answer said. (ray, said)) h)
+
+  -- ---- the way back
+
+  pub says_uncarried : (value : Rational) (x : List Rational) (place : Place)
+      → CarriesPoint model x (Err (dual.Overflow place))
+      → IfOk told (λ answer. answer ≡ refused (Overflow place))
+      → IfOk told (λ answer. (c : Result Carried DualFault) × CarriesPoint model x c
+      × SaysCarried model value c answer)
+  says_uncarried value x place at =
+      if_told (λ answer. answer ≡ refused (Overflow place))
+      (λ answer. (c : Result Carried DualFault) × CarriesPoint model x c
+      × SaysCarried model value c answer) told
+      (λ answer said. (Err (dual.Overflow place), at, said))
+
+  pub says_best : (value : Rational) (x : List Rational) (carried : Carried)
+      → AreBestDuals model value (carried_rows model.rows x)
+      (carried_variables model (carried_rows model.rows x))
+      → CarriesPoint model x (Ok carried)
+      → IfOk told (λ answer. answer
+      ≡ Printed (duals_text model value carried.rows carried.vars))
+      → IfOk told (λ answer. (c : Result Carried DualFault) × CarriesPoint model x c
+      × SaysCarried model value c answer)
+  says_best value x carried best is =
+      if_told (λ answer. answer ≡ Printed (duals_text model value carried.rows carried.vars))
+      (λ answer. (c : Result Carried DualFault) × CarriesPoint model x c
+      × SaysCarried model value c answer) told
+      (λ answer said. (
+        Ok carried,
+        is,
+        (
+          subst (λ rows. AreBestDuals model value rows carried.vars) (sym is.rows)
+              (subst (AreBestDuals model value (carried_rows model.rows x)) (sym is.vars) best),
+          said,
+        ),
+      ))
+
+-- ---- how many numbers a point of the dual has
+
+numbered_count : (n : ℕ) (names : List (List ℕ)) → length (numbered_from n names) ≡ length names
+numbered_count n [] = refl
+numbered_count n (name ∷ names) = ap suc (numbered_count (suc n) names)
+
+group_count : (id n : ℕ) (gs : List NewGroup)
+    → length (flat_map (λ (g : Group). g.vars) (numbered_groups id n gs)) ≡ variable_count gs
+group_count id n [] = refl
+group_count id n (g ∷ gs) =
+    length-append (numbered_from n g.names)
+    (flat_map (λ (h : Group). h.vars) (numbered_groups (suc id) (n + length g.names) gs))
+    ∙ ap₂ ◌+◌ (numbered_count n g.names) (group_count (suc id) (n + length g.names) gs)
+
+pub point_size : (model : ModelValue) (value : Rational) (x : List Rational)
+    (rows : List (List Rational)) (vars : List Rational)
+    → IsOptimal (dual_of_model model) value x rows vars
+    → length x ≡ variable_count (new_groups model)
+point_size model value x rows vars optimal =
+    optimal.feasible.size ∙ group_count 0 0 (new_groups model)

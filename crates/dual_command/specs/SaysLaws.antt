@@ -1,0 +1,74 @@
+-- What is answered to a model is no fault of the shelf.
+use Rattle.std.specs.Prelude.{◌≡◌, ℕ, None, Result, Ok, Err, refl}
+use Rattle.std.proofs.Common.{◌∙◌, ap}
+use Rattle.cache_layer.specs.State.{State}
+use Rattle.cache_layer.specs.declared.fault.AttachFault.{AttachFault}
+use Rattle.cache_layer.specs.declared.fault.AttachFault.TheVariants as attach
+use Rattle.cache_layer.specs.declared.fault.OptFault.{OptFault}
+use Rattle.cache_layer.specs.declared.fault.OptFault.TheVariants as opt
+use Rattle.certificates.specs.declared.certificate.Certificate.{Certificate}
+use Rattle.certificates.specs.declared.certificate.Certificate.TheVariants.{Infeasible, Optimal, Unbounded}
+use Rattle.dual_command.specs.Says.{Says, SaysAttached, SaysCarried, SaysCertificate, SaysDual, SaysGiven, full, made, unfit}
+use Rattle.dual_command.specs.declared.command.Task.{Task}
+use Rattle.dual_command.specs.declared.command.Task.TheVariants.{Solve, Write}
+use Rattle.dualization.specs.declared.carrying.Carried.{Carried}
+use Rattle.dualization.specs.declared.fault.DualFault.{DualFault}
+use Rattle.dualization.specs.declared.fault.DualFault.TheVariants as dual
+use Rattle.file_command.specs.LoadingLaws.{SaysNoFault, shelf_fault}
+use Rattle.fresh_bridging.specs.TheRules.{Setting}
+use Rattle.model_command.specs.Telling.{attach_fault_answer, optimize_fault_answer}
+use Rattle.ratio_core.specs.Rational.{Rational}
+use Rattle.report_core.specs.declared.answer.Answer.{Answer}
+use Rattle.user_model.specs.Model.{ModelValue}
+
+-- an answer that is another
+same_fault : (answer said : Answer) → answer ≡ said → shelf_fault said ≡ None
+    → shelf_fault answer ≡ None
+same_fault answer said is none = ap shelf_fault is ∙ none
+
+attach_fault : (fault : AttachFault) → shelf_fault (attach_fault_answer fault) ≡ None
+attach_fault attach.AlreadyAttached = refl
+attach_fault (attach.Unsupported kind) = refl
+attach_fault (attach.Overflow place) = refl
+attach_fault attach.Memory = refl
+
+optimize_fault : (fault : OptFault) → shelf_fault (optimize_fault_answer fault) ≡ None
+optimize_fault opt.NotAttached = refl
+optimize_fault (opt.TooLarge cells) = refl
+optimize_fault (opt.Overflow place) = refl
+optimize_fault (opt.Limit n) = refl
+optimize_fault opt.Memory = refl
+
+module _ (model : ModelValue) (answer : Answer) where
+  carried_plain : (value : Rational) (carried : Result Carried DualFault)
+      → SaysCarried model value carried answer → shelf_fault answer ≡ None
+  carried_plain value (Ok carried) h = same_fault answer _ h.1 refl
+  carried_plain value (Err (dual.Overflow place)) h = same_fault answer _ h refl
+  carried_plain value (Err dual.Memory) h = absurd h
+
+  certificate_plain : (c : Certificate) → SaysCertificate model c answer
+      → shelf_fault answer ≡ None
+  certificate_plain (Optimal value x rows vars) h = carried_plain value h.0 h.2
+  certificate_plain (Infeasible gap rows vars) h = same_fault answer _ h.1 refl
+  certificate_plain (Unbounded x d) h = same_fault answer _ h.1 refl
+
+  given_plain : (given : Result Certificate OptFault) → SaysGiven model given answer
+      → shelf_fault answer ≡ None
+  given_plain (Ok c) h = certificate_plain c h
+  given_plain (Err fault) h = same_fault answer _ h (optimize_fault fault)
+
+  attached_plain : (made : Result ℕ AttachFault) (s : State) → SaysAttached model made s answer
+      → shelf_fault answer ≡ None
+  attached_plain (Ok leaves) s h = given_plain h.0 h.2
+  attached_plain (Err fault) s h = same_fault answer _ h (attach_fault fault)
+
+  dual_plain : (setting : Setting) (task : Task) → SaysDual model setting task answer
+      → shelf_fault answer ≡ None
+  dual_plain setting Write h = same_fault answer _ h refl
+  dual_plain setting Solve h = attached_plain h.0 h.1 h.3
+
+pub says_plain : (setting : Setting) (task : Task) → SaysNoFault (Says setting task)
+says_plain setting task model answer (made fits leads h) =
+    dual_plain model answer setting task h
+says_plain setting task model answer (full fits refusal leads is) = same_fault answer _ is refl
+says_plain setting task model answer (unfit place at is) = same_fault answer _ is refl

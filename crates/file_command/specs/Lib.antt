@@ -1,0 +1,9 @@
+pub mod Status
+pub mod Words
+pub mod Loading
+pub mod Ending
+pub mod LoadingLaws
+pub mod EndingLaws
+pub mod Left
+pub mod Numbers
+pub mod RunLaws
