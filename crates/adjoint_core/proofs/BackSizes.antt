@@ -29,9 +29,9 @@ use Rattle.bridge_face.specs.ComponentLaws.{length-components}
 use Rattle.bridge_face.specs.DifferenceLaws.{length-differences, length-sums}
 use Rattle.bridge_face.specs.ImageOf.{differences, image_by, inner, inner_functions, sums}
 use Rattle.bridge_face.specs.Images.{affine, children_from, component_of, difference, each_component, first_in, lower_part, rest_of, upper_part, with_set}
-use Rattle.bridge_face.specs.RowsLaws.{length-children_from}
 use Rattle.bridge_face.specs.FamilyLaws.{length-tail}
 use Rattle.bridge_face.specs.OneRowLaws.{IsRow}
+use Rattle.bridge_set.specs.WidthLaws.{few_rows as fewer_rows}
 use Rattle.address_laws.specs.ClassLaws.{class_of_family}
 
 -- ---- rows of numbers alone, by their kinds
@@ -151,12 +151,6 @@ component_count (PlainVec vars t) s h f e =
 component_count (AffineVec funcs t) s h f e = length-map funcs (λ f. Affine f s)
 component_count (PlainObj sense var) s h f e = absurd (true≢false h.no_objective)
 component_count (AffineObj sense func) s h f e = absurd (true≢false h.no_objective)
-
-few_components : (b : Body) (s : Set) → length (each_component b s) ≤ length (functions_of b)
-few_components (PlainVec vars t) s =
-    omega (arith, length-map vars (λ v. Plain v s), length-map vars (variable {R = address_cmp}))
-few_components (AffineVec funcs t) s = omega (arith, length-map funcs (λ f. Affine f s))
-few_components _ s = omega arith
 
 -- rows of one number each
 ones_of : {X : Type 0} (f : X → Body) → ((x : X) → length (functions_of (f x)) ≡ 1)
@@ -313,31 +307,4 @@ back_size family.ObjSlack edge item h ys e = nor_here h.class
 -- the positions of all child rows fit
 pub few_rows : (f : Family) (edge : Edge) (item : Item) → IsValidItem item
     → length (image_by f edge item).groups + length (image_by f edge item).rows ≤ 2 ^ 16
-unfolding image_by
-few_rows family.GreaterLess edge item h = omega arith
-few_rows family.OrthantFlip edge item h = omega arith
-few_rows family.NonposVar edge item h = omega arith
-few_rows family.ObjFlip edge item h = omega arith
-few_rows family.Vectorize edge item h = omega arith
-few_rows family.Scalarize edge item h =
-    let part = component_of (set_of item.body) in
-    omega (
-      arith,
-      length-children_from item 0 (each_component item.body part),
-      few_components item.body part,
-      h.at_most,
-    )
-few_rows family.ScalarFunctionize edge item h = omega arith
-few_rows family.VectorFunctionize edge item h = omega arith
-few_rows family.VectorizeVar edge item h = omega arith
-few_rows family.ObjFunctionize edge item h = omega arith
-few_rows family.SplitSet edge item h = omega arith
-few_rows family.DropReals edge item h = omega arith
-few_rows family.ZerosVar edge item h = omega arith
-few_rows family.FreeVar edge item h = omega arith
-few_rows family.ScalarSlack edge item h = omega arith
-few_rows family.VectorSlack edge item h = omega arith
-few_rows family.Later edge item h = omega arith
-few_rows family.ObjSlack edge item h = omega arith
-few_rows family.NormInfinity edge item h = omega arith
-few_rows family.NormOne edge item h = omega arith
+few_rows f edge item h = omega (arith, fewer_rows f edge item h)

@@ -1,4 +1,4 @@
--- What boxes and the map give holds of the bridging.
+-- What bridges and the map give holds of the bridging.
 use Rattle.std.specs.Prelude.{◌≡◌, zero, suc, Bool, true, false, cond, List, [], ◌∷◌, All, Contains, IfOk, Result, Ok, Err, Some, map, unwrap_or, refl}
 use Rattle.std.specs.FinMap as finite
 use Rattle.std.specs.FinMap.Entries.{find}

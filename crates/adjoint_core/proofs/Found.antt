@@ -1,4 +1,4 @@
--- What boxes keep at an address, where each keeps the nodes of its family.
+-- What bridges keep at an address, where each keeps the nodes of its family.
 use Rattle.std.specs.Prelude.{◌≡◌, zero, suc, Bool, true, false, ◌||◌, cond, List, [], ◌∷◌, All, Contains, Some, None, filter, map, refl}
 use Rattle.std.specs.FinMap as finite
 use Rattle.std.specs.FinMap.Entries.{find}
@@ -8,7 +8,7 @@ use Rattle.std.proofs.Common.{arith, ap, subst, sym, ◌∙◌, true≢false}
 use Rattle.std.proofs.lemmas.List.Elements.{All-head, All-tail}
 use Rattle.aff_core.specs.Address.{Address, address_cmp, address_eq-Decides, address_total}
 use Rattle.aff_core.specs.KeyOrder.{address_order, other_key}
-use Rattle.bridge_set.specs.Boxed.{families_of, kept_among}
+use Rattle.bridge_set.specs.Bridges.{families_of, kept_among}
 use Rattle.bridge_face.specs.State.{State, found}
 use Rattle.bridge_face.specs.declared.kept_item.KeptItem.{KeptItem}
 use Rattle.item_core.specs.Edge.{family_eq, family_of}
@@ -84,49 +84,49 @@ module _ (p : KeptItem → Bool) where
       there_later n k nodes (apart_later nodes n.item.at k d.0 (i, omega (arith, inside), is))
       (find_there nodes k d.1 (i, omega (arith, inside), is)) (p n)
 
--- ---- in boxes
+-- ---- in bridges
 
 abbrev KeepsIts : List KeptItem → State → Type 0
-KeepsIts nodes box = box.kept ≡ kept_among nodes box.family
+KeepsIts nodes bridge = bridge.kept ≡ kept_among nodes bridge.family
 
-found_by : (nodes : List KeptItem) (box : State) (v : Address) → KeepsIts nodes box
-    → found box v
+found_by : (nodes : List KeptItem) (bridge : State) (v : Address) → KeepsIts nodes bridge
+    → found bridge v
     ≡ find address_cmp v
-    (map entry_of (filter (λ n. family_eq (family_of n.edge) box.family) nodes))
+    (map entry_of (filter (λ n. family_eq (family_of n.edge) bridge.family) nodes))
 unfolding kept_among
-found_by nodes box v h =
+found_by nodes bridge v h =
     ap (λ m. finite.get m v) h
     ∙ finite.get-from_entries address_total
-    (map entry_of (filter (λ n. family_eq (family_of n.edge) box.family) nodes)) v
+    (map entry_of (filter (λ n. family_eq (family_of n.edge) bridge.family) nodes)) v
 
 -- at an address at which no node stands nothing is kept
-pub none_kept : (nodes : List KeptItem) (boxes : List State) (v : Address)
-    → All (KeepsIts nodes) boxes → Avoids (map at_of nodes) v → kept_at boxes v ≡ None
+pub none_kept : (nodes : List KeptItem) (bridges : List State) (v : Address)
+    → All (KeepsIts nodes) bridges → Avoids (map at_of nodes) v → kept_at bridges v ≡ None
 unfolding kept_at
 none_kept nodes [] v h n = refl
-none_kept nodes (box ∷ boxes) v h n =
-    ap (λ o. option_or o (kept_at boxes v))
-    (found_by nodes box v (All-head (KeepsIts nodes) box boxes h)
-    ∙ find_avoided (λ n. family_eq (family_of n.edge) box.family) v nodes n)
-    ∙ none_kept nodes boxes v (All-tail (KeepsIts nodes) box boxes h) n
+none_kept nodes (bridge ∷ bridges) v h n =
+    ap (λ o. option_or o (kept_at bridges v))
+    (found_by nodes bridge v (All-head (KeepsIts nodes) bridge bridges h)
+    ∙ find_avoided (λ n. family_eq (family_of n.edge) bridge.family) v nodes n)
+    ∙ none_kept nodes bridges v (All-tail (KeepsIts nodes) bridge bridges h) n
 
--- a node is kept at its address, where there is a box of its family
-pub node_kept : (nodes : List KeptItem) (boxes : List State) (k : KeptItem)
-    → All (KeepsIts nodes) boxes → Distinct (map at_of nodes) → Contains nodes k
-    → list_any (family_eq (family_of k.edge)) (families_of boxes) ≡ true
-    → kept_at boxes k.item.at ≡ Some k
+-- a node is kept at its address, where there is a bridge of its family
+pub node_kept : (nodes : List KeptItem) (bridges : List State) (k : KeptItem)
+    → All (KeepsIts nodes) bridges → Distinct (map at_of nodes) → Contains nodes k
+    → list_any (family_eq (family_of k.edge)) (families_of bridges) ≡ true
+    → kept_at bridges k.item.at ≡ Some k
 unfolding kept_at
 node_kept nodes [] k h d c own = absurd (true≢false (sym own))
-node_kept nodes (box ∷ boxes) k h d c own =
-    ap (λ o. option_or o (kept_at boxes k.item.at))
-    (found_by nodes box k.item.at (All-head (KeepsIts nodes) box boxes h)
-    ∙ find_there (λ n. family_eq (family_of n.edge) box.family) nodes k d c)
-    ∙ by (family_eq (family_of k.edge) box.family) own
-    (λ later. node_kept nodes boxes k (All-tail (KeepsIts nodes) box boxes h) d c later)
+node_kept nodes (bridge ∷ bridges) k h d c own =
+    ap (λ o. option_or o (kept_at bridges k.item.at))
+    (found_by nodes bridge k.item.at (All-head (KeepsIts nodes) bridge bridges h)
+    ∙ find_there (λ n. family_eq (family_of n.edge) bridge.family) nodes k d c)
+    ∙ by (family_eq (family_of k.edge) bridge.family) own
+    (λ later. node_kept nodes bridges k (All-tail (KeepsIts nodes) bridge bridges h) d c later)
   where
-    by : (b : Bool) → (b || list_any (family_eq (family_of k.edge)) (families_of boxes)) ≡ true
-        → (list_any (family_eq (family_of k.edge)) (families_of boxes) ≡ true
-        → kept_at boxes k.item.at ≡ Some k)
-        → option_or (cond b (Some k) None) (kept_at boxes k.item.at) ≡ Some k
+    by : (b : Bool) → (b || list_any (family_eq (family_of k.edge)) (families_of bridges)) ≡ true
+        → (list_any (family_eq (family_of k.edge)) (families_of bridges) ≡ true
+        → kept_at bridges k.item.at ≡ Some k)
+        → option_or (cond b (Some k) None) (kept_at bridges k.item.at) ≡ Some k
     by true e later = refl
     by false e later = later e

@@ -1,4 +1,4 @@
--- The duals of the user's rows, by what boxes keep and along the fresh bridging.
+-- The duals of the user's rows, by what bridges keep and along the fresh bridging.
 use mathlib.Core.List.{map-map}
 use Rattle.std.specs.Prelude.{◌≡◌, ◌+◌, ◌≤◌, ℕ, false, List, [], ◌∷◌, ◌++◌, All, Contains, flat_map, length, map, take, refl}
 use Rattle.std.proofs.Common.{arith, ap, ap₂, get_or, inl, inr, subst, sym, ◌∙◌}
@@ -40,7 +40,7 @@ use Rattle.tree_laws.specs.UserLaws.{item_functions_are}
 use Rattle.adjoint_core.specs.CanCarry.{CanCarry, HasLeafDuals}
 use Rattle.adjoint_core.specs.CarriedBack.{AllRowsFit, IsUnfitRow, RowsFit, UnfitRow}
 use Rattle.adjoint_core.specs.Told.{FirstNot}
-use Rattle.adjoint_core.specs.Walk.{AreWithin, DualFits, IsUnfitAmong, IsWithin, RowDualFits, dual_at, row_dual, row_place}
+use Rattle.adjoint_core.specs.Walk.{AreWithin, DualFits, IsUnfitAmong, IsWithin, RowDualFits, dual_at, levels, row_dual, row_place}
 use Rattle.adjoint_core.proofs.BackSizes.{row_size}
 use Rattle.tree_laws.specs.BesideLaws.{all_beside}
 use Rattle.adjoint_core.proofs.Found.{node_kept, none_kept}
@@ -81,9 +81,9 @@ no_objectives rows =
     by r _ = refl
 
 deep_enough : (rows : List Row)
-    → All (λ (c : Item). 36 ≤ 36 + length c.at.positions) (map row_item rows)
+    → All (λ (c : Item). levels ≤ levels + length c.at.positions) (map row_item rows)
 deep_enough rows =
-    All-map (λ (c : Item). 36 ≤ 36 + length c.at.positions) row_item rows
+    All-map (λ (c : Item). levels ≤ levels + length c.at.positions) row_item rows
     (λ k d lt. omega arith)
 
 -- a dual for each component of each row
@@ -231,12 +231,12 @@ module _ (states : List State) (places : AddressMap) (model : ModelValue) (answe
     all_of_them = take-append_seam items (objective_items model.objective)
 
     walked : RowsWalk can.setting can.costly bridging.choice bridging.chosen can.lawful states
-        can.families d 36 items (RowsFit d (length items) bridging.made.others)
+        can.families d levels items (RowsFit d (length items) bridging.made.others)
         (UnfitRow d (length items) bridging.made.others)
         (take (length items) (backs d bridging.made.others))
     walked =
         subst (λ rows. RowsWalk can.setting can.costly bridging.choice bridging.chosen can.lawful
-        states can.families d 36 rows (RowsFit d (length items) bridging.made.others)
+        states can.families d levels rows (RowsFit d (length items) bridging.made.others)
         (UnfitRow d (length items) bridging.made.others)
         (take (length items) (backs d bridging.made.others))) all_of_them
         (walk_rows can.setting can.costly bridging.choice bridging.chosen can.lawful states
@@ -244,8 +244,8 @@ module _ (states : List State) (places : AddressMap) (model : ModelValue) (answe
         (others_there can.setting can.costly can.lawful can.native model valid bridging)
         (subst (All (λ (c : Item). is_objective c.body ≡ false)) (sym all_of_them)
         (no_objectives model.rows))
-        known free 36
-        (subst (All (λ (c : Item). 36 ≤ 36 + length c.at.positions)) (sym all_of_them)
+        known free levels
+        (subst (All (λ (c : Item). levels ≤ levels + length c.at.positions)) (sym all_of_them)
         (deep_enough model.rows)))
 
     count : length items ≡ length model.rows
@@ -263,30 +263,30 @@ module _ (states : List State) (places : AddressMap) (model : ModelValue) (answe
     rows_carried = record {
       within = record {
         each =
-            all_from_map (IsWithin states d.duals 36) row_place model.rows
-            (subst (All (IsWithin states d.duals 36)) (ats_are model.rows) walked.within);
+            all_from_map (IsWithin states d.duals levels) row_place model.rows
+            (subst (All (IsWithin states d.duals levels)) (ats_are model.rows) walked.within);
         sizes = row_sizes model.rows (map (row_dual states d.duals) model.rows)
             (ap (map length) duals_are ∙ walked.sizes);
       };
       fits = λ h.
-          all_from_map (DualFits states d.duals 36) row_place model.rows
-          (subst (All (DualFits states d.duals 36)) (ats_are model.rows)
+          all_from_map (DualFits states d.duals levels) row_place model.rows
+          (subst (All (DualFits states d.duals levels)) (ats_are model.rows)
           (walked.fits (subst (λ n. RowsFit d n bridging.made.others) (sym count) h)));
       only = λ h.
           subst (λ n. RowsFit d n bridging.made.others) count
-          (walked.only (subst (All (DualFits states d.duals 36)) (sym (ats_are model.rows))
-          (All-map (DualFits states d.duals 36) row_place model.rows h)));
+          (walked.only (subst (All (DualFits states d.duals levels)) (sym (ats_are model.rows))
+          (All-map (DualFits states d.duals levels) row_place model.rows h)));
       unfit = λ at h.
           subst (λ n. UnfitRow d n bridging.made.others at) count
-          (walked.unfit at (subst (λ l. FirstNot (DualFits states d.duals 36) (λ v. v) l at)
+          (walked.unfit at (subst (λ l. FirstNot (DualFits states d.duals levels) (λ v. v) l at)
           (sym (ats_are model.rows))
-          (first_of_rows (DualFits states d.duals 36) model.rows at h)));
+          (first_of_rows (DualFits states d.duals levels) model.rows at h)));
       same = duals_are ∙ ap (λ n. take n (backs d bridging.made.others)) count;
     }
       where
         duals_are : map (row_dual states d.duals) model.rows
             ≡ take (length items) (backs d bridging.made.others)
         duals_are =
-            sym (map-map (dual_at states d.duals 36) row_place model.rows)
-            ∙ ap (map (dual_at states d.duals 36)) (sym (ats_are model.rows))
+            sym (map-map (dual_at states d.duals levels) row_place model.rows)
+            ∙ ap (map (dual_at states d.duals levels)) (sym (ats_are model.rows))
             ∙ walked.same

@@ -25,7 +25,7 @@ kept_of_rows None rows e = absurd (none-some rows e)
 kept_of_rows (Some kept) rows e =
     (kept, refl, sym (same_Some (child_rows_of kept.edge kept.item) rows e))
 
--- the first box that keeps something tells where its child rows stand
+-- the first bridge that keeps something tells where its child rows stand
 pub first_kept : (o p : Option KeptItem) (rows : ChildRows)
     → option_map (λ (kept : KeptItem). child_rows_of kept.edge kept.item) o ≡ Some rows
     → option_or o p ≡ o

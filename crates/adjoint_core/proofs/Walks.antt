@@ -1,4 +1,4 @@
--- What is carried back by what boxes keep is what is carried back along a bridging.
+-- What is carried back by what bridges keep is what is carried back along a bridging.
 use Rattle.std.specs.Prelude.{◌≡◌, ◌+◌, ◌≤◌, ◌⊎◌, ◌||◌, ℕ, zero, suc, Bool, true, false, cond, not, List, [], ◌∷◌, ◌++◌, All, Some, None, length, map, slice_index_or, take, refl}
 use Rattle.std.specs.List.{list_all, list_any, range_with_len}
 use Rattle.std.proofs.Common.{arith, ap, ap₂, get_or, inl, inr, subst, sym, ◌∙◌, true≢false}
@@ -27,7 +27,7 @@ use Rattle.bridge_face.specs.ImageOf.{image_of}
 use Rattle.bridge_face.specs.Law.{is_objective, listed}
 use Rattle.bridge_face.specs.State.{State, child_rows_of}
 use Rattle.bridge_face.specs.declared.kept_item.KeptItem.{KeptItem}
-use Rattle.bridge_set.specs.Boxed.{families_of}
+use Rattle.bridge_set.specs.Bridges.{families_of}
 use Rattle.bridge_plan.specs.Adds.{kept_of}
 use Rattle.fresh_bridging.specs.BodyLaws.{length_put}
 use Rattle.fresh_bridging.specs.CanLaws.{AreLawful, down, same_entry}
@@ -46,7 +46,7 @@ use Rattle.tree_laws.specs.Carried.{LeafDuals, back, backs}
 use Rattle.tree_laws.specs.SeenLaws.{IsRowHere, child_rows_here}
 use Rattle.adjoint_core.specs.CarriedBack.{RowFits, RowsFit, UnfitRow}
 use Rattle.adjoint_core.specs.Told.{FirstNot}
-use Rattle.adjoint_core.specs.Walk.{DualFits, FitsBy, IsWithin, Takes, TakesBy, dual_at, dual_by, kept_at, row_places}
+use Rattle.adjoint_core.specs.Walk.{DualFits, FitsBy, IsWithin, Takes, TakesBy, dual_at, dual_by, kept_at, levels, row_places}
 use Rattle.adjoint_core.proofs.BackSizes.{IsRowFor, back_size, few_rows, is_of_numbers, is_of_vectors, is_scalar_kind, row_size}
 
 -- ---- what the table says of numbers and vectors
@@ -97,10 +97,10 @@ child_depth : (at : Address) (i : ℕ)
     → length (child_of at i).positions ≡ length at.positions + 1
 child_depth at i = length-append at.positions (i ∷ [])
 
-children_deep : (at : Address) (ns : List ℕ) (n : ℕ) → 36 ≤ suc n + length at.positions
-    → All (λ (v : Address). 36 ≤ n + length v.positions) (map (child_of at) ns)
+children_deep : (at : Address) (ns : List ℕ) (n : ℕ) → levels ≤ suc n + length at.positions
+    → All (λ (v : Address). levels ≤ n + length v.positions) (map (child_of at) ns)
 children_deep at ns n h =
-    All-map (λ (v : Address). 36 ≤ n + length v.positions) (child_of at) ns
+    All-map (λ (v : Address). levels ≤ n + length v.positions) (child_of at) ns
     (λ k d lt. omega (arith, h, child_depth at (get_or ns k d)))
 
 -- ---- a node and a leaf, as they are found
@@ -182,7 +182,7 @@ module _ (setting : Setting) (costly : IsCostly (graph_of setting)) (choice : �
   abbrev IsHereRow : Item → Type 0
   IsHereRow item = IsRowHere setting costly choice chosen lawful item
 
-  -- a node is kept where there is a box of its family
+  -- a node is kept where there is a bridge of its family
   pub record Known (node : ℕ × Item) : Type 0 where
     pub kept : list_any (family_eq (family_of (edge_at node.0))) (families_of states) ≡ true
         → kept_at states node.1.at ≡ Some (kept_of node)
@@ -324,16 +324,16 @@ module _ (setting : Setting) (costly : IsCostly (graph_of setting)) (choice : �
         (listed image.objective) 0 (length image.groups) (omega arith)
         (law_of setting costly choice chosen lawful item is.here.can n e).positions)
 
-    deep : (m : ℕ) → 36 ≤ suc m + length item.at.positions
-        → All (λ (c : Item). 36 ≤ m + length c.at.positions) image.rows
+    deep : (m : ℕ) → levels ≤ suc m + length item.at.positions
+        → All (λ (c : Item). levels ≤ m + length c.at.positions) image.rows
     deep m h =
-        all_from_map (λ (v : Address). 36 ≤ m + length v.positions) (λ (c : Item). c.at) image.rows
-        (subst (All (λ (v : Address). 36 ≤ m + length v.positions)) places_are
+        all_from_map (λ (v : Address). levels ≤ m + length v.positions) (λ (c : Item). c.at) image.rows
+        (subst (All (λ (v : Address). levels ≤ m + length v.positions)) places_are
         (children_deep item.at (range_with_len (child_rows_of (edge_at n) item).first
         (child_rows_of (edge_at n) item).count) m h))
 
     node_walks : (m : ℕ) (Fits : Type 0) (Unfit : Address → Type 0)
-        (duals : List (List Rational)) → 36 ≤ suc m + length item.at.positions
+        (duals : List (List Rational)) → levels ≤ suc m + length item.at.positions
         → Known (n, item) → RowsWalk m image.rows Fits Unfit duals
         → Walks (suc m) item (Fits × BackFits (edge_at n) item duals)
         (cond (is_objective item.body) d.objective (back_of (edge_at n) item duals))
@@ -377,7 +377,7 @@ module _ (setting : Setting) (costly : IsCostly (graph_of setting)) (choice : �
       take-append_seam (image_of (edge_at n) item).rows
       (listed (image_of (edge_at n) item).objective)
 
-  no_levels : (item : Item) → IsHereRow item → 36 ≤ length item.at.positions → ⊥
+  no_levels : (item : Item) → IsHereRow item → levels ≤ length item.at.positions → ⊥
   no_levels item is h = omega (arith, h, is.here.can.room)
 
   no_group : (inner : List Entry) (c : Item) → IsHereRow (put_in inner c)
@@ -389,7 +389,7 @@ module _ (setting : Setting) (costly : IsCostly (graph_of setting)) (choice : �
 
     pub walk : {item : Item} {entries : List Entry} (tree : Bridged (rules_by choice) item entries)
         → IsHereRow item → is_objective item.body ≡ false → All Known (nodes tree)
-        → All LeafKnown (leaves tree) → (n : ℕ) → 36 ≤ n + length item.at.positions
+        → All LeafKnown (leaves tree) → (n : ℕ) → levels ≤ n + length item.at.positions
         → Walks n item (RowFits d tree) (back d tree)
     walk {item} tree is row known free zero h = absurd (no_levels item is (omega (arith, h)))
     walk (natively {item} c) is row known free (suc n) h =
@@ -412,7 +412,7 @@ module _ (setting : Setting) (costly : IsCostly (graph_of setting)) (choice : �
         (all_second Known (nodes_of_each groups) (nodes_in others)
         (All-tail Known (edge, item) (nodes_of_each groups ++ nodes_in others) known))
         (all_second LeafKnown (leaves_of_each groups) (leaves_in others) free) n
-        (subst (All (λ (x : Item). 36 ≤ n + length x.at.positions)) (sym (rows_first item edge))
+        (subst (All (λ (x : Item). levels ≤ n + length x.at.positions)) (sym (rows_first item edge))
         (deep item is row edge c n h))))
 
     -- the first k
@@ -421,7 +421,7 @@ module _ (setting : Setting) (costly : IsCostly (graph_of setting)) (choice : �
         → All (λ c. IsHereRow (put_in inner c)) items
         → All (λ c. is_objective c.body ≡ false) (take k items) → All Known (nodes_in trees)
         → All LeafKnown (leaves_in trees) → (n : ℕ)
-        → All (λ (c : Item). 36 ≤ n + length c.at.positions) (take k items)
+        → All (λ (c : Item). levels ≤ n + length c.at.positions) (take k items)
         → RowsWalk n (take k items) (RowsFit d k trees) (UnfitRow d k trees)
         (take k (backs d trees))
     walk_rows zero trees here row known free n low =
@@ -437,10 +437,10 @@ module _ (setting : Setting) (costly : IsCostly (graph_of setting)) (choice : �
         ∙ All-head (λ x. is_objective x.body ≡ false) c (take k items) row)
         (all_first Known (nodes first) (nodes_in more) known)
         (all_first LeafKnown (leaves first) (leaves_in more) free) n
-        (All-head (λ (x : Item). 36 ≤ n + length x.at.positions) c (take k items) low))
+        (All-head (λ (x : Item). levels ≤ n + length x.at.positions) c (take k items) low))
         (walk_rows k more
         (All-tail (λ x. IsHereRow (put_in inner x)) c items here)
         (All-tail (λ x. is_objective x.body ≡ false) c (take k items) row)
         (all_second Known (nodes first) (nodes_in more) known)
         (all_second LeafKnown (leaves first) (leaves_in more) free) n
-        (All-tail (λ (x : Item). 36 ≤ n + length x.at.positions) c (take k items) low))
+        (All-tail (λ (x : Item). levels ≤ n + length x.at.positions) c (take k items) low))

@@ -1,10 +1,10 @@
--- What is asked where an answer is carried back: boxes and a map of addresses hold the fresh
+-- What is asked where an answer is carried back: bridges and a map of addresses hold the fresh
 -- bridging of the user's model, and the answer has a dual for each component of each leaf row.
 use Rattle.std.specs.Prelude.{◌≡◌, List, All, length}
 use Rattle.std.specs.FinMap as finite
 use Rattle.address_map.specs.AddressMap.{AddressMap}
 use Rattle.aff_core.specs.Address.{Address}
-use Rattle.bridge_set.specs.Boxed.{families_of}
+use Rattle.bridge_set.specs.Bridges.{families_of}
 use Rattle.bridge_set.specs.Nodes.{nodes_by}
 use Rattle.bridge_face.specs.State.{State}
 use Rattle.bridge_graph.specs.Hypergraph.{IsCostly}
@@ -31,14 +31,14 @@ HasItsDuals leaves (unbounded x d) = Unit {0}
 
 pub record CanCarry (states : List State) (map : AddressMap) (model : ModelValue)
     (answer : Answer) : Type 0 where
-  -- a table and the families of the boxes
+  -- a table and the families of the bridges
   pub setting : Setting
   pub families : families_of states ≡ setting.families
   pub costly : IsCostly (graph_of setting)
   pub lawful : AreLawful setting
   pub native : SupportsNativeKinds setting
-  -- the fresh bridging by these, as the boxes and the map hold it
+  -- the fresh bridging by these, as the bridges and the map hold it
   pub bridging : FreshBridging setting model
-  pub kept : All (λ (box : State). box.kept ≡ nodes_by bridging box.family) states
+  pub kept : All (λ (bridge : State). bridge.kept ≡ nodes_by bridging bridge.family) states
   pub exprs : map.exprs ≡ expressions_by bridging
   pub duals : HasItsDuals (leaves_of bridging) answer

@@ -1,4 +1,4 @@
--- The dual of a row by what boxes keep: that of a leaf row is given, and that of a kept one is what
+-- The dual of a row by what bridges keep: that of a leaf row is given, and that of a kept one is what
 -- its edge makes of its child rows' duals, down to a number of levels.
 use Rattle.std.specs.Prelude.{◌+◌, ◌<◌, ◌≤◌, ◌^◌, ℕ, zero, suc, List, [], ◌∷◌, All, Option, Some, None, length, map}
 use Rattle.std.specs.List.{range_with_len}
@@ -6,6 +6,7 @@ use Rattle.std.specs.Option.{option_or}
 use Rattle.ratio_core.specs.Rational.{Rational}
 use Rattle.aff_core.specs.Address.{Address, child_of, root_address}
 use Rattle.aff_core.specs.declared.root.Root.TheVariants as root
+use Rattle.item_core.specs.Kind.{kind_count}
 use Rattle.bridge_face.specs.BackOf.{BackFits, back_of}
 use Rattle.bridge_face.specs.State.{State, TakesDuals, child_rows_of, found}
 use Rattle.bridge_face.specs.declared.child_rows.ChildRows.{ChildRows}
@@ -14,7 +15,7 @@ use Rattle.cert_core.specs.Checked.{HasRowDuals}
 use Rattle.user_model.specs.declared.row.Row.{Row}
 use Rattle.adjoint_core.specs.Told.{FirstNot}
 
--- what the first of the boxes keeps that keeps something at the address
+-- what the first of the bridges keeps that keeps something at the address
 unfoldable pub kept_at : List State → Address → Option KeptItem
 kept_at [] at = None
 kept_at (s ∷ ss) at = option_or (found s at) (kept_at ss at)
@@ -33,9 +34,9 @@ pub record Takes (below : Address → List Rational) (at : Address) (kept : Kept
   pub places : (child_rows_of kept.edge kept.item).first
       + (child_rows_of kept.edge kept.item).count ≤ 2 ^ 16
 
--- below an item there stand fewer levels than the 35 kinds
+-- an item stands at most one level a kind deep; one more for the walk to end
 abbrev pub levels : ℕ
-levels = 36
+levels = suc kind_count
 
 abbrev pub row_place : Row → Address
 row_place r = root_address root.Row r.id

@@ -27,7 +27,7 @@ use crate::values::{values, values_and_entries};
 use address_map::AddressMap;
 use aff_core::{Address, Root};
 use bridge_face::Bridge;
-use cert_core::{Certificate, Point, Reading, Variables, reading_of};
+use cert_core::{Certificate, Point, ValueOrSlope, Variables, reading_of};
 use lists::Sequence;
 use model_store::UserModel;
 use ratio_core::{Ratio, Ratios};
@@ -105,7 +105,11 @@ fn value_at(model: &UserModel, variables: &Variables, x: &[Ratio]) -> Result<Rat
     ensures { TellsAt result (ObjectiveFits model.now.model one_ℚ x.now)
         (λ q. q ≡ objective_value model.now.model x.now) (root_address Objective 0) }
 {
-    match reading_of(model.objective(), Reading::Value, &Point::new(variables, x)) {
+    match reading_of(
+        model.objective(),
+        ValueOrSlope::Value,
+        &Point::new(variables, x),
+    ) {
         Ok(value) => Ok(value),
         Err(fault) => Err(BackFault::of_number(&Address::root(Root::Objective, 0), fault)),
     }

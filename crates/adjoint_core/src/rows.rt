@@ -11,6 +11,7 @@ use crate::BackFault;
 use address_map::AddressMap;
 use aff_core::{Address, Root};
 use bridge_face::{Bridge, ChildRows};
+use item_core::KIND_COUNT;
 use lists::{Memory, Sequence};
 use ratio_core::{NumberFault, Ratio, Ratios};
 use solver_store::LeafDuals;
@@ -18,7 +19,7 @@ use std::alloc::Global;
 use user_model::{Row, Rows};
 
 // A row has fewer levels below it than there are kinds.
-const LEVELS: u8 = 36;
+const LEVELS: u8 = KIND_COUNT as u8 + 1;
 
 /// The duals of the user's rows, in their order.
 pub(crate) fn row_duals<B: Bridge>(

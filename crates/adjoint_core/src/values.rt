@@ -12,7 +12,7 @@ ghost use Rattle.adjoint_core.specs.Told.{FirstNot, Tells, TellsAt};
 use crate::BackFault;
 use address_map::AddressMap;
 use aff_core::Address;
-use cert_core::{Point, Reading};
+use cert_core::{Point, ValueOrSlope};
 use ratio_core::{NumberFault, Ratio};
 use std::alloc::Global;
 
@@ -30,7 +30,7 @@ pub(crate) fn values(
 {
     let mut values = Vec::with_capacity(alloc, users.len())?;
     for user in users {
-        values.push(value(Reading::Value, places, user, at)?)?;
+        values.push(value(ValueOrSlope::Value, places, user, at)?)?;
     }
     Ok(values)
 }
@@ -62,15 +62,15 @@ pub(crate) fn values_and_entries(
     let mut values = Vec::with_capacity(alloc, users.len())?;
     let mut entries = Vec::with_capacity(alloc, users.len())?;
     for user in users {
-        values.push(value(Reading::Value, places, user, at)?)?;
-        entries.push(value(Reading::Slope, places, user, along)?)?;
+        values.push(value(ValueOrSlope::Value, places, user, at)?)?;
+        entries.push(value(ValueOrSlope::Slope, places, user, along)?)?;
     }
     Ok(PointAndRay { values, entries })
 }
 
 // What a variable's expression is at a point, or along a ray.
 fn value(
-    reading: Reading,
+    reading: ValueOrSlope,
     places: &AddressMap,
     user: &Address,
     at: &Point,
@@ -86,7 +86,7 @@ fn value(
 }
 
 fn read(
-    reading: Reading,
+    reading: ValueOrSlope,
     places: &AddressMap,
     user: &Address,
     at: &Point,

@@ -5,7 +5,7 @@ use Rattle.std.proofs.Common.{ap, subst, sym, ◌∙◌}
 use Rattle.std.proofs.lemmas.List.Elements.{All-cons, All-nil}
 use Rattle.any_bridge.specs.declared.bridge.AnyBridge.{AnyBridge}
 use Rattle.any_bridge.specs.States.{fresh, state_of_any}
-use Rattle.bridge_set.specs.Boxed.{families_of, occur_once}
+use Rattle.bridge_set.specs.Bridges.{families_of, occur_once}
 use Rattle.bridge_face.specs.State.{State}
 use Rattle.item_core.specs.declared.family.Family.{Family}
 

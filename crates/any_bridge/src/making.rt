@@ -2,7 +2,7 @@
 ghost use Rattle.std.specs.Prelude.{◌≡◌, All, IfOk, IsTrue, map};
 ghost use Rattle.std.specs.FinMap as finite;
 ghost use Rattle.any_bridge.specs.States.{fresh, state_of_any};
-ghost use Rattle.bridge_set.specs.Boxed.{families_of, occur_once};
+ghost use Rattle.bridge_set.specs.Bridges.{families_of, occur_once};
 ghost use Rattle.script_tokens.specs.declared.family.TheConstants.{FAMILIES};
 
 use crate::AnyBridge;

@@ -116,12 +116,12 @@ sums_of_duals family.NormInfinity = true
 sums_of_duals family.NormOne = true
 sums_of_duals _ = false
 
-pub fits_by : (f : Family) → sums_in_images f ≡ false → (item : Item) → FitsBy f item
+pub unsummed_fits : (f : Family) → sums_in_images f ≡ false → (item : Item) → FitsBy f item
 unfolding FitsBy
-fits_by family.Vectorize none item = absurd (true≢false none)
-fits_by family.NormInfinity none item = absurd (true≢false none)
-fits_by family.NormOne none item = absurd (true≢false none)
-fits_by _ none item = tt
+unsummed_fits family.Vectorize none item = absurd (true≢false none)
+unsummed_fits family.NormInfinity none item = absurd (true≢false none)
+unsummed_fits family.NormOne none item = absurd (true≢false none)
+unsummed_fits _ none item = tt
 
 pub fits_back_by : (f : Family) → sums_of_duals f ≡ false
     → (item : Item) (ys : List (List Rational))
@@ -134,7 +134,7 @@ fits_back_by _ none item ys = tt
 
 module _ {f : Family} (edge : Edge) (own : family_of edge ≡ f) where
   pub image_fits : sums_in_images f ≡ false → (item : Item) → ImageFits edge item
-  image_fits none item = fits_by (family_of edge) (ap sums_in_images own ∙ none) item
+  image_fits none item = unsummed_fits (family_of edge) (ap sums_in_images own ∙ none) item
 
   pub back_fits : sums_of_duals f ≡ false → (item : Item) (ys : List (List Rational))
       → BackFits edge item ys

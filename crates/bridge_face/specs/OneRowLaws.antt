@@ -21,7 +21,7 @@ use Rattle.item_core.specs.Edge.{family_of}
 use Rattle.item_core.specs.Item.{functions_of, is_group, set_of}
 use Rattle.item_core.specs.Valid.{IsValidItem}
 use Rattle.bridge_face.specs.BackOf.{BackFits, BackFitsBy, back_of, first_of}
-use Rattle.bridge_face.specs.FamilyLaws.{Rule, Sourced, back_is, dual_count, dual_sizes, first_size, fits_back_by, fits_by, image_is, kept_by, lawful_by, only, sums_in_images, sums_of_duals}
+use Rattle.bridge_face.specs.FamilyLaws.{Rule, Sourced, back_is, dual_count, dual_sizes, first_size, fits_back_by, unsummed_fits, image_is, kept_by, lawful_by, only, sums_in_images, sums_of_duals}
 use Rattle.bridge_face.specs.ImageOf.{FitsBy, ImageFits}
 use Rattle.bridge_face.specs.Images.{child_at, row_at}
 use Rattle.bridge_face.specs.ChildDualLaws.{carries_duals}
@@ -193,7 +193,7 @@ pub unsummed : {f : Family} {Source : Body → Type 0} {made : Body → Body}
     → UnsummedRule f Source made carry
 unsummed {f} rule no_sum no_dual_sum one_row = record {
   rule = rule;
-  fits = λ item. ((λ h. tt), (λ h. fits_by f no_sum item));
+  fits = λ item. ((λ h. tt), (λ h. unsummed_fits f no_sum item));
   back_fits = λ item y. ((λ h. tt), (λ h. fits_back_by f no_dual_sum item (y ∷ [])));
   one_row = one_row;
 }

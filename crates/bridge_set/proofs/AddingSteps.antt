@@ -11,7 +11,7 @@ use Rattle.bridge_face.specs.State.{Kept, State, found, given}
 use Rattle.bridge_face.specs.declared.kept_item.KeptItem.{KeptItem}
 use Rattle.item_core.specs.Edge.{family_eq, family_of}
 use Rattle.item_core.specs.declared.family.Family.{Family}
-use Rattle.bridge_set.specs.Boxed.{AreKeepable, Boxed, IsFree, at_family, families_of, kept_by}
+use Rattle.bridge_set.specs.Bridges.{AreKeepable, Bridges, IsFree, at_family, families_of, kept_by}
 use Rattle.bridge_set.specs.Turns.{turns_of}
 use Rattle.bridge_set.specs.Adding.{with_one, with_each, AreFree}
 
@@ -69,7 +69,7 @@ is_free at (s ∷ ss) h =
 
 -- ---- a loop over them
 
-pub record AddedSoFar (start now : Boxed) (all left : List KeptItem) : Type 0 where
+pub record AddedSoFar (start now : Bridges) (all left : List KeptItem) : Type 0 where
   pub families : families_of now.states ≡ families_of start.states
   pub table : now.table ≡ start.table
   pub choices : now.choices ≡ start.choices
@@ -79,7 +79,7 @@ pub record AddedSoFar (start now : Boxed) (all left : List KeptItem) : Type 0 wh
   pub free : AreFree left (kept_by now.states)
   pub turns : turns_of now.states + length left ≤ turns_of start.states + length all
 
-module _ (start : Boxed) (all : List KeptItem) where
+module _ (start : Bridges) (all : List KeptItem) where
   pub added_start : AreKeepable (families_of start.states) all → AreFree all (kept_by start.states)
       → AddedSoFar start start all all
   added_start nodes free = record {
@@ -92,7 +92,7 @@ module _ (start : Boxed) (all : List KeptItem) where
     turns = omega arith;
   }
 
-  module _ (now : Boxed) (left rest : List KeptItem) (n : KeptItem) (is : left ≡ n ∷ rest)
+  module _ (now : Bridges) (left rest : List KeptItem) (n : KeptItem) (is : left ≡ n ∷ rest)
       (so_far : AddedSoFar start now all left) where
     abbrev nodes_left : AreKeepable (families_of start.states) (n ∷ rest)
     nodes_left = subst (AreKeepable (families_of start.states)) is so_far.nodes
@@ -138,7 +138,7 @@ later_free n ks (m ∷ ms) h free =
     (All-tail (λ (m : KeptItem). All (λ (k : Family × Kept). finite.get k.1 m.item.at ≡ None) ks) m
     ms free))
 
-module _ (start now after : Boxed) (all left rest : List KeptItem) (n : KeptItem)
+module _ (start now after : Bridges) (all left rest : List KeptItem) (n : KeptItem)
     (is : left ≡ n ∷ rest) (so_far : AddedSoFar start now all left) where
   keepable : AreKeepable (families_of start.states) (n ∷ rest)
   keepable = subst (AreKeepable (families_of start.states)) is so_far.nodes

@@ -11,6 +11,7 @@ use Rattle.bridge_graph.specs.declared.Choice.{Choice}
 use Rattle.bridge_graph.specs.declared.Choice.TheVariants.{By, Missing, Native}
 use Rattle.bridge_graph.specs.declared.EdgeRow.{EdgeRow}
 use Rattle.item_core.specs.declared.edge.TheConstants.{EDGE_ROWS}
+use Rattle.item_core.specs.Kind.{kind_count}
 use Rattle.fresh_bridging.specs.TableLaws.{and_first}
 use Rattle.fresh_bridging.specs.TheRules.{IsChoice, Setting, graph_of}
 
@@ -25,22 +26,22 @@ choice_is graph kind Missing supported first treeless = treeless refl
 
 -- ---- no kind past the table's has a tree
 
-rows_below : list_all (has_kinds_below 35) EDGE_ROWS ≡ true
+rows_below : list_all (has_kinds_below kind_count) EDGE_ROWS ≡ true
 rows_below = refl
 
-source_below : (n : ℕ) (row : EdgeRow) → slice_get EDGE_ROWS n ≡ Some row → row.source < 35
+source_below : (n : ℕ) (row : EdgeRow) → slice_get EDGE_ROWS n ≡ Some row → row.source < kind_count
 source_below n row e =
-    let all = all_at (has_kinds_below 35) EDGE_ROWS n row rows_below e in
-    let first = and_first (nat_lt row.source 35) (nat_le row.count 3)
-    (and_first (nat_lt row.source 35 && nat_le row.count 3)
-    (list_all (λ kind. nat_lt kind 35) (children_of row)) all) in
+    let all = all_at (has_kinds_below kind_count) EDGE_ROWS n row rows_below e in
+    let first = and_first (nat_lt row.source kind_count) (nat_le row.count 3)
+    (and_first (nat_lt row.source kind_count && nat_le row.count 3)
+    (list_all (λ kind. nat_lt kind kind_count) (children_of row)) all) in
     grind (arith, nat_tests, first)
 
-module _ (setting : Setting) (long : length setting.table.supported ≡ 35) where
-  no_edge : {edge kind cost : ℕ} → TreeBy (graph_of setting) edge kind cost → kind < 35
+module _ (setting : Setting) (long : length setting.table.supported ≡ kind_count) where
+  no_edge : {edge kind cost : ℕ} → TreeBy (graph_of setting) edge kind cost → kind < kind_count
   no_edge (via {edge} {cost} {children} {row} usable trees) = source_below edge row usable.row_is
 
-  pub past_kinds : (kind cost : ℕ) → 35 ≤ kind → Tree (graph_of setting) kind cost → ⊥
+  pub past_kinds : (kind cost : ℕ) → kind_count ≤ kind → Tree (graph_of setting) kind cost → ⊥
   past_kinds kind cost past (native supported) =
       none-some true (sym (slice_get_past setting.table.supported kind (omega (arith, long)))
       ∙ supported)

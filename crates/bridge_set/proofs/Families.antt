@@ -9,7 +9,7 @@ use Rattle.item_core.specs.declared.family.Family.{Family}
 use Rattle.item_core.specs.Edge.{family_eq}
 use Rattle.bridge_face.specs.State.{State}
 use Rattle.fresh_bridging.specs.TableLaws.{and_first, and_second, equal_family, family_itself}
-use Rattle.bridge_set.specs.Boxed.{IsChangedFor, at_family, families_of, occur_once}
+use Rattle.bridge_set.specs.Bridges.{IsChangedFor, at_family, families_of, occur_once}
 
 -- of whatever has families
 pub any_map : {A B : Type 0} (p : B → Bool) (f : A → B) (xs : List A)

@@ -15,7 +15,7 @@ use Rattle.item_core.specs.Edge.{family_eq, family_of}
 use Rattle.bridge_face.specs.State.{Kept, State}
 use Rattle.bridge_face.specs.declared.kept_item.KeptItem.{KeptItem}
 use Rattle.bridge_set.specs.Adding.{AreFree, with_each}
-use Rattle.bridge_set.specs.Boxed.{kept_among, kept_by, keeping}
+use Rattle.bridge_set.specs.Bridges.{kept_among, kept_by, keeping}
 
 -- nothing of the list is at the address
 abbrev Misses : Address → List KeptItem → Type 0

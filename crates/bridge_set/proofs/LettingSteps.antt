@@ -1,4 +1,4 @@
--- Items let go one after another: what each box then keeps, and the turns that it takes.
+-- Items let go one after another: what each bridge then keeps, and the turns that it takes.
 use Rattle.std.specs.Prelude.{◌≡◌, ◌⊎◌, ◌≤◌, ◌+◌, ℕ, zero, suc, true, cond, List, [], ◌∷◌, All, IsSome, map, slice_get, slice_set, Some, None, refl}
 use Rattle.std.specs.FinMap as finite
 use Rattle.std.proofs.Common.{inl, inr, arith, sym, ap, ap₂, subst, ◌∙◌}
@@ -10,7 +10,7 @@ use Rattle.bridge_face.specs.State.{Kept, State, found, gone}
 use Rattle.item_core.specs.declared.family.Family.{Family}
 use Rattle.map_laws.specs.OptionLaws.{not_some}
 use Rattle.map_laws.specs.PairLaws.{AllPairs-head, AllPairs-map, AllPairs-tail}
-use Rattle.bridge_set.specs.Boxed.{families_of, kept_by}
+use Rattle.bridge_set.specs.Bridges.{families_of, kept_by}
 use Rattle.bridge_set.specs.Turns.{turns_of}
 use Rattle.bridge_set.proofs.TurnSteps.{one_turn, turns_at}
 use Rattle.bridge_set.specs.Letting.{IsAlone, LetsGo, nowhere, one, without, without_each}

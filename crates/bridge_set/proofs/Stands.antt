@@ -14,7 +14,7 @@ use Rattle.bridge_face.specs.State.{State, all_gone, found, gone}
 use Rattle.map_laws.specs.LoopLaws.{IsPast, any_found, past_more}
 use Rattle.aff_core.specs.Address.{Address}
 use Rattle.std.proofs.lemmas.List.Elements.{All-map}
-use Rattle.bridge_set.specs.Boxed.{IsChangedFor, families_of}
+use Rattle.bridge_set.specs.Bridges.{IsChangedFor, families_of}
 use Rattle.bridge_set.specs.Letting.{LetsGo, one, nowhere}
 use Rattle.bridge_set.proofs.Families.{any_map}
 

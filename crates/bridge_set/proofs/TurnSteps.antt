@@ -1,10 +1,10 @@
--- A call to one box adds one turn at most.
+-- A call to one bridge adds one turn at most.
 use Rattle.std.specs.Prelude.{◌≡◌, ◌≤◌, ◌+◌, ℕ, zero, suc, List, [], ◌∷◌, slice_get, slice_set, Some}
 use Rattle.std.specs.List.{fold}
 use Rattle.std.proofs.Common.{arith, sym, ap, subst, ◌∙◌}
 use Rattle.std.proofs.lemmas.Option.{none-some, same_Some}
 use Rattle.bridge_face.specs.State.{Kept, State, after, one_more}
-use Rattle.bridge_set.specs.Boxed.{IsChangedFor}
+use Rattle.bridge_set.specs.Bridges.{IsChangedFor}
 use Rattle.item_core.specs.declared.family.Family.{Family}
 use Rattle.bridge_set.specs.Turns.{turns_of}
 
@@ -26,7 +26,7 @@ turns_cons x xs = turns_from (0 + x.turns) xs ∙ ap (λ n. n + turns_of xs) (ze
     zero_first : (n : ℕ) → 0 + n ≡ n
     zero_first n = omega arith
 
--- a change of a box that takes a turn at most
+-- a change of a bridge that takes a turn at most
 abbrev pub TakesOne : (State → State) → Type 0
 TakesOne change = (s : State) → (change s).turns ≤ s.turns + 1
 
@@ -36,7 +36,7 @@ one_turn s kept = least s.turns
     least : (n : ℕ) → one_more n ≤ n + 1
     least n = omega arith
 
--- of the box at a place
+-- of the bridge at a place
 pub turns_at : (change : State → State) → TakesOne change → (old : List State) (place : ℕ)
     (s : State) → slice_get old place ≡ Some s
     → turns_of (slice_set old place (change s)) ≤ turns_of old + 1

@@ -1,4 +1,4 @@
--- Steps of the walk over what boxes keep.
+-- Steps of the walk over what bridges keep.
 use Rattle.std.specs.Prelude.{◌≡◌, ℕ, zero, suc, ◌+◌, ◌-◌, ◌≤◌, List, [], ◌∷◌, ◌++◌, Option, Some, None, refl}
 use Rattle.std.specs.Option.{option_map, option_or}
 use Rattle.std.proofs.Common.{arith, sym, ap, ap₂, ◌∙◌}
@@ -6,7 +6,7 @@ use Rattle.std.proofs.lemmas.Option.{none-some, same_Some}
 use Rattle.bridge_face.specs.State.{State, child_rows_of}
 use Rattle.bridge_face.specs.declared.child_rows.ChildRows.{ChildRows}
 use Rattle.bridge_face.specs.declared.kept_item.KeptItem.{KeptItem}
-use Rattle.bridge_set.specs.Walk.{box_places, from_places, here_and, kept_first, places_of, walk}
+use Rattle.bridge_set.specs.Walk.{bridge_places, from_places, here_and, kept_first, places_of, walk}
 use Rattle.aff_core.specs.Address.{Address, child_of}
 
 pub told_first : {X Y : Type 0} (f : X → Y) (o p : Option X) (y : Y) → option_map f o ≡ Some y
@@ -70,7 +70,7 @@ lists_itself tells (suc k) at n m old h e f =
 -- what is answered of the child rows tells of the walk
 pub told_places : (ss : List State) (v : Address) (r : Option ChildRows)
     → r ≡ option_map (λ kept. child_rows_of kept.edge kept.item) (kept_first ss v)
-    → (rows : ChildRows) → r ≡ Some rows → box_places ss v ≡ Some (places_of rows)
+    → (rows : ChildRows) → r ≡ Some rows → bridge_places ss v ≡ Some (places_of rows)
 told_places ss v r is rows e = by (kept_first ss v) (sym is ∙ e)
   where
     by : (o : Option KeptItem) → option_map (λ kept. child_rows_of kept.edge kept.item) o ≡ Some rows
@@ -82,7 +82,7 @@ told_places ss v r is rows e = by (kept_first ss v) (sym is ∙ e)
 
 pub told_nothing : (ss : List State) (v : Address) (r : Option ChildRows)
     → r ≡ option_map (λ kept. child_rows_of kept.edge kept.item) (kept_first ss v)
-    → ((rows : ChildRows) → r ≡ Some rows → ⊥) → box_places ss v ≡ None
+    → ((rows : ChildRows) → r ≡ Some rows → ⊥) → bridge_places ss v ≡ None
 told_nothing ss v r is other = by (kept_first ss v) (λ rows e. other rows (is ∙ e))
   where
     by : (o : Option KeptItem)

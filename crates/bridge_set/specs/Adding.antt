@@ -1,4 +1,4 @@
--- Boxes keep items beside those that they keep.
+-- Bridges keep items beside those that they keep.
 use Rattle.std.specs.Prelude.{◌≡◌, cond, List, [], ◌∷◌, All, None}
 use Rattle.std.specs.FinMap as finite
 use Rattle.bridge_face.specs.State.{Kept}

@@ -1,4 +1,4 @@
--- Boxes let go of what is kept at an address, whichever keeps it.
+-- Bridges let go of what is kept at an address, whichever keeps it.
 use Rattle.std.specs.Prelude.{◌≡◌, ◌⊎◌, ℕ, List, [], ◌∷◌, All, AllPairs, IsSome, slice_get, slice_set, Some, None}
 use Rattle.std.specs.FinMap as finite
 use Rattle.aff_core.specs.Address.{Address}

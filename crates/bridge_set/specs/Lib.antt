@@ -1,4 +1,4 @@
-pub mod Boxed
+pub mod Bridges
 pub mod Sound
 pub mod Nodes
 pub mod Turns

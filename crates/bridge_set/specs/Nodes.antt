@@ -1,6 +1,6 @@
--- The nodes of a fresh bridging, as boxes keep them.
+-- The nodes of a fresh bridging, as bridges keep them.
 use Rattle.std.specs.Prelude.{◌≡◌, List, All, map}
-use Rattle.bridge_set.specs.Boxed.{kept_among}
+use Rattle.bridge_set.specs.Bridges.{kept_among}
 use Rattle.bridge_face.specs.State.{Kept, State}
 use Rattle.bridge_plan.specs.Adds.{kept_of}
 use Rattle.expansion.specs.Read.{model_nodes}
@@ -9,12 +9,12 @@ use Rattle.fresh_bridging.specs.TheRules.{Setting}
 use Rattle.item_core.specs.declared.family.Family.{Family}
 use Rattle.user_model.specs.Model.{ModelValue}
 
--- those of a family, as its box keeps them
+-- those of a family, as its bridge keeps them
 abbrev pub nodes_by : {setting : Setting} {model : ModelValue} → FreshBridging setting model
     → Family → Kept
 nodes_by bridging family = kept_among (map kept_of (model_nodes bridging.made)) family
 
--- each box keeps those by the edges of its family
+-- each bridge keeps those by the edges of its family
 abbrev pub HoldNodes : {setting : Setting} {model : ModelValue} → FreshBridging setting model
     → List State → Type 0
 HoldNodes bridging states = All (λ (s : State). s.kept ≡ nodes_by bridging s.family) states

@@ -1,4 +1,4 @@
--- The turns that boxes have taken.
+-- The turns that bridges have taken.
 use Rattle.std.specs.Prelude.{ℕ, List, sum_by}
 use Rattle.bridge_face.specs.State.{State}
 

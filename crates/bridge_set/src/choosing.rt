@@ -4,8 +4,9 @@ ghost use Rattle.std.specs.List.{list_all};
 ghost use Rattle.bridge_graph.specs.Hypergraph.{hypergraph_of, is_edge_cost};
 ghost use Rattle.bridge_graph.specs.declared.Choice.TheVariants.{Missing};
 ghost use Rattle.item_core.specs.declared.edge.TheConstants.{EDGE_ROWS};
+ghost use Rattle.item_core.specs.Kind.{kind_count};
 ghost use Rattle.fresh_bridging.specs.TheRules.{IsChoice, edges_on, family_number, graph_of, is_usable};
-ghost use Rattle.bridge_set.specs.Boxed.{setting_by};
+ghost use Rattle.bridge_set.specs.Bridges.{setting_by};
 
 use crate::places::has_family;
 use bridge_face::Bridge;
@@ -16,7 +17,7 @@ use item_core::{EDGE_COUNT, EDGE_ROWS, EDGES, EdgeEntry, Family, KIND_COUNT, Tab
 pub(crate) fn graph_of<B: Bridge>(table: &Table, bridges: &[B]) -> Graph<KIND_COUNT, EDGE_COUNT>
     requires { IsTrue (list_all is_edge_cost table.now.cost) }
     ensures graph { result ≡ graph_of (setting_by table.now (map B.state bridges.now)) }
-    ensures kinds { length table.now.supported ≡ 35 }
+    ensures kinds { length table.now.supported ≡ kind_count }
 {
     graph_by(table, &edges_on(table, bridges))
 }
@@ -26,7 +27,7 @@ fn graph_by(table: &Table, on: &[bool; EDGE_COUNT]) -> Graph<KIND_COUNT, EDGE_CO
     requires { IsTrue (list_all is_edge_cost table.now.cost) }
     ensures graph { result
         ≡ hypergraph_of EDGE_ROWS table.now.cost table.now.supported on.now }
-    ensures kinds { length table.now.supported ≡ 35 }
+    ensures kinds { length table.now.supported ≡ kind_count }
 {
     Graph::build(&EDGE_ROWS, &table.cost, &table.supported, on)
 }
@@ -65,9 +66,9 @@ fn is_on(table: &Table, family: Family) -> bool
 
 // The choice of each kind.
 pub(crate) fn choices_of(graph: &Graph<KIND_COUNT, EDGE_COUNT>) -> [Choice; KIND_COUNT]
-    ensures each { (kind : ℕ) → kind < 35
+    ensures each { (kind : ℕ) → kind < kind_count
         → IsChoice graph.now kind (slice_index_or result kind Missing) }
-    ensures kinds { length result ≡ 35 }
+    ensures kinds { length result ≡ kind_count }
 {
     let mut choices = [Choice::Missing; KIND_COUNT];
     for n in 0..KIND_COUNT {

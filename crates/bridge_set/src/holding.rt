@@ -1,4 +1,4 @@
-//! The boxes.
+//! The bridges.
 ghost use Rattle.std.specs.Prelude.{◌≡◌, ◌↔◌, ◌≤◌, ◌+◌, All, IfOk, IfSome, IsNone, IsTrue, OnErr, OnOk, flat_map, length, map, true};
 ghost use Rattle.std.specs.FinMap as finite;
 ghost use Rattle.std.specs.List.{list_all, list_any};
@@ -10,7 +10,7 @@ ghost use Rattle.bridge_face.specs.Law.{IsItemFor};
 ghost use Rattle.bridge_face.specs.State.{all_gone, given, tried};
 ghost use Rattle.fresh_bridging.specs.TheRules.{graph_of};
 ghost use Rattle.bridge_plan.specs.Means.{AreSound};
-ghost use Rattle.bridge_set.specs.Boxed.{AreKeepable, IsFree, at_family, families_of, kept_by, keeping, means_of, occur_once, setting_of};
+ghost use Rattle.bridge_set.specs.Bridges.{AreKeepable, IsFree, at_family, families_of, kept_by, keeping, means_of, occur_once, setting_of};
 ghost use Rattle.bridge_set.specs.Letting.{IsAlone, without, without_each};
 ghost use Rattle.bridge_set.specs.Adding.{AreFree, with_each};
 ghost use Rattle.bridge_set.specs.Turns.{turns_of};
@@ -37,32 +37,32 @@ const LEVELS: u8 = KIND_COUNT as u8;
 ///
 /// Contracts see the table, the choices and the bridges' states.
 #[derive(Drop)]
-pub struct Boxes<B: Bridge> {
+pub struct BridgeSet<B: Bridge> {
     table: Table,
     bridges: Vec<B>,
     graph: Graph<KIND_COUNT, EDGE_COUNT>,
     choices: [Choice; KIND_COUNT],
 }
 
-impl<B: Bridge> Model for Boxes<B> {
-    ghost use Rattle.bridge_set.specs.Boxed.{Boxed, boxed_code};
+impl<B: Bridge> Model for BridgeSet<B> {
+    ghost use Rattle.bridge_set.specs.Bridges.{Bridges, bridges_code};
 
-    ghost Value = { Boxed };
+    ghost Value = { Bridges };
 
-    ghost coded = { boxed_code };
+    ghost coded = { bridges_code };
 
     ghost use Rattle.std.specs.Prelude.{map};
-    ghost use Rattle.bridge_set.specs.Boxed.{boxed_of};
+    ghost use Rattle.bridge_set.specs.Bridges.{bridges_of};
     ghost use Rattle.bridge_set.specs.Sound.{IsSound};
 
-    ghost view = { λ b. boxed_of b.table b.choices (map B.state b.bridges.items) };
+    ghost view = { λ b. bridges_of b.table b.choices (map B.state b.bridges.items) };
 
-    ghost invariant = { λ b. IsSound b.graph (boxed_of b.table b.choices
+    ghost invariant = { λ b. IsSound b.graph (bridges_of b.table b.choices
         (map B.state b.bridges.items)) };
 }
 
-impl<B: Bridge> Boxes<B> {
-    pub fn new(table: Table, bridges: Vec<B>) -> Boxes<B>
+impl<B: Bridge> BridgeSet<B> {
+    pub fn new(table: Table, bridges: Vec<B>) -> BridgeSet<B>
         requires costs { IsTrue (list_all is_edge_cost table.cost) }
         requires once { IsTrue (occur_once (families_of (map B.state bridges.items))) }
         ensures table { result.table ≡ table }
@@ -70,7 +70,7 @@ impl<B: Bridge> Boxes<B> {
     {
         ask_laws(&bridges);
         let graph = graph_of(&table, &bridges);
-        Boxes {
+        BridgeSet {
             choices: choices_of(&graph),
             table,
             bridges,
@@ -223,8 +223,8 @@ impl<B: Bridge> Boxes<B> {
     }
 }
 
-impl<B: Bridge> Rewriter for Boxes<B> {
-    ghost use Rattle.bridge_set.specs.Boxed.{means_of};
+impl<B: Bridge> Rewriter for BridgeSet<B> {
+    ghost use Rattle.bridge_set.specs.Bridges.{means_of};
 
     ghost means = { means_of };
 

@@ -1,5 +1,4 @@
-//! Boxes of bridges, one a family, and how kinds are chosen for by a table and the families that
-//! there are.
+//! Bridges, one a family, and which edge each kind takes, by a table and the bridges that there are.
 #![tactic(auto)]
 
 mod choosing;
@@ -7,5 +6,5 @@ mod holding;
 mod listing;
 mod places;
 
-pub use holding::Boxes;
+pub use holding::BridgeSet;
 pub use places::has_family;

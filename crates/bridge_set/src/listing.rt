@@ -2,7 +2,7 @@
 ghost use Rattle.std.specs.Prelude.{◌≡◌, ◌≤◌, ◌+◌, ◌++◌, OnOk, length, map};
 ghost use Rattle.std.specs.Option.{option_map};
 ghost use Rattle.bridge_face.specs.State.{child_rows_of};
-ghost use Rattle.bridge_set.specs.Walk.{IsNarrow, box_places, kept_first, walk};
+ghost use Rattle.bridge_set.specs.Walk.{IsNarrow, bridge_places, kept_first, walk};
 
 use aff_core::Address;
 use bridge_face::{Bridge, ChildRows};
@@ -31,7 +31,7 @@ pub(crate) fn list_below<B: Bridge>(
     requires narrow { IsNarrow (map B.state bridges.now) }
     requires depth { length at.now.positions + levels ≤ 40 }
     ensures { OnOk result (list.new
-        ≡ list.old ++ walk (box_places (map B.state bridges.now)) levels at.now) }
+        ≡ list.old ++ walk (bridge_places (map B.state bridges.now)) levels at.now) }
 {
     if levels == 0 {
         return Ok(());

@@ -6,7 +6,7 @@ ghost use Rattle.item_core.specs.Edge.{family_eq, family_of};
 ghost use Rattle.bridge_face.specs.ImageOf.{image_of, ImageFits};
 ghost use Rattle.bridge_face.specs.Law.{IsItemFor, IsLawful};
 ghost use Rattle.bridge_face.specs.State.{all_gone, given, tried};
-ghost use Rattle.bridge_set.specs.Boxed.{IsChangedFor, IsFree, families_of};
+ghost use Rattle.bridge_set.specs.Bridges.{IsChangedFor, IsFree, families_of};
 ghost use Rattle.bridge_set.specs.Letting.{LetsGo};
 ghost use Rattle.bridge_set.specs.Turns.{turns_of};
 

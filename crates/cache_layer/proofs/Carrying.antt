@@ -13,7 +13,7 @@ use Rattle.adjoint_core.specs.declared.fault.BackFault.{BackFault}
 use Rattle.adjoint_core.specs.declared.fault.BackFault.TheVariants as back
 use Rattle.address_map.specs.AddressMap.{AddressMap}
 use Rattle.aff_core.specs.Address.{Address, address_eq, address_eq-Decides}
-use Rattle.bridge_set.specs.Boxed.{families_of, means_of}
+use Rattle.bridge_set.specs.Bridges.{families_of, means_of}
 use Rattle.bridge_set.specs.Nodes.{nodes_by}
 use Rattle.bridge_face.specs.State.{State}
 use Rattle.bridge_plan.specs.Means.{AreSound}
@@ -67,8 +67,8 @@ its_duals leaves (unbounded x d) right = tt
 -- ---- and the bridging that stands carries it back
 
 pub can_carry : (lazy : Owned) (model : ModelValue) (states : List State) (places : AddressMap)
-    (answer : Answer) → states ≡ lazy.boxes.states → places ≡ lazy.map
-    → AreSound (means_of lazy.boxes) → IsTrue (supports_native lazy.boxes.table)
+    (answer : Answer) → states ≡ lazy.bridges.states → places ≡ lazy.map
+    → AreSound (means_of lazy.bridges) → IsTrue (supports_native lazy.bridges.table)
     → IsBridgingOf lazy model → IsRight (leaf_model_in lazy) answer
     → CanCarry states places model answer
 can_carry lazy model states places answer same there sound native stands right = record {
@@ -79,7 +79,7 @@ can_carry lazy model states places answer same there sound native stands right =
   native = supported (setting_in lazy) native;
   bridging = stands.bridging;
   kept =
-      subst (All (λ (box : State). box.kept ≡ nodes_by stands.bridging box.family)) (sym same)
+      subst (All (λ (bridge : State). bridge.kept ≡ nodes_by stands.bridging bridge.family)) (sym same)
       stands.kept;
   exprs = ap (λ (m : AddressMap). m.exprs) there ∙ stands.exprs;
   duals =
@@ -87,10 +87,10 @@ can_carry lazy model states places answer same there sound native stands right =
       (subst (λ leaves. IsRight leaves answer) stands.leaves right);
 }
 
--- so does a map and a list of boxes that are the bridging's, of an answer by index
+-- so does a map and a list of bridges that are the bridging's, of an answer by index
 module _ (lazy : Owned) (model : ModelValue) (states : List State) (places : AddressMap)
-    (a : LeafAnswer) (same : states ≡ lazy.boxes.states) (there : places ≡ lazy.map)
-    (sound : AreSound (means_of lazy.boxes)) (native : IsTrue (supports_native lazy.boxes.table))
+    (a : LeafAnswer) (same : states ≡ lazy.bridges.states) (there : places ≡ lazy.map)
+    (sound : AreSound (means_of lazy.bridges)) (native : IsTrue (supports_native lazy.bridges.table))
     (stands : IsBridgingOf lazy model)
     (right : IsRight (leaf_model_in lazy) (answer_of lazy.map a)) where
   right_there : IsRight (leaf_model_in lazy) (answer_of places a)

@@ -2,7 +2,7 @@
 use Rattle.std.specs.Prelude.{◌≡◌, ◌≢◌, ℕ, Bool, true, false, List, [], flat_map, Option, Some, None, Result, Ok, Err, IsErrAnd, refl}
 use Rattle.std.proofs.Common.{ap, sym, subst, ◌∙◌}
 use Rattle.aff_core.specs.Address.{Address, address_cmp, address_total}
-use Rattle.bridge_set.specs.Boxed.{setting_by}
+use Rattle.bridge_set.specs.Bridges.{setting_by}
 use Rattle.fresh_bridging.specs.FreshBridging.{FreshBridging, is_made, leaves_of}
 use Rattle.fresh_bridging.specs.TheRules.{Setting}
 use Rattle.item_core.specs.declared.table.Table.{Table}
@@ -45,7 +45,7 @@ pub fault_of : (old mid : Owned) (table : Table) (model : ModelValue) (fault : P
     → IsBridgedBy old table model (Err fault) mid → IsFaultOf model fault
 fault_of old mid table model (push.Unsupported kind) h = tt
 fault_of old mid table model (push.Overflow at) h =
-    (setting_by table old.boxes.states, h.0.0, h.0.1)
+    (setting_by table old.bridges.states, h.0.0, h.0.1)
 fault_of old mid table model push.Memory h = tt
 
 along : (old mid new : Owned) (table : Table) (model : ModelValue) (fault : PushFault)
@@ -196,17 +196,17 @@ bridged user new_user old new table model n e stands h = (
 
 pub edit_unbridged : (user new_user : Stored) (old new : Owned) (edit : Edit) (model : ModelValue)
     (fault : BridgeFault) → first_refusal user.model edit ≡ None → model ≡ edited user.model edit
-    → new_user ≡ user → IsBridgedInNames old old.boxes.table model (Err fault) new
+    → new_user ≡ user → IsBridgedInNames old old.bridges.table model (Err fault) new
     → IsEdited (state_of (cached user old true)) edit (Err (bridge_fault fault))
     (state_of (cached new_user new (stays (Err (bridge_fault fault)))))
 edit_unbridged user new_user old new edit model fault accepted after e h =
     by fault
-    (unbridged user new_user old new old.boxes.table (edited user.model edit) fault e
-    (subst (λ m. IsBridgedInNames old old.boxes.table m (Err fault) new) after h))
+    (unbridged user new_user old new old.bridges.table (edited user.model edit) fault e
+    (subst (λ m. IsBridgedInNames old old.bridges.table m (Err fault) new) after h))
   where
     by : (fault : BridgeFault)
         → Becomes (state_of (cached user old true))
-        (state_by old old.boxes.table (edited user.model edit)) (Err (bridge_fault fault))
+        (state_by old old.bridges.table (edited user.model edit)) (Err (bridge_fault fault))
         (state_of (cached new_user new (stays (Err (bridge_fault fault)))))
         → IsEdited (state_of (cached user old true)) edit (Err (bridge_fault fault))
         (state_of (cached new_user new (stays (Err (bridge_fault fault)))))
@@ -217,13 +217,13 @@ edit_unbridged user new_user old new edit model fault accepted after e h =
 pub edit_bridged : (user new_user : Stored) (old new : Owned) (edit : Edit) (model : ModelValue)
     (n : ℕ) → first_refusal user.model edit ≡ None → model ≡ edited user.model edit
     → new_user.model ≡ model → IsBridgingOf old user.model
-    → IsBridgedBy old old.boxes.table model (Ok n) new
+    → IsBridgedBy old old.bridges.table model (Ok n) new
     → IsEdited (state_of (cached user old true)) edit (Ok (Some n))
     (state_of (cached new_user new true))
 edit_bridged user new_user old new edit model n accepted after e stands h = (
   accepted,
-  bridged user new_user old new old.boxes.table (edited user.model edit) n (e ∙ after) stands
-      (subst (λ m. IsBridgedBy old old.boxes.table m (Ok n) new) after h),
+  bridged user new_user old new old.bridges.table (edited user.model edit) n (e ∙ after) stands
+      (subst (λ m. IsBridgedBy old old.bridges.table m (Ok n) new) after h),
 )
 
 -- ---- a solver attached
@@ -262,7 +262,7 @@ empty_leaves lazy h =
     }))
 
 pub attached_to : (user : Stored) (old new : Owned) (n : ℕ) → HoldsNothing old
-    → IsBridgedBy old old.boxes.table user.model (Ok n) new
+    → IsBridgedBy old old.bridges.table user.model (Ok n) new
     → IsAttached (state_of (cached user old false)) (Ok n) (state_of (cached user new true))
 attached_to user old new n nothing h =
     let a = standing new (state_of (cached user old false)) h.0 h.1 in (
@@ -277,7 +277,7 @@ attached_to user old new n nothing h =
     )
 
 pub unattached : (user : Stored) (old new : Owned) (fault : BridgeFault)
-    → IsBridgedInNames old old.boxes.table user.model (Err fault) new
+    → IsBridgedInNames old old.bridges.table user.model (Err fault) new
     → IsAttached (state_of (cached user old false)) (Err (attach_fault fault))
     (state_of (cached user new false))
 unattached user old new (bridge.Unsupported kind) h =
@@ -290,7 +290,7 @@ unattached user old new (bridge.Overflow place) h = (
 unattached user old new bridge.Memory h = (refl, same_state user user old new false refl h.1)
 
 pub still_detached : (user : Stored) (old new : Owned) (fault : BridgeFault)
-    → IsBridgedInNames old old.boxes.table user.model (Err fault) new → HoldsNothing old
+    → IsBridgedInNames old old.bridges.table user.model (Err fault) new → HoldsNothing old
     → HoldsNothing new
 still_detached user old new (bridge.Unsupported kind) h nothing = nothing_tried old new h.1 nothing
 still_detached user old new (bridge.Overflow place) h nothing = nothing_tried old new h.1 nothing
@@ -311,7 +311,7 @@ table_answer user new_user old new table model fault given is e h =
 pub edit_answer : (user new_user : Stored) (old new : Owned) (edit : Edit) (model : ModelValue)
     (fault : BridgeFault) (given : EditFault) → given ≡ bridge_fault fault
     → first_refusal user.model edit ≡ None → model ≡ edited user.model edit → new_user ≡ user
-    → IsBridgedInNames old old.boxes.table model (Err fault) new
+    → IsBridgedInNames old old.bridges.table model (Err fault) new
     → IsEdited (state_of (cached user old true)) edit (Err given)
     (state_of (cached new_user new (stays (Err given))))
 edit_answer user new_user old new edit model fault given is accepted after e h =
@@ -336,7 +336,7 @@ by_fault (Err e) fault Q h q = subst (λ x. Q (Err x)) (sym h) q
 
 pub attach_answer : (cache : Cached) (user : Stored) (old new : Owned) (attached : Bool)
     (fault : BridgeFault) (r : Result ℕ AttachFault) → cached user old attached ≡ cache
-    → attached ≡ false → IsBridgedInNames old old.boxes.table user.model (Err fault) new
+    → attached ≡ false → IsBridgedInNames old old.bridges.table user.model (Err fault) new
     → IsErrAnd r (λ e. e ≡ attach_fault fault)
     → IsAttached (state_of cache) r (state_of (cached user new attached))
 attach_answer cache user old new attached fault r view none h given =
@@ -349,7 +349,7 @@ attach_answer cache user old new attached fault r view none h given =
 
 pub attach_done : (cache : Cached) (user : Stored) (old new : Owned) (attached : Bool) (n : ℕ)
     → cached user old attached ≡ cache → attached ≡ false → IsInStep (cached user old attached)
-    → IsBridgedBy old old.boxes.table user.model (Ok n) new
+    → IsBridgedBy old old.bridges.table user.model (Ok n) new
     → IsAttached (state_of cache) (Ok n) (state_of (cached user new true))
 attach_done cache user old new attached n view none step h =
     subst (λ c. IsAttached (state_of c) (Ok n) (state_of (cached user new true))) view
@@ -359,7 +359,7 @@ attach_done cache user old new attached n view none step h =
 
 pub still_in_step : (user : Stored) (old new : Owned) (attached : Bool) (fault : BridgeFault)
     → attached ≡ false → IsInStep (cached user old attached)
-    → IsBridgedInNames old old.boxes.table user.model (Err fault) new
+    → IsBridgedInNames old old.bridges.table user.model (Err fault) new
     → IsInStep (cached user new attached)
 still_in_step user old new attached fault none step h = record {
   stands =

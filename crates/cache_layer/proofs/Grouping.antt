@@ -35,15 +35,15 @@ alone bridge.Memory given is = ap (λ g. as_edits (Err g)) is
 
 pub grouped : (user mid new_user : Stored) (old new : Owned) (edits : List Edit)
     (undos : List Undo) (n : ℕ) → AreMade user edits undos mid → new_user.model ≡ mid.model
-    → IsBridgingOf old user.model → IsBridgedBy old old.boxes.table mid.model (Ok n) new
+    → IsBridgingOf old user.model → IsBridgedBy old old.bridges.table mid.model (Ok n) new
     → IsGrouped (state_of (cached user old true)) edits (Ok (Some n))
     (state_of (cached new_user new true))
 grouped user mid new_user old new edits undos n h e stands b =
-    (mid.model, h.made, bridged user new_user old new old.boxes.table mid.model n e stands b)
+    (mid.model, h.made, bridged user new_user old new old.bridges.table mid.model n e stands b)
 
 pub grouped_in_step : (user mid new_user : Stored) (old new : Owned) (n : ℕ)
     → new_user.model ≡ mid.model → new_user.parked ≡ user.parked → user.parked ≡ []
-    → IsBridgedBy old old.boxes.table mid.model (Ok n) new → IsInStep (cached new_user new true)
+    → IsBridgedBy old old.bridges.table mid.model (Ok n) new → IsInStep (cached new_user new true)
 grouped_in_step user mid new_user old new n e parked settled b = record {
   stands = subst (IsBridgingOf new) (sym e) b.0;
   settled = parked ∙ settled;
@@ -53,14 +53,14 @@ grouped_in_step user mid new_user old new n e parked settled b = record {
 
 group_unbridged : (user mid new_user : Stored) (old new : Owned) (edits : List Edit)
     (undos : List Undo) (fault : BridgeFault) → AreMade user edits undos mid → new_user ≡ user
-    → IsBridgedInNames old old.boxes.table mid.model (Err fault) new
+    → IsBridgedInNames old old.bridges.table mid.model (Err fault) new
     → IsGrouped (state_of (cached user old true)) edits (Err (group_fault fault))
     (state_of (cached new_user new (stays (as_edits (Err (group_fault fault))))))
 group_unbridged user mid new_user old new edits undos fault h e b =
-    by fault (unbridged user new_user old new old.boxes.table mid.model fault e b)
+    by fault (unbridged user new_user old new old.bridges.table mid.model fault e b)
   where
     by : (fault : BridgeFault)
-        → Becomes (state_of (cached user old true)) (state_by old old.boxes.table mid.model)
+        → Becomes (state_of (cached user old true)) (state_by old old.bridges.table mid.model)
         (Err (bridge_fault fault)) (state_of (cached new_user new (stays (Err (bridge_fault fault)))))
         → IsGrouped (state_of (cached user old true)) edits (Err (group_fault fault))
         (state_of (cached new_user new (stays (as_edits (Err (group_fault fault))))))
@@ -71,7 +71,7 @@ group_unbridged user mid new_user old new edits undos fault h e b =
 pub group_answer : (user mid new_user : Stored) (old new : Owned) (edits : List Edit)
     (undos : List Undo) (fault : BridgeFault) (given : GroupFault) → given ≡ group_fault fault
     → AreMade user edits undos mid → new_user ≡ user
-    → IsBridgedInNames old old.boxes.table mid.model (Err fault) new
+    → IsBridgedInNames old old.bridges.table mid.model (Err fault) new
     → IsGrouped (state_of (cached user old true)) edits (Err given)
     (state_of (cached new_user new (stays (as_edits (Err given)))))
 group_answer user mid new_user old new edits undos fault given is h e b =
@@ -81,22 +81,22 @@ group_answer user mid new_user old new edits undos fault given is h e b =
 
 pub group_step : (user new_user : Stored) (old new : Owned) (model : ModelValue)
     (fault : BridgeFault) (given : GroupFault) → given ≡ group_fault fault → new_user ≡ user
-    → IsBridgedInNames old old.boxes.table model (Err fault) new → IsBridgingOf old user.model
+    → IsBridgedInNames old old.bridges.table model (Err fault) new → IsBridgingOf old user.model
     → user.parked ≡ [] → IsInStep (cached new_user new (stays (as_edits (Err given))))
 group_step user new_user old new model fault given is e b stands settled =
     subst (λ r. IsInStep (cached new_user new (stays r))) (sym (alone fault given is))
-    (in_step_still user new_user old new old.boxes.table model fault e b stands settled)
+    (in_step_still user new_user old new old.bridges.table model fault e b stands settled)
 
 pub group_untouched : (user new_user : Stored) (old new : Owned) (model : ModelValue)
     (fault : BridgeFault) (given : GroupFault) (attached : Bool) → given ≡ group_fault fault
-    → new_user ≡ user → IsBridgedInNames old old.boxes.table model (Err fault) new
+    → new_user ≡ user → IsBridgedInNames old old.bridges.table model (Err fault) new
     → UnlessRefused (as_edits {A = Option ℕ} (Err given)) (cached user old true)
     (cached new_user new attached)
 group_untouched user new_user old new model fault given attached is e b =
     subst (λ r. UnlessRefused {A = Option ℕ} r (cached user old true) (cached new_user new attached))
     (sym (alone fault given is)) (by fault b)
   where
-    by : (fault : BridgeFault) → IsBridgedInNames old old.boxes.table model (Err fault) new
+    by : (fault : BridgeFault) → IsBridgedInNames old old.bridges.table model (Err fault) new
         → UnlessRefused {A = Option ℕ} (Err (bridge_fault fault)) (cached user old true)
         (cached new_user new attached)
     by (bridge.Unsupported kind) b = (e, b.1)

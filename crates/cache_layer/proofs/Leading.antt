@@ -1,5 +1,5 @@
 -- Undos in the order in which the edits were made lead back from their model.
-use Rattle.std.specs.Prelude.{◌≡◌, List, [], ◌∷◌, ◌++◌, reverse, refl}
+use Rattle.std.specs.Prelude.{List, [], ◌∷◌, ◌++◌, reverse, refl}
 use Rattle.std.proofs.Common.{ap, sym, subst}
 use Rattle.std.proofs.lemmas.List.{reverse-append, reverse-reverse}
 use Rattle.local_laws.specs.Unlisted.{LeadBackTo}

@@ -27,14 +27,14 @@ use Rattle.cache_layer.specs.declared.fault.OptFault.{OptFault}
 use Rattle.cache_layer.specs.declared.fault.OptFault.TheVariants.{Limit, Memory, NotAttached, Overflow, TooLarge}
 
 module _ (lazy : Owned) (model : ModelValue) (stands : IsBridgingOf lazy model) (pivots : ℕ) where
-  abbrev the_bridging : Bridging (state_by lazy lazy.boxes.table model)
+  abbrev the_bridging : Bridging (state_by lazy lazy.bridges.table model)
   the_bridging = record { bridging = stands.bridging; made = stands.made }
 
   abbrev Optimizes : Result Certificate OptFault → Type 0
-  Optimizes result = IsOptimized (state_by lazy lazy.boxes.table model) pivots result
+  Optimizes result = IsOptimized (state_by lazy lazy.bridges.table model) pivots result
 
   stopped_here : (fault : OptFault) → Stops (leaf_model_in lazy) pivots fault
-      → (b : Bridging (state_by lazy lazy.boxes.table model)) × Outcome b pivots (Err fault)
+      → (b : Bridging (state_by lazy lazy.bridges.table model)) × Outcome b pivots (Err fault)
   stopped_here fault h =
       (the_bridging, stopped (subst (λ l. Stops l pivots fault) stands.leaves h))
 
@@ -100,7 +100,7 @@ always_told model fault at is can missing =
 
 pub optimized_there : (user : Stored) (lazy : Owned) (attached : Bool) (pivots : ℕ)
     (result : Result Certificate OptFault) → attached ≡ true
-    → IsOptimized (state_by lazy lazy.boxes.table user.model) pivots result
+    → IsOptimized (state_by lazy lazy.bridges.table user.model) pivots result
     → IsOptimized (state_of (cached user lazy attached)) pivots result
 optimized_there user lazy attached pivots result on h =
     subst (λ a. IsOptimized (state_of (cached user lazy a)) pivots result) (sym on) h

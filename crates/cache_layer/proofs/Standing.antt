@@ -1,11 +1,11 @@
--- What stands in a bridging depends on its parts alone, and not on the boxes' turns.
+-- What stands in a bridging depends on its parts alone, and not on the bridges' turns.
 use Rattle.std.specs.Prelude.{◌≡◌, true, List, All}
 use Rattle.std.proofs.Common.{ap, sym, subst, ◌∙◌}
 use Rattle.std.proofs.lemmas.List.Elements.{All-map}
 use Rattle.std.specs.FinMap as finite
 use Rattle.address_map.specs.AddressMap.{AddressMap}
 use Rattle.aff_core.specs.Address.{Address}
-use Rattle.bridge_set.specs.Boxed.{kept_by, means_of}
+use Rattle.bridge_set.specs.Bridges.{kept_by, means_of}
 use Rattle.bridge_set.specs.Nodes.{nodes_by}
 use Rattle.bridge_face.specs.State.{Kept, State}
 use Rattle.bridge_plan.specs.Means.{Means}
@@ -54,7 +54,7 @@ parts_by means solver at_map at = record {
 }
 
 abbrev parts_in : Owned → Parts
-parts_in lazy = parts_by (means_of lazy.boxes) lazy.solver lazy.map lazy.objective_at
+parts_in lazy = parts_by (means_of lazy.bridges) lazy.solver lazy.map lazy.objective_at
 
 parts_of : (lazy : Owned) (model : ModelValue) → IsBridgingOf lazy model
     → AreOf (parts_in lazy) model
@@ -66,7 +66,7 @@ parts_of lazy model h = record {
   named = h.named;
   kept =
       All-map (λ (k : Family × Kept). k.1 ≡ nodes_by h.bridging k.0)
-      (λ (s : State). (s.family, s.kept)) lazy.boxes.states h.kept;
+      (λ (s : State). (s.family, s.kept)) lazy.bridges.states h.kept;
   exprs = h.exprs;
   noted = h.noted;
   marks = h.marks;
@@ -82,7 +82,7 @@ from_parts lazy model h = record {
   named = h.named;
   kept =
       all_from_map (λ (k : Family × Kept). k.1 ≡ nodes_by h.bridging k.0)
-      (λ (s : State). (s.family, s.kept)) lazy.boxes.states h.kept;
+      (λ (s : State). (s.family, s.kept)) lazy.bridges.states h.kept;
   exprs = h.exprs;
   noted = h.noted;
   marks = h.marks;
@@ -91,9 +91,9 @@ from_parts lazy model h = record {
 same_parts : (old new : Owned) → IsTried old new → parts_in new ≡ parts_in old
 same_parts old new t =
     ap (λ m. parts_by m new.solver new.map new.objective_at) t.means
-    ∙ (ap (λ s. parts_by (means_of old.boxes) s new.map new.objective_at) t.solver
-    ∙ (ap (λ m. parts_by (means_of old.boxes) old.solver m new.objective_at) t.map
-    ∙ ap (parts_by (means_of old.boxes) old.solver old.map) t.objective_at))
+    ∙ (ap (λ s. parts_by (means_of old.bridges) s new.map new.objective_at) t.solver
+    ∙ (ap (λ m. parts_by (means_of old.bridges) old.solver m new.objective_at) t.map
+    ∙ ap (parts_by (means_of old.bridges) old.solver old.map) t.objective_at))
 
 pub still_bridging : (old new : Owned) (model : ModelValue) → IsTried old new
     → IsBridgingOf old model → IsBridgingOf new model
@@ -104,7 +104,7 @@ still_bridging old new model t h =
 -- ---- nothing
 
 pub still_nothing : (old new : Owned) → new.solver ≡ old.solver → new.map ≡ old.map
-    → kept_by new.boxes.states ≡ kept_by old.boxes.states → HoldsNothing old → HoldsNothing new
+    → kept_by new.bridges.states ≡ kept_by old.bridges.states → HoldsNothing old → HoldsNothing new
 still_nothing old new solver at_map kept h =
     let Empty : Family × Kept → Type 0 = λ (k : Family × Kept). k.1 ≡ finite.empty in
     let part : State → Family × Kept = λ (s : State). (s.family, s.kept) in record {
@@ -115,8 +115,8 @@ still_nothing old new solver at_map kept h =
       noted = ap (λ (m : AddressMap). m.noted) at_map ∙ h.noted;
       marks = ap (λ (m : AddressMap). m.kept) at_map ∙ h.marks;
       kept =
-          all_from_map Empty part new.boxes.states
-          (subst (All Empty) (sym kept) (All-map Empty part old.boxes.states h.kept));
+          all_from_map Empty part new.bridges.states
+          (subst (All Empty) (sym kept) (All-map Empty part old.bridges.states h.kept));
     }
 
 pub nothing_tried : (old new : Owned) → IsTried old new → HoldsNothing old → HoldsNothing new

@@ -81,7 +81,7 @@ IsAttached old (Err (attach.Overflow place)) new =
     (old.attached ≡ false) × OverflowsAt old place × (new ≡ old)
 IsAttached old (Err attach.Memory) new = (old.attached ≡ false) × (new ≡ old)
 
--- a refusal leaves all but the boxes' turns
+-- a refusal leaves all but the bridges' turns
 abbrev pub IsUntouched : Cached → Cached → Type 0
 IsUntouched old new = (new.user ≡ old.user) × IsTried old.lazy new.lazy
 

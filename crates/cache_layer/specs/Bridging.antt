@@ -1,7 +1,7 @@
 -- What a bridging answers in the user's names, and whether a solver that was attached still is.
 use Rattle.std.specs.Prelude.{◌≡◌, ℕ, Bool, true, false, Option, Some, Result, Ok, Err}
 use Rattle.aff_core.specs.Address.{Address}
-use Rattle.bridge_set.specs.Boxed.{setting_by}
+use Rattle.bridge_set.specs.Bridges.{setting_by}
 use Rattle.bridged_report.specs.Places.{place_at}
 use Rattle.cache_layer.specs.State.{OverflowsAt, State}
 use Rattle.cache_layer.specs.declared.fault.BridgeFault.{BridgeFault}
@@ -17,10 +17,10 @@ use Rattle.model_bridging.specs.declared.fault.PushFault.{PushFault}
 use Rattle.model_bridging.specs.declared.fault.PushFault.TheVariants as push
 use Rattle.user_model.specs.Model.{ModelValue}
 
--- a solver is attached, by the families of the boxes
+-- a solver is attached, by the families of the bridges
 abbrev pub state_by : Owned → Table → ModelValue → State
 state_by lazy table model =
-    record { model = model; setting = setting_by table lazy.boxes.states; attached = true }
+    record { model = model; setting = setting_by table lazy.bridges.states; attached = true }
 
 -- as the lazy bridging answers, with the place in place of the address
 abbrev pub IsBridgedInNames : Owned → Table → ModelValue → Result ℕ BridgeFault → Owned → Type 0

@@ -15,13 +15,13 @@ use crate::fault::BridgeFault;
 use bridge_face::Bridge;
 use bridged_report::place_at;
 use item_core::Table;
-use lazy_bridge::{LazyOver, PushFault};
-use model_store::{Reading, Undo, UserModel};
+use lazy_bridge::{Lazy, PushFault};
+use model_store::{CountedView, Undo, UserModel};
 
 /// Bridges a model where nothing is held. The answer is the number of leaves.
-pub(crate) fn fill<B: Bridge>(lazy: &mut LazyOver<B>, model: &UserModel) -> Result<u64, BridgeFault>
+pub(crate) fn fill<B: Bridge>(lazy: &mut Lazy<B>, model: &UserModel) -> Result<u64, BridgeFault>
     requires { HoldsNothing lazy.old }
-    ensures bridged { IsBridgedInNames lazy.old lazy.old.boxes.table model.now.model
+    ensures bridged { IsBridgedInNames lazy.old lazy.old.bridges.table model.now.model
         result lazy.new }
     ensures small { HasSmallNumbers model.now.model
         → (place : Place) → result ≢ Err (BridgeFault.Overflow place) }
@@ -36,13 +36,13 @@ pub(crate) fn fill<B: Bridge>(lazy: &mut LazyOver<B>, model: &UserModel) -> Resu
 /// Bridges a model after edits in place of the one before, to which the undos lead back. The answer
 /// is the number of addresses at which leaves differ.
 pub(crate) fn push<'a, B: Bridge>(
-    lazy: &mut LazyOver<B>,
+    lazy: &mut Lazy<B>,
     model: &'a UserModel,
     undos: &'a [Undo],
 ) -> Result<u64, BridgeFault>
     requires { (before : ModelValue) × IsBridgingOf lazy.old before
         × LeadBackTo before undos.now model.now.model }
-    ensures bridged { IsBridgedInNames lazy.old lazy.old.boxes.table model.now.model
+    ensures bridged { IsBridgedInNames lazy.old lazy.old.bridges.table model.now.model
         result lazy.new }
     ensures small { HasSmallNumbers model.now.model
         → (place : Place) → result ≢ Err (BridgeFault.Overflow place) }
@@ -50,7 +50,7 @@ pub(crate) fn push<'a, B: Bridge>(
 {
     // what this ensures of the model
     let _valid = model.objective();
-    let mut reading = Reading::new(model);
+    let mut reading = CountedView::new(model);
     match lazy.push(&mut reading, undos) {
         Ok(changed) => Ok(changed),
         Err(fault) => Err(in_names(lazy, model, fault)),
@@ -59,7 +59,7 @@ pub(crate) fn push<'a, B: Bridge>(
 
 /// Bridges a model by another table, with the same answer.
 pub(crate) fn set_table<B: Bridge>(
-    lazy: &mut LazyOver<B>,
+    lazy: &mut Lazy<B>,
     model: &UserModel,
     table: Table,
 ) -> Result<u64, BridgeFault>
@@ -78,7 +78,7 @@ pub(crate) fn set_table<B: Bridge>(
 }
 
 // The fault in the user's names. Where memory runs out for these, nothing is held any more.
-fn in_names<B: Bridge>(lazy: &mut LazyOver<B>, model: &UserModel, fault: PushFault) -> BridgeFault
+fn in_names<B: Bridge>(lazy: &mut Lazy<B>, model: &UserModel, fault: PushFault) -> BridgeFault
     requires { IsFaultOf model.now.model fault }
     ensures { IsToldAs model.now.model lazy.old fault result lazy.new }
 {

@@ -25,27 +25,24 @@ use crate::optimize::optimize;
 use crate::{AttachFault, Certificate, EditFault, GroupFault, NotAttached, OptFault};
 use bridge_face::Bridge;
 use item_core::Table;
-use lazy_bridge::LazyOver;
+use lazy_bridge::Lazy;
 use model_load::load_all;
 use model_store::UserModel;
 use std::alloc::Global;
 use std::marker::Model;
 use user_model::Edit;
 
-/// The cache over boxed bridges.
-pub type Cache = CacheOver<Box<dyn Bridge>>;
-
 /// The user's model, and a lazy bridging that is kept as its fresh bridging while a solver is
 /// attached, and holds nothing while none is.
 #[derive(Drop)]
-pub struct CacheOver<B: Bridge> {
+pub struct Cache<B: Bridge> {
     alloc: Global,
     user: UserModel,
-    lazy: LazyOver<B>,
+    lazy: Lazy<B>,
     attached: bool,
 }
 
-impl<B: Bridge> Model for CacheOver<B> {
+impl<B: Bridge> Model for Cache<B> {
     ghost use Rattle.cache_layer.specs.Cached.{Cached, IsInStep, cached, cached_code};
 
     ghost Value = { Cached };
@@ -57,16 +54,16 @@ impl<B: Bridge> Model for CacheOver<B> {
     ghost invariant = { λ c. IsInStep (cached c.user c.lazy c.attached) };
 }
 
-impl<B: Bridge> CacheOver<B> {
+impl<B: Bridge> Cache<B> {
     /// The model, of which no edit waits, and no solver attached.
-    pub fn new(alloc: Global, model: UserModel, lazy: LazyOver<B>) -> CacheOver<B>
+    pub fn new(alloc: Global, model: UserModel, lazy: Lazy<B>) -> Cache<B>
         requires settled { model.parked ≡ [] }
         requires lazy { HoldsNothing lazy }
         ensures model { result.user ≡ model }
         ensures lazy { result.lazy ≡ lazy }
         ensures detached { result.attached ≡ false }
     {
-        CacheOver {
+        Cache {
             alloc,
             user: model,
             lazy,
@@ -213,7 +210,7 @@ impl<B: Bridge> CacheOver<B> {
     }
 
     /// The bridging.
-    pub fn lazy(&self) -> &LazyOver<B>
+    pub fn lazy(&self) -> &Lazy<B>
         ensures { result.now ≡ self.now.lazy }
     {
         &self.lazy

@@ -17,7 +17,7 @@ use crate::EditFault;
 use crate::bridging::{push, set_table};
 use bridge_face::Bridge;
 use item_core::Table;
-use lazy_bridge::LazyOver;
+use lazy_bridge::Lazy;
 use model_load::take_back;
 use model_store::UserModel;
 use std::slice;
@@ -37,7 +37,7 @@ pub(crate) fn edit_alone(model: &mut UserModel, edit: Edit) -> Result<(), ApplyF
 #[tactic(auto, using(crate::specs::FewCallsLaws::few_same))]
 pub(crate) fn edit_bridged<B: Bridge>(
     model: &mut UserModel,
-    lazy: &mut LazyOver<B>,
+    lazy: &mut Lazy<B>,
     edit: Edit,
 ) -> Result<Option<u64>, EditFault>
     requires stands { IsBridgingOf lazy.old model.old.model }
@@ -74,7 +74,7 @@ pub(crate) fn edit_bridged<B: Bridge>(
 /// Bridges the model by another table, with the same answers.
 pub(crate) fn table_bridged<B: Bridge>(
     model: &UserModel,
-    lazy: &mut LazyOver<B>,
+    lazy: &mut Lazy<B>,
     table: Table,
 ) -> Result<Option<u64>, EditFault>
     requires costs { IsTrue (list_all is_edge_cost table.cost) }

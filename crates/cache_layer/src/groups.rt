@@ -13,7 +13,7 @@ ghost use Rattle.user_model.specs.Model.{ModelValue};
 use crate::GroupFault;
 use crate::bridging::push;
 use bridge_face::Bridge;
-use lazy_bridge::LazyOver;
+use lazy_bridge::Lazy;
 use model_load::{Unmade, make_all, settle_all, take_back_all};
 use model_store::{Undo, UserModel};
 use ratio_core::Memory;
@@ -40,7 +40,7 @@ pub(crate) fn group_alone(
 pub(crate) fn group_bridged<B: Bridge>(
     alloc: Global,
     model: &mut UserModel,
-    lazy: &mut LazyOver<B>,
+    lazy: &mut Lazy<B>,
     edits: &[Edit],
 ) -> Result<Option<u64>, GroupFault>
     requires stands { IsBridgingOf lazy.old model.old.model }

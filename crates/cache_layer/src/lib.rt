@@ -10,7 +10,7 @@ mod groups;
 mod optimize;
 mod solving;
 
-pub use cache::{Cache, CacheOver};
+pub use cache::Cache;
 pub use cert_core::Certificate;
 pub use fault::{AttachFault, EditFault, GroupFault, NotAttached, OptFault};
 pub use report_core::Place;

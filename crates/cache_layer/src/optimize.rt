@@ -14,7 +14,7 @@ use adjoint_core::{BackFault, carry_back};
 use bridge_face::Bridge;
 use bridged_report::place_at;
 use cert_core::Certificate;
-use lazy_bridge::LazyOver;
+use lazy_bridge::Lazy;
 use model_store::UserModel;
 use solver_store::LeafAnswer;
 use std::alloc::Global;
@@ -22,12 +22,12 @@ use std::alloc::Global;
 /// The certificate of the model whose fresh bridging stands, by at most this number of pivots.
 pub(crate) fn optimize<B: Bridge>(
     alloc: Global,
-    lazy: &LazyOver<B>,
+    lazy: &Lazy<B>,
     model: &UserModel,
     pivots: u64,
 ) -> Result<Certificate, OptFault>
     requires { IsBridgingOf lazy.now model.now.model }
-    ensures outcome { IsOptimized (state_by lazy.now lazy.now.boxes.table model.now.model) pivots
+    ensures outcome { IsOptimized (state_by lazy.now lazy.now.bridges.table model.now.model) pivots
         result }
     ensures good { IfOk result (Good model.now.model) }
 {
@@ -40,7 +40,7 @@ pub(crate) fn optimize<B: Bridge>(
 // An answer for the leaves, carried back.
 fn certificate<B: Bridge>(
     alloc: Global,
-    lazy: &LazyOver<B>,
+    lazy: &Lazy<B>,
     model: &UserModel,
     answer: &LeafAnswer,
 ) -> Result<Certificate, OptFault>

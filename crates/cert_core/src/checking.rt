@@ -25,7 +25,7 @@ use crate::gap::{gap_of_rows, plus_groups};
 use crate::objective::{constant, reading_of, sense};
 use crate::point::Point;
 use crate::points::{groups_hold, rows_hold};
-use crate::readings::Reading;
+use crate::readings::ValueOrSlope;
 use crate::variables::Variables;
 use certificates::Certificate;
 use ratio_core::{NumberFault, Ratio, Ratios};
@@ -123,7 +123,12 @@ impl<'a> Parts<'a> {
     }
 
     // Whether rows and groups hold at a point, or along a ray.
-    fn holds_at(&self, alloc: Global, reading: Reading, x: &[Ratio]) -> Result<bool, NumberFault>
+    fn holds_at(
+        &self,
+        alloc: Global,
+        reading: ValueOrSlope,
+        x: &[Ratio],
+    ) -> Result<bool, NumberFault>
         requires ready { HasSets self.now.groups.now.items self.now.rows.now.items self.now.variables }
         requires size { length x.now ≡ length self.now.variables }
         ensures { (next : NextNumbers) → let model = model_of self.now.groups.now.items
@@ -183,9 +188,9 @@ impl<'a> Parts<'a> {
             TellsWhere result (OptimalFits model x.now duals.now.rows.now duals.now.vars.now)
             (IsOptimal model value.now x.now duals.now.rows.now duals.now.vars.now) }
     {
-        let feasible = self.holds_at(alloc, Reading::Value, x)?;
+        let feasible = self.holds_at(alloc, ValueOrSlope::Value, x)?;
         let at = Point::new(&self.variables, x);
-        let primal = reading_of(self.objective, Reading::Value, &at)?;
+        let primal = reading_of(self.objective, ValueOrSlope::Value, &at)?;
         let in_sets = self.duals_hold(duals)?;
         let sums = adjoint_of_rows(alloc, &self.variables, self.rows, duals.rows)?;
         let us = self.variables.addresses();
@@ -223,10 +228,10 @@ impl<'a> Parts<'a> {
             self.now.rows.now.items self.now.objective.now next in
             TellsWhere result (UnboundedFits model x.now d.now) (IsUnbounded model x.now d.now) }
     {
-        let feasible = self.holds_at(alloc, Reading::Value, x)?;
-        let ray = self.holds_at(alloc, Reading::Slope, d)?;
+        let feasible = self.holds_at(alloc, ValueOrSlope::Value, x)?;
+        let ray = self.holds_at(alloc, ValueOrSlope::Slope, d)?;
         let along = Point::new(&self.variables, d);
-        let slope = reading_of(self.objective, Reading::Slope, &along)?;
+        let slope = reading_of(self.objective, ValueOrSlope::Slope, &along)?;
         let is_better = improves(sense(self.objective), &slope);
         Ok(all_true(&[feasible, ray, is_better]))
     }

@@ -24,5 +24,5 @@ pub use equations::reduced_cost;
 pub use gap::{plus_group, plus_row};
 pub use objective::{cost, reading_of, sense};
 pub use point::Point;
-pub use readings::Reading;
+pub use readings::ValueOrSlope;
 pub use variables::Variables;

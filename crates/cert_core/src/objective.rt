@@ -9,7 +9,7 @@ ghost use Rattle.cert_core.specs.Readings.{one_of};
 ghost use Rattle.cert_core.specs.Points.{numbers_in};
 
 use crate::point::Point;
-use crate::readings::Reading;
+use crate::readings::ValueOrSlope;
 use aff_core::Address;
 use ratio_core::{NumberFault, Ratio};
 use user_model::{Objective, Sense};
@@ -60,7 +60,11 @@ fn unit(var: &Address, at: &Address) -> Ratio
 }
 
 /// The objective's value at a point, or its slope along a ray.
-pub fn reading_of(objective: &Objective, reading: Reading, at: &Point) -> Result<Ratio, NumberFault>
+pub fn reading_of(
+    objective: &Objective,
+    reading: ValueOrSlope,
+    at: &Point,
+) -> Result<Ratio, NumberFault>
     ensures { let x = numbers_in at.now in
         ExactWhere result
         (EvaluationFits (one_of reading) (objective_function objective.now) x)

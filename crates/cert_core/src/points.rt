@@ -15,7 +15,7 @@ ghost use Rattle.cert_core.specs.Points.{numbers_in};
 
 use crate::components::{Components, components_of};
 use crate::point::Point;
-use crate::readings::Reading;
+use crate::readings::ValueOrSlope;
 use aff_core::{Address, Aff};
 use ratio_core::{NumberFault, Ratio};
 use std::alloc::Global;
@@ -24,7 +24,7 @@ use user_model::{Groups, Row, Rows};
 /// Whether each row's functions hold.
 pub(crate) fn rows_hold(
     alloc: Global,
-    reading: Reading,
+    reading: ValueOrSlope,
     rows: &Rows,
     at: &Point,
 ) -> Result<bool, NumberFault>
@@ -42,7 +42,12 @@ pub(crate) fn rows_hold(
     Ok(all)
 }
 
-fn row_holds(alloc: Global, reading: Reading, row: &Row, at: &Point) -> Result<bool, NumberFault>
+fn row_holds(
+    alloc: Global,
+    reading: ValueOrSlope,
+    row: &Row,
+    at: &Point,
+) -> Result<bool, NumberFault>
     requires { HasRowSet row.now }
     ensures { let x = numbers_in at.now in
         TellsWhere result
@@ -55,7 +60,7 @@ fn row_holds(alloc: Global, reading: Reading, row: &Row, at: &Point) -> Result<b
 
 fn read_components(
     alloc: Global,
-    reading: Reading,
+    reading: ValueOrSlope,
     components: Components,
     at: &Point,
 ) -> Result<Vec<Ratio>, NumberFault>
@@ -72,7 +77,7 @@ fn read_components(
 
 fn read_variables(
     alloc: Global,
-    reading: Reading,
+    reading: ValueOrSlope,
     vars: &[Address],
     at: &Point,
 ) -> Result<Vec<Ratio>, NumberFault>
@@ -90,7 +95,7 @@ fn read_variables(
 
 fn read_functions(
     alloc: Global,
-    reading: Reading,
+    reading: ValueOrSlope,
     fs: &[Aff],
     at: &Point,
 ) -> Result<Vec<Ratio>, NumberFault>
@@ -108,7 +113,7 @@ fn read_functions(
 
 /// Whether each group's variables hold, at any point that has these numbers of them.
 pub(crate) fn groups_hold(
-    reading: Reading,
+    reading: ValueOrSlope,
     groups: &Groups,
     numbers: &[Ratio],
 ) -> Result<bool, NumberFault>

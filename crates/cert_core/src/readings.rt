@@ -19,12 +19,12 @@ use set_core::Set;
 
 /// The value at a point, or the slope along a ray.
 #[derive(Clone, Copy)]
-pub enum Reading {
+pub enum ValueOrSlope {
     Value,
     Slope,
 }
 
-impl Reading {
+impl ValueOrSlope {
     /// The function's value or slope.
     pub fn of_function(self, f: &Aff, at: &Point) -> Result<Ratio, NumberFault>
         ensures { let x = numbers_in at.now in
@@ -32,8 +32,8 @@ impl Reading {
             (λ q. q ≡ evaluated (one_of self) f.now x) }
     {
         match self {
-            Reading::Value => plus_terms(&f.constant(), f.terms(), at),
-            Reading::Slope => plus_terms(&Ratio::zero(), f.terms(), at),
+            ValueOrSlope::Value => plus_terms(&f.constant(), f.terms(), at),
+            ValueOrSlope::Slope => plus_terms(&Ratio::zero(), f.terms(), at),
         }
     }
 
@@ -53,8 +53,8 @@ impl Reading {
             (In (multiplied (one_of self) set.now) v.now) }
     {
         match self {
-            Reading::Value => Ok(set.holds(v)?),
-            Reading::Slope => Ok(set.recession_holds(v)?),
+            ValueOrSlope::Value => Ok(set.holds(v)?),
+            ValueOrSlope::Slope => Ok(set.recession_holds(v)?),
         }
     }
 }

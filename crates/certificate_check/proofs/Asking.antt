@@ -1,5 +1,5 @@
 -- For which files a verdict asks.
-use Rattle.std.specs.Prelude.{◌≡◌, List, ℕ, [], ◌∷◌, ◌++◌, Option, Result, Ok, Err, OnOk, refl}
+use Rattle.std.specs.Prelude.{List, ℕ, [], ◌∷◌, Option, Result, Ok, Err, OnOk, refl}
 use Rattle.lists.specs.declared.memory.Memory.{Memory as NoMemory}
 use Rattle.model_load.specs.Loads.{after_edits}
 use Rattle.io_face.specs.Shelf.{AsksFor}

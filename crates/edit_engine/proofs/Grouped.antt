@@ -1,11 +1,11 @@
 -- Which group a line leaves, and what it answers while one is open.
 use Rattle.std.specs.Prelude.{◌≡◌, ◌≢◌, ◌&&◌, ◌∷◌, ◌++◌, ℕ, Bool, true, false, List, [], Option, None, Some, Result, Ok, Err, IfOk, OnOk, refl}
 use Rattle.std.specs.Result.{result_unwrap_or}
-use Rattle.std.proofs.Common.{ap, sym, subst, ◌∙◌, true≢false}
+use Rattle.std.proofs.Common.{ap, sym, ◌∙◌, true≢false}
 use Rattle.lists.specs.declared.memory.Memory.{Memory as NoMemory}
 use Rattle.cache_layer.specs.State.{State}
 use Rattle.report_core.specs.declared.answer.Answer.{Answer}
-use Rattle.report_core.specs.declared.answer.Answer.TheVariants.{Memory, Printed, Quit, ReadFault, Refused, Silent, TooLong}
+use Rattle.report_core.specs.declared.answer.Answer.TheVariants.{Memory, Printed, ReadFault, Refused}
 use Rattle.report_core.specs.declared.refused.Refused as reason
 use Rattle.script_core.specs.declared.command.Command.{Command}
 use Rattle.script_core.specs.declared.command.Command.TheVariants as line
@@ -13,7 +13,7 @@ use Rattle.script_core.specs.declared.fault.LineFault.{LineFault}
 use Rattle.user_model.specs.declared.edit.Edit.{Edit}
 use Rattle.edit_engine.specs.LinesLaws.{fetches}
 use Rattle.edit_engine.specs.Lines.{asks_by}
-use Rattle.edit_engine.specs.Script.{DoesAlone, Machine, Makes, done, edits_after, group_after, group_by, held, is_end, is_printed}
+use Rattle.edit_engine.specs.Script.{DoesAlone, Machine, Makes, edits_after, group_after, group_by, held, is_end, is_printed}
 use Rattle.io_face.specs.Shelf.{AsksFor}
 use Rattle.io_face.specs.ToldLaws.{asks_none}
 use Rattle.file_answers.specs.FileAnswers.{refused}

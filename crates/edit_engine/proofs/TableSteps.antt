@@ -8,7 +8,7 @@ use Rattle.std.proofs.lemmas.Option.{none-some, same_Some}
 use Rattle.bridge_graph.specs.Hypergraph.{is_edge_cost}
 use Rattle.fresh_bridging.specs.TableLaws.{and_first, and_second, kind_stands}
 use Rattle.item_core.specs.Edge.{edge_number}
-use Rattle.item_core.specs.Kind.{is_native, kind_eq, kind_number}
+use Rattle.item_core.specs.Kind.{is_native, kind_count, kind_eq, kind_number}
 use Rattle.item_core.specs.Table.{supported_by, target_table}
 use Rattle.item_core.specs.declared.edge.Edge.{Edge}
 use Rattle.item_core.specs.declared.kind.Kind.{Kind}
@@ -92,7 +92,7 @@ set_aside supported n value f g h =
     (get_or-set_other supported n (kind_number GroupReals) value false g) ∙ h
 
 -- both places are set
-set_both : (supported : List Bool) (value : Bool) → length supported ≡ 35
+set_both : (supported : List Bool) (value : Bool) → length supported ≡ kind_count
     → AreAlike (slice_set (slice_set supported (kind_number GroupReals) value) (kind_number Free) value)
 set_both supported value len =
     let reals = slice_set supported (kind_number GroupReals) value in
@@ -103,7 +103,7 @@ set_both supported value len =
     ∙ get_or-set_same supported (kind_number GroupReals) value false (omega arith))
     ∙ beq_itself value
 
-still_alike : (kind : Kind) (value : Bool) (supported : List Bool) → length supported ≡ 35
+still_alike : (kind : Kind) (value : Bool) (supported : List Bool) → length supported ≡ kind_count
     → is_native kind ≡ true → AreAlike supported
     → AreAlike (free_with kind value (slice_set supported (kind_number kind) value))
 unfolding is_native
@@ -112,7 +112,7 @@ still_alike Free value supported len native h = absurd (true≢false (sym native
 still_alike kind value supported len native h =
     set_aside supported (kind_number kind) value (omega arith) (omega arith) h
 
-pub still_native : (kind : Kind) (value : Bool) (table : Table) → length table.supported ≡ 35
+pub still_native : (kind : Kind) (value : Bool) (table : Table) → length table.supported ≡ kind_count
     → IsTrue (is_native kind) → IsTrue (supports_native table)
     → IsTrue (supports_native (supporting kind value table))
 still_native kind value table len native h =

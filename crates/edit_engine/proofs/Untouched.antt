@@ -1,4 +1,4 @@
--- Refused lines leave all of the cache but its boxes' turns.
+-- Refused lines leave all of the cache but its bridges' turns.
 use Rattle.std.specs.Prelude.{◌≡◌, ℕ, Option, Result, Ok, Err, IfOk}
 use Rattle.std.specs.Result.{result_unwrap_or}
 use Rattle.std.proofs.Common.{sym, subst}

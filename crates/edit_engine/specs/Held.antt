@@ -38,7 +38,7 @@ abbrev pub set_up : Machine → Table → ℕ → Machine
 set_up machine table pivots =
     record machine { state = with_table machine.state table; pivots = pivots }
 
--- a refused line leaves all of the cache but its boxes' turns
+-- a refused line leaves all of the cache but its bridges' turns
 abbrev pub KeepsRefused : Answer → Cached → Cached → Type 0
 KeepsRefused (Refused text) old new = IsUntouched old new
 KeepsRefused answer old new = Unit {0}

@@ -12,7 +12,7 @@ ghost use Rattle.io_face.specs.Told.{told_by};
 
 use crate::lines::{obey_alone, refuse};
 use bridge_face::Bridge;
-use cache_layer::{CacheOver, GroupFault};
+use cache_layer::{Cache, GroupFault};
 use io_face::Shelf;
 use lists::Memory;
 use mof_read::Edits;
@@ -24,7 +24,7 @@ use user_model::Edit;
 /// Does what a command says, by whether a group of edits is open.
 pub(crate) fn obey<B: Bridge, H: Shelf>(
     alloc: Global,
-    cache: &mut CacheOver<B>,
+    cache: &mut Cache<B>,
     group: &mut Option<Edits>,
     pivots: u32,
     shelf: &mut H,
@@ -70,7 +70,7 @@ pub(crate) fn obey<B: Bridge, H: Shelf>(
 // A command while a group of these edits is open.
 fn obey_in_group<B: Bridge>(
     alloc: Global,
-    cache: &mut CacheOver<B>,
+    cache: &mut Cache<B>,
     edits: &mut Edits,
     command: Command,
 ) -> Result<Answer, Memory>
@@ -136,11 +136,7 @@ fn hold(alloc: Global, edits: &mut Edits, edit: Edit) -> Result<Answer, Memory>
 }
 
 // Makes the edits of a group, all or none.
-fn commit<B: Bridge>(
-    alloc: Global,
-    cache: &mut CacheOver<B>,
-    edits: &Edits,
-) -> Result<Answer, Memory>
+fn commit<B: Bridge>(alloc: Global, cache: &mut Cache<B>, edits: &Edits) -> Result<Answer, Memory>
     ensures step { let old = state_of cache.old in
         Makes (Tells group_answer (IsGrouped old edits.now)) old result (state_of cache.new) }
     ensures untouched { IfOk result (λ answer. KeepsRefused answer cache.old cache.new) }

@@ -5,7 +5,7 @@ ghost use Rattle.lazy_bridge.specs.Owned.{IsBridgingOf, leaf_model_in};
 
 use bridge_face::Bridge;
 use bridged_report::bridged;
-use lazy_bridge::LazyOver;
+use lazy_bridge::Lazy;
 use lists::Memory;
 use model_store::UserModel;
 use name_index::Text;
@@ -14,7 +14,7 @@ use std::alloc::Global;
 // The leaves of a model's bridging, in the model's names.
 pub(crate) fn held<B: Bridge>(
     alloc: Global,
-    lazy: &LazyOver<B>,
+    lazy: &Lazy<B>,
     model: &UserModel,
 ) -> Result<Text, Memory>
     requires { IsBridgingOf lazy.now model.now.model }

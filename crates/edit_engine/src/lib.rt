@@ -12,4 +12,4 @@ mod tables;
 
 pub use cache_layer::Cache;
 pub use report_core::Answer;
-pub use session::{Session, SessionOver};
+pub use session::Session;

@@ -25,7 +25,7 @@ use crate::optimizing::optimize;
 use crate::plan::choices_of;
 use crate::tables::{costing, supporting, switched, targeted};
 use bridge_face::Bridge;
-use cache_layer::{AttachFault, CacheOver, EditFault, NotAttached};
+use cache_layer::{AttachFault, Cache, EditFault, NotAttached};
 use io_face::Shelf;
 use item_core::Table;
 use lists::Memory;
@@ -40,7 +40,7 @@ use user_model::Edit;
 // line `load`.
 pub(crate) fn step<B: Bridge, H: Shelf>(
     alloc: Global,
-    cache: &mut CacheOver<B>,
+    cache: &mut Cache<B>,
     group: &mut Option<Edits>,
     pivots: u32,
     shelf: &mut H,
@@ -78,7 +78,7 @@ pub(crate) fn step<B: Bridge, H: Shelf>(
 // A command while no group is open. One that opens a group changes nothing else.
 pub(crate) fn obey_alone<B: Bridge, H: Shelf>(
     alloc: Global,
-    cache: &mut CacheOver<B>,
+    cache: &mut Cache<B>,
     pivots: u32,
     shelf: &mut H,
     command: Command,
@@ -143,7 +143,7 @@ pub(crate) fn refuse(alloc: Global, fault: &Refused) -> Result<Answer, Memory>
 }
 
 // Makes an edit.
-fn make<B: Bridge>(alloc: Global, cache: &mut CacheOver<B>, edit: Edit) -> Result<Answer, Memory>
+fn make<B: Bridge>(alloc: Global, cache: &mut Cache<B>, edit: Edit) -> Result<Answer, Memory>
     ensures step { let old = state_of cache.old in
         Makes (Tells edit_answer (IsEdited old edit)) old result (state_of cache.new) }
     ensures untouched { IfOk result (λ answer.
@@ -156,11 +156,7 @@ fn make<B: Bridge>(alloc: Global, cache: &mut CacheOver<B>, edit: Edit) -> Resul
 }
 
 // Bridges by another table.
-fn set_table<B: Bridge>(
-    alloc: Global,
-    cache: &mut CacheOver<B>,
-    table: Table,
-) -> Result<Answer, Memory>
+fn set_table<B: Bridge>(alloc: Global, cache: &mut Cache<B>, table: Table) -> Result<Answer, Memory>
     requires costs { IsTrue (list_all is_edge_cost table.cost) }
     requires native { IsTrue (supports_native table) }
     ensures step { let old = state_of cache.old in
@@ -188,7 +184,7 @@ fn tell(alloc: Global, made: Result<Option<u64>, EditFault>) -> Result<Answer, M
     }
 }
 
-fn attach<B: Bridge>(alloc: Global, cache: &mut CacheOver<B>) -> Result<Answer, Memory>
+fn attach<B: Bridge>(alloc: Global, cache: &mut Cache<B>) -> Result<Answer, Memory>
     ensures step { let old = state_of cache.old in
         Makes (Tells attach_answer (IsAttached old)) old result (state_of cache.new) }
     ensures untouched { IfOk result (λ answer.
@@ -213,7 +209,7 @@ fn tell_attached(alloc: Global, made: Result<u64, AttachFault>) -> Result<Answer
     }
 }
 
-fn detach<B: Bridge>(alloc: Global, cache: &mut CacheOver<B>) -> Result<Answer, Memory>
+fn detach<B: Bridge>(alloc: Global, cache: &mut Cache<B>) -> Result<Answer, Memory>
     ensures step { let old = state_of cache.old in
         Makes (Detaches old.attached old) old result (state_of cache.new) }
     ensures untouched { IfOk result (λ answer.
@@ -228,7 +224,7 @@ fn detach<B: Bridge>(alloc: Global, cache: &mut CacheOver<B>) -> Result<Answer, 
 }
 
 // What an attached solver holds.
-fn bridged<B: Bridge>(alloc: Global, cache: &CacheOver<B>) -> Result<Answer, Memory>
+fn bridged<B: Bridge>(alloc: Global, cache: &Cache<B>) -> Result<Answer, Memory>
     ensures { let state = state_of cache.now in
         Makes (Shows state.attached state) state result state }
 {
@@ -240,7 +236,7 @@ fn bridged<B: Bridge>(alloc: Global, cache: &CacheOver<B>) -> Result<Answer, Mem
 }
 
 // How each kind is bridged.
-fn show_plan<B: Bridge>(alloc: Global, cache: &CacheOver<B>) -> Result<Answer, Memory>
+fn show_plan<B: Bridge>(alloc: Global, cache: &Cache<B>) -> Result<Answer, Memory>
     ensures { let state = state_of cache.now in Makes (Plans state) state result state }
 {
     let choices = choices_of(cache.lazy());
@@ -249,7 +245,7 @@ fn show_plan<B: Bridge>(alloc: Global, cache: &CacheOver<B>) -> Result<Answer, M
 }
 
 // The user's model as a file.
-fn write<B: Bridge>(alloc: Global, cache: &CacheOver<B>) -> Result<Answer, Memory>
+fn write<B: Bridge>(alloc: Global, cache: &Cache<B>) -> Result<Answer, Memory>
     ensures { let state = state_of cache.now in
         Makes (Says state (Printed (file_line state.model))) state result state }
 {
@@ -259,7 +255,7 @@ fn write<B: Bridge>(alloc: Global, cache: &CacheOver<B>) -> Result<Answer, Memor
 }
 
 // Sets the table, where no solver is attached.
-pub(crate) fn preset<B: Bridge>(cache: &mut CacheOver<B>, table: Table) -> Result<(), Memory>
+pub(crate) fn preset<B: Bridge>(cache: &mut Cache<B>, table: Table) -> Result<(), Memory>
     requires detached { cache.old.attached ≡ false }
     requires costs { IsTrue (list_all is_edge_cost table.cost) }
     requires native { IsTrue (supports_native table) }

@@ -13,7 +13,7 @@ ghost use Rattle.io_face.specs.Told.{told_by};
 
 use crate::lines::refuse;
 use bridge_face::Bridge;
-use cache_layer::{CacheOver, EditFault};
+use cache_layer::{Cache, EditFault};
 use file_answers::tell_fault;
 use io_face::Shelf;
 use lists::Memory;
@@ -29,7 +29,7 @@ use user_model::Objective;
 /// model.
 pub(crate) fn load<B: Bridge, H: Shelf>(
     alloc: Global,
-    cache: &mut CacheOver<B>,
+    cache: &mut Cache<B>,
     shelf: &mut H,
     name: &Name,
 ) -> Result<Answer, Memory>
@@ -74,11 +74,7 @@ fn is_feasibility(objective: &Objective) -> bool
 }
 
 // Makes edits one after another, or none of them.
-fn make_all<B: Bridge>(
-    alloc: Global,
-    cache: &mut CacheOver<B>,
-    edits: Edits,
-) -> Result<Answer, Memory>
+fn make_all<B: Bridge>(alloc: Global, cache: &mut Cache<B>, edits: Edits) -> Result<Answer, Memory>
     requires detached { cache.old.attached ≡ false }
     ensures step { let old = state_of cache.old in
         Makes (Tells load_answer (IsLoaded old edits)) old result (state_of cache.new) }

@@ -5,7 +5,7 @@ ghost use Rattle.edit_engine.specs.Script.{Makes, Optimizes, optimize_answer};
 
 use crate::lines::refuse;
 use bridge_face::Bridge;
-use cache_layer::{CacheOver, Certificate, OptFault};
+use cache_layer::{Cache, Certificate, OptFault};
 use cert_text::print;
 use lists::Memory;
 use model_store::UserModel;
@@ -15,7 +15,7 @@ use std::alloc::Global;
 /// Solves the solver's model with at most this number of pivots.
 pub(crate) fn optimize<B: Bridge>(
     alloc: Global,
-    cache: &CacheOver<B>,
+    cache: &Cache<B>,
     pivots: u64,
 ) -> Result<Answer, Memory>
     ensures { let state = state_of cache.now in

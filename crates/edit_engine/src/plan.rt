@@ -8,10 +8,10 @@ ghost use Rattle.edit_engine.specs.Script.{IsChosen, IsPlan};
 use bridge_face::Bridge;
 use bridge_graph::Choice;
 use item_core::{KIND_COUNT, KINDS, Kind};
-use lazy_bridge::LazyOver;
+use lazy_bridge::Lazy;
 
 // Each kind's choice and what that costs.
-pub(crate) fn choices_of<B: Bridge>(lazy: &LazyOver<B>) -> [(Choice, Option<u128>); KIND_COUNT]
+pub(crate) fn choices_of<B: Bridge>(lazy: &Lazy<B>) -> [(Choice, Option<u128>); KIND_COUNT]
     ensures { IsPlan (graph_of (setting_in lazy.now)) result }
 {
     let mut choices = [(Choice::Missing, None); KIND_COUNT];
@@ -19,11 +19,7 @@ pub(crate) fn choices_of<B: Bridge>(lazy: &LazyOver<B>) -> [(Choice, Option<u128
     choices
 }
 
-fn write_choices<B: Bridge>(
-    lazy: &LazyOver<B>,
-    kinds: &[Kind],
-    choices: &mut [(Choice, Option<u128>)],
-)
+fn write_choices<B: Bridge>(lazy: &Lazy<B>, kinds: &[Kind], choices: &mut [(Choice, Option<u128>)])
     requires { length choices.old ≡ length kinds.now }
     ensures { All (IsChosen (graph_of (setting_in lazy.now))) (zip kinds.now choices.new) }
 {
@@ -32,7 +28,7 @@ fn write_choices<B: Bridge>(
     }
 }
 
-fn choice_of<B: Bridge>(lazy: &LazyOver<B>, kind: Kind) -> (Choice, Option<u128>)
+fn choice_of<B: Bridge>(lazy: &Lazy<B>, kind: Kind) -> (Choice, Option<u128>)
     ensures { IsChosen (graph_of (setting_in lazy.now)) (kind, result) }
 {
     (lazy.choice(kind), lazy.cost(kind))

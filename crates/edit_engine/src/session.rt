@@ -2,7 +2,7 @@
 ghost use Rattle.std.specs.Prelude.{◌≡◌, ◌≢◌, ◌≤◌, All, IsTrue, None, OnErr, OnOk, false};
 ghost use Rattle.std.specs.Prelude as prelude;
 ghost use Rattle.std.specs.FinMap as finite;
-ghost use Rattle.bridge_set.specs.Boxed.{families_of, occur_once, setting_by};
+ghost use Rattle.bridge_set.specs.Bridges.{families_of, occur_once, setting_by};
 ghost use Rattle.cache_layer.specs.Cached.{Stands, model_in};
 ghost use Rattle.cache_layer.specs.State.{start, with_table};
 ghost use Rattle.item_core.specs.Table.{target_table};
@@ -20,10 +20,10 @@ use crate::lines::{preset, step};
 use crate::tables::target_table;
 use address_map::AddressMap;
 use bridge_face::Bridge;
-use cache_layer::CacheOver;
+use cache_layer::Cache;
 use io_face::Shelf;
 use item_core::Target;
-use lazy_bridge::LazyOver;
+use lazy_bridge::Lazy;
 use lists::Memory;
 use model_store::UserModel;
 use mof_read::Edits;
@@ -32,19 +32,16 @@ use solver_store::SolverModel;
 use std::alloc::Global;
 use std::marker::Model;
 
-/// The session over boxed bridges.
-pub type Session = SessionOver<Box<dyn Bridge>>;
-
 /// A cache that lines drive, with the edits of a group while one is open.
 #[derive(Drop)]
-pub struct SessionOver<B: Bridge> {
+pub struct Session<B: Bridge> {
     alloc: Global,
-    cache: CacheOver<B>,
+    cache: Cache<B>,
     group: Option<Edits>,
     pivots: u32,
 }
 
-impl<B: Bridge> Model for SessionOver<B> {
+impl<B: Bridge> Model for Session<B> {
     ghost use Rattle.edit_engine.specs.Held.{SessionValue, held_code};
 
     ghost Value = { SessionValue };
@@ -54,10 +51,10 @@ impl<B: Bridge> Model for SessionOver<B> {
     ghost view = { λ s. record { cache = s.cache; group = s.group; pivots = s.pivots } };
 }
 
-impl<B: Bridge> SessionOver<B> {
+impl<B: Bridge> Session<B> {
     /// An empty model with no solver attached and no group open, the target `standard`, and an
     /// allowance of 100,000 pivots. No family occurs twice among the bridges, and they keep nothing.
-    pub fn new(alloc: Global, bridges: Vec<B>) -> SessionOver<B>
+    pub fn new(alloc: Global, bridges: Vec<B>) -> Session<B>
         requires once { IsTrue (occur_once (families_of (prelude.map B.state bridges.items))) }
         requires kept { All (λ s. s.kept ≡ finite.empty) (prelude.map B.state bridges.items) }
         ensures state { state_of result
@@ -65,16 +62,16 @@ impl<B: Bridge> SessionOver<B> {
         ensures group { result.group ≡ None }
         ensures pivots { result.pivots ≡ 100000 }
     {
-        let lazy = LazyOver::new(
+        let lazy = Lazy::new(
             alloc,
             target_table(Target::Standard),
             bridges,
             SolverModel::new(alloc),
             AddressMap::new(alloc),
         );
-        SessionOver {
+        Session {
             alloc,
-            cache: CacheOver::new(alloc, UserModel::new(alloc), lazy),
+            cache: Cache::new(alloc, UserModel::new(alloc), lazy),
             group: None,
             pivots: 100_000,
         }
@@ -141,7 +138,7 @@ impl<B: Bridge> SessionOver<B> {
     }
 
     /// The cache.
-    pub fn cache(&self) -> &CacheOver<B>
+    pub fn cache(&self) -> &Cache<B>
         ensures { result.now ≡ self.now.cache }
     {
         &self.cache

@@ -3,6 +3,7 @@ ghost use Rattle.std.specs.Prelude.{◌≡◌, IsTrue, length};
 ghost use Rattle.std.specs.List.{list_all};
 ghost use Rattle.bridge_graph.specs.Hypergraph.{is_edge_cost};
 ghost use Rattle.item_core.specs.Table.{target_table};
+ghost use Rattle.item_core.specs.Kind.{kind_count};
 ghost use Rattle.lazy_bridge.specs.Native.{supports_native};
 ghost use Rattle.edit_engine.specs.Tables.{costing, free_with, supporting, switched, targeted};
 
@@ -52,7 +53,7 @@ pub(crate) fn supporting(kind: NativeKind, value: bool, table: &Table) -> Table
 // Free variables with groups in `Reals`.
 fn free_with(kind: Kind, value: bool, mut supported: [bool; KIND_COUNT]) -> [bool; KIND_COUNT]
     ensures value { result ≡ free_with kind value supported }
-    ensures kinds { length supported ≡ 35 }
+    ensures kinds { length supported ≡ kind_count }
 {
     match kind {
         Kind::GroupReals => {

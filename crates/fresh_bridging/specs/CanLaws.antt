@@ -30,7 +30,7 @@ use Rattle.fresh_bridging.specs.RankingLaws.{LeadsDown, fewer_below, leads_down,
 use Rattle.fresh_bridging.specs.TableLaws.{all_keep_at, and_first, and_second, comes_of_norms, doubles_seldom, ends_norms, equal_kind, grows_once, grows_seldom, splits_reals, is_norm_kind, keeps_to_the_table, leads_from_others, of_family, plain_beside_free}
 use Rattle.fresh_bridging.specs.TheRules.{AreChoices, Setting, edge_at, graph_of, is_usable}
 
--- every family that has a box keeps the law of its edges
+-- every family that has a bridge keeps the law of its edges
 abbrev pub AreLawful : Setting → Type 0
 AreLawful setting = (family : Family) → is_usable setting family ≡ true → IsLawful family
 

@@ -1,4 +1,4 @@
--- The fresh bridging of a user's model by a table and the families that have a box: each
+-- The fresh bridging of a user's model by a table and the families that have a bridge: each
 -- item natively, or by the first edge of a least-cost tree of its kind. It is what
 -- MathOptInterface's lazy bridging makes of a model that is copied into it.
 use Rattle.std.specs.Prelude.{◌≡◌, ℕ, Bool, ◌&&◌, ◌++◌, List, ◌∷◌, All, Option, map}

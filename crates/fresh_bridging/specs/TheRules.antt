@@ -1,4 +1,5 @@
--- How items are chosen for and rewritten, by a table and the families of bridges that are there.
+-- Which edge each kind takes, and what items are rewritten to, by a table and the bridges that
+-- there are.
 use Rattle.std.specs.Prelude.{ℕ, Bool, true, false, ◌&&◌, cond, List, [], ◌∷◌, ◌++◌, length, map, slice_index_or}
 use denote.Enum.Declared.{tag_of}
 use Rattle.std.specs.List.{list_all, list_any, zip}
@@ -30,7 +31,7 @@ use Rattle.fresh_bridging.specs.FitTests.{plus_fits}
 
 -- ---- the graph of kinds
 
--- a table, and the families that have a box
+-- a table, and the families that have a bridge
 pub record Setting : Type 0 where
   pub table : Table
   pub families : List Family
@@ -38,7 +39,7 @@ pub record Setting : Type 0 where
 abbrev pub family_number : Family → ℕ
 family_number family = tag_of families.the_type family
 
--- the family is on, and there is a box of it
+-- the family is on, and there is a bridge of it
 abbrev pub is_usable : Setting → Family → Bool
 is_usable setting family =
     slice_index_or setting.table.on (family_number family) false

@@ -14,6 +14,13 @@ use Rattle.item_core.specs.declared.edge.TheConstants.{EDGES}
 use Rattle.item_core.specs.contracts.edge.Edge as contracts
 use Rattle.item_core.specs.contracts.family.FamilyPartialEq.TheImpl as families
 
+-- how many edges and families there are
+abbrev pub edge_count : ℕ
+edge_count = 63
+
+abbrev pub family_count : ℕ
+family_count = 20
+
 -- the place of an edge in the table
 abbrev pub edge_number : Edge → ℕ
 edge_number edge = tag_of contracts.the_type edge

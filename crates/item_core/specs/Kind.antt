@@ -12,6 +12,10 @@ use Rattle.item_core.specs.declared.kind.TheConstants.{KINDS}
 use Rattle.item_core.specs.contracts.kind.Kind as contracts
 use Rattle.item_core.specs.contracts.kind.KindPartialEq.TheImpl as kinds
 
+-- how many kinds there are
+abbrev pub kind_count : ℕ
+kind_count = 35
+
 -- the place of a kind in the table
 abbrev pub kind_number : Kind → ℕ
 kind_number kind = tag_of contracts.the_type kind

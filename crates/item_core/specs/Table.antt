@@ -5,6 +5,7 @@ use Rattle.item_core.specs.declared.table.Target.{Target}
 use Rattle.item_core.specs.declared.table.Target.TheVariants.{Standard, Rows, Cone, All, Less}
 use Rattle.item_core.specs.declared.kind.KindTable.{KindTable}
 use Rattle.item_core.specs.declared.kind.TheConstants.{KINDS}
+use Rattle.item_core.specs.Edge.{edge_count, family_count}
 
 -- which kinds the target supports, as a table of kinds says
 abbrev pub supported_in : KindTable → Target → List Bool
@@ -21,6 +22,6 @@ supported_by = supported_in KINDS
 unfoldable pub target_table : Target → Table
 target_table target = record {
   supported = supported_by target;
-  on = replicate 20 true;
-  cost = replicate 63 1;
+  on = replicate family_count true;
+  cost = replicate edge_count 1;
 }

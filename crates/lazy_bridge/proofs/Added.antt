@@ -7,7 +7,7 @@ use Rattle.std.proofs.lemmas.List.{map-append}
 use Rattle.std.proofs.lemmas.List.Elements.{All-append, All-cons, All-nil}
 use Rattle.std.proofs.lemmas.Bool.{or_parts}
 use Rattle.bridge_face.specs.State.{State}
-use Rattle.bridge_set.specs.Boxed.{families_of, occur_once}
+use Rattle.bridge_set.specs.Bridges.{families_of, occur_once}
 use Rattle.fresh_bridging.specs.TableLaws.{and_first, and_second, equal_family, family_itself}
 use Rattle.item_core.specs.declared.family.Family.{Family}
 use Rattle.item_core.specs.Edge.{family_eq}

@@ -6,7 +6,7 @@ use Rattle.address_map.specs.AddressMap.{AddressMap}
 use Rattle.address_map.specs.Places.{Places}
 use Rattle.aff_core.specs.Address.{Address}
 use Rattle.bridge_set.specs.Adding.{AreFree, with_each}
-use Rattle.bridge_set.specs.Boxed.{AreKeepable, Boxed, families_of, kept_by, setting_of}
+use Rattle.bridge_set.specs.Bridges.{AreKeepable, Bridges, families_of, kept_by, setting_of}
 use Rattle.bridge_set.specs.Letting.{IsAlone, without_each}
 use Rattle.bridge_set.specs.Turns.{turns_of}
 use Rattle.bridge_set.specs.Walk.{IsNarrow, IsRoot, nodes_below}
@@ -23,9 +23,9 @@ use Rattle.leaf_update.specs.Splice.{Gone, IsSplice, IsSplicedInto, KeepsIndices
 use Rattle.leaf_model.specs.LeafModel.{IsChanged}
 use Rattle.leaf_model.specs.ReadThrough.{read_through}
 use Rattle.push_laws.specs.Composed.{done, free_here, keepable_here, splice_here}
-use Rattle.push_laws.specs.Edits.{Edit, IsMappedAnew}
+use Rattle.push_laws.specs.Edits.{AttachedEdit, IsMappedAnew}
 use Rattle.push_laws.specs.GroupsHad.{all_roots}
-use Rattle.push_laws.specs.WalkedLaws.{narrow_boxes, nodes_alone}
+use Rattle.push_laws.specs.WalkedLaws.{narrow_bridges, nodes_alone}
 use Rattle.solver_store.specs.SolverModel.{Leaves, Stored}
 use Rattle.touched_items.specs.Differences.{groups_in}
 use Rattle.touched_items.specs.declared.differing.Differing.{Differing}
@@ -49,13 +49,13 @@ named_on mid last solver vars rows h =
     subst (λ (p : Places × Places). NamesEach (record last { vars = p.0; rows = p.1 }) solver)
     (λ i. (sym vars i, sym rows i)) back
 
-module _ (e : Edit) (boxes : Boxed) (solver : Stored) (places : AddressMap) (objective_at : Address)
-    (d : Differing) (held : IsHeldBy e boxes solver places objective_at d) (standing : List Entry)
+module _ (e : AttachedEdit) (bridges : Bridges) (solver : Stored) (places : AddressMap) (objective_at : Address)
+    (d : Differing) (held : IsHeldBy e bridges solver places objective_at d) (standing : List Entry)
     (found : List Address) (plan : Plan) (made : IsPlannedOf e standing found plan) where
-  same_kept : kept_by boxes.states ≡ kept_by e.boxes.states
+  same_kept : kept_by bridges.states ≡ kept_by e.bridges.states
   same_kept = ap (λ (m : Means). m.kept) held.means
 
-  same_families : families_of boxes.states ≡ families_of e.boxes.states
+  same_families : families_of bridges.states ≡ families_of e.bridges.states
   same_families = ap (λ (m : Means). m.setting.families) held.means
 
   -- what holds of the parts of the edit holds of these
@@ -67,16 +67,16 @@ module _ (e : Edit) (boxes : Boxed) (solver : Stored) (places : AddressMap) (obj
       (subst (λ a. P e.solver e.places a d) (sym held.objective)
       (subst (P e.solver e.places e.objective_at) (sym held.differing) h)))
 
-  pub narrow : IsNarrow boxes.states
-  narrow = narrow_boxes e boxes.states same_kept
+  pub narrow : IsNarrow bridges.states
+  narrow = narrow_bridges e bridges.states same_kept
 
   pub roots : All IsRoot found
   roots = subst (All IsRoot) made.addresses
       (all_roots e made.step.changed made.step.addresses made.step.rows made.step.objective
       made.step.search)
 
-  pub alone : (ats : List Address) → All (λ at. IsAlone at (kept_by boxes.states)) ats
-  alone ats = nodes_alone e boxes.states same_kept ats
+  pub alone : (ats : List Address) → All (λ at. IsAlone at (kept_by bridges.states)) ats
+  alone ats = nodes_alone e bridges.states same_kept ats
 
   pub named : NamesEach places solver.leaves
   named = back (λ s p a x. NamesEach p s) e.held.named
@@ -98,33 +98,33 @@ module _ (e : Edit) (boxes : Boxed) (solver : Stored) (places : AddressMap) (obj
       (back (λ s p a x. IsSplice (read_through p s a) (gone_of s p a x) made.step.leaves)
       (splice_here e made.step)))
 
-  pub keepable : (families : List Family) → families ≡ families_of boxes.states
+  pub keepable : (families : List Family) → families ≡ families_of bridges.states
       → AreKeepable families plan.nodes.items
   keepable families same =
       subst (λ fs. AreKeepable fs plan.nodes.items) (sym (same ∙ same_families))
-      (subst (AreKeepable (families_of e.boxes.states)) made.nodes (keepable_here e made.step))
+      (subst (AreKeepable (families_of e.bridges.states)) made.nodes (keepable_here e made.step))
 
   -- all old nodes are let go
   module _ (between : List State) (old_nodes : List Address)
-      (listed : old_nodes ≡ flat_map (nodes_below boxes.states) found)
-      (gone : kept_by between ≡ map (without_each old_nodes) (kept_by boxes.states)) where
-    listed_step : old_nodes ≡ flat_map (nodes_below boxes.states) made.step.addresses
-    listed_step = listed ∙ ap (flat_map (nodes_below boxes.states)) (sym made.addresses)
+      (listed : old_nodes ≡ flat_map (nodes_below bridges.states) found)
+      (gone : kept_by between ≡ map (without_each old_nodes) (kept_by bridges.states)) where
+    listed_step : old_nodes ≡ flat_map (nodes_below bridges.states) made.step.addresses
+    listed_step = listed ∙ ap (flat_map (nodes_below bridges.states)) (sym made.addresses)
 
     gone_step : kept_by between
-        ≡ map (without_each (flat_map (nodes_below boxes.states) made.step.addresses))
-        (kept_by boxes.states)
-    gone_step = gone ∙ ap (λ l. map (without_each l) (kept_by boxes.states)) listed_step
+        ≡ map (without_each (flat_map (nodes_below bridges.states) made.step.addresses))
+        (kept_by bridges.states)
+    gone_step = gone ∙ ap (λ l. map (without_each l) (kept_by bridges.states)) listed_step
 
     pub free : AreFree plan.nodes.items (kept_by between)
     free =
         subst (λ ns. AreFree ns (kept_by between)) made.nodes
-        (free_here e made.step boxes.states between same_kept gone_step)
+        (free_here e made.step bridges.states between same_kept gone_step)
 
     -- leaves are changed, nodes kept, and the map has what it has to
-    pub changed : (behind : Boxed) (solver_last : Stored) (places_mid places_last : AddressMap)
+    pub changed : (behind : Bridges) (solver_last : Stored) (places_mid places_last : AddressMap)
         (objective_last : Address) (n : ℕ) (gone_leaves : Gone)
-        → setting_of behind ≡ setting_of boxes
+        → setting_of behind ≡ setting_of bridges
         → kept_by behind.states ≡ map (with_each plan.nodes.items) (kept_by between)
         → gone_leaves
         ≡ others_among (old_leaves places solver.leaves objective_at (groups_in d.before) found)
@@ -133,15 +133,15 @@ module _ (e : Edit) (boxes : Boxed) (solver : Stored) (places : AddressMap) (obj
         places_mid objective_last
         → places_last.vars ≡ places_mid.vars → places_last.rows ≡ places_mid.rows
         → IsMappedAnew e standing places_last
-        → turns_of between ≤ turns_of boxes.states + length old_nodes
+        → turns_of between ≤ turns_of bridges.states + length old_nodes
         → turns_of behind.states ≤ turns_of between + length plan.nodes.items
-        → IsChangedOf e made.step boxes solver places objective_at n behind solver_last
+        → IsChangedOf e made.step bridges solver places objective_at n behind solver_last
         places_last objective_last
     changed behind solver_last places_mid places_last objective_last n gone_leaves setting kept
         gone_are into vars rows mapped let_go again =
         record {
-          done = λ start before. done e made.step boxes.states between behind.states
-              solver_last.leaves places_last objective_last start (turns_of boxes.states)
+          done = λ start before. done e made.step bridges.states between behind.states
+              solver_last.leaves places_last objective_last start (turns_of bridges.states)
               (turns_of between) (turns_of behind.states) same_kept gone_step
               (kept ∙ ap (λ ns. map (with_each ns) (kept_by between)) (sym made.nodes))
               (read_on places_mid places_last solver_last.leaves objective_last vars rows
@@ -149,7 +149,7 @@ module _ (e : Edit) (boxes : Boxed) (solver : Stored) (places : AddressMap) (obj
               (named_on places_mid places_last solver_last.leaves vars rows into.named)
               (subst (λ st. IsMappedAnew e st places_last) (sym made.stands) mapped)
               before
-              (subst (λ l. turns_of between ≤ turns_of boxes.states + length l) listed_step let_go)
+              (subst (λ l. turns_of between ≤ turns_of bridges.states + length l) listed_step let_go)
               (subst (λ ns. turns_of behind.states ≤ turns_of between + length ns)
               (sym made.nodes) again)
               (setting_of behind) (setting ∙ ap (λ (m : Means). m.setting) held.means);

@@ -3,7 +3,7 @@ use Rattle.std.specs.Prelude.{◌≡◌, ◌≤◌, ◌<◌, ◌+◌, ◌-◌, �
 use Rattle.std.proofs.Common.{arith, subst, sym, ap, ◌∙◌}
 use Rattle.address_map.specs.AddressMap.{AddressMap}
 use Rattle.aff_core.specs.Address.{Address}
-use Rattle.bridge_set.specs.Boxed.{Boxed, families_of, means_of, occur_once, setting_of}
+use Rattle.bridge_set.specs.Bridges.{Bridges, families_of, means_of, occur_once, setting_of}
 use Rattle.bridge_set.specs.Turns.{turns_of}
 use Rattle.bridge_plan.specs.Means.{AreSound, Means}
 use Rattle.bridge_plan.specs.declared.plan.Plan.{Plan}
@@ -21,7 +21,7 @@ use Rattle.local_laws.specs.Unlisted.{entries_of}
 use Rattle.model_bridging.specs.Planned.{Planned}
 use Rattle.model_bridging.specs.declared.fault.PushFault.{PushFault}
 use Rattle.model_bridging.specs.declared.fault.PushFault.TheVariants.{Unsupported, Overflow, Memory}
-use Rattle.push_laws.specs.Edits.{Edit, HoldsBridging}
+use Rattle.push_laws.specs.Edits.{AttachedEdit, HoldsBridging}
 use Rattle.solver_store.specs.SolverModel.{Stored}
 use Rattle.touched_items.specs.DifferenceLaws.{HasDifferences}
 use Rattle.touched_items.specs.declared.differing.Differing.{Differing}
@@ -30,7 +30,7 @@ use Rattle.user_model.specs.declared.undo.Undo.{Undo}
 
 -- a fault that is handed on
 pub handed_on : (old : Parts) (model : ModelValue) (undos : List Undo) (after : ModelValue)
-    (start : IsStart old.boxes old.solver old.places old.objective_at model undos after)
+    (start : IsStart old.bridges old.solver old.places old.objective_at model undos after)
     (r : Result ℕ PushFault) (f : PushFault) (new : Parts) → IsErrAnd r (λ x. x ≡ f)
     → IsPushedTo old model undos after start (Err f) new
     → IsPushedTo old model undos after start r new
@@ -38,25 +38,25 @@ handed_on old model undos after start (Ok n) f new is h = absurd is
 handed_on old model undos after start (Err g) f new is h =
     subst (λ x. IsPushedTo old model undos after start (Err x) new) (sym is) h
 
-module _ (boxes : Boxed) (solver : Stored) (places : AddressMap) (objective_at : Address)
+module _ (bridges : Bridges) (solver : Stored) (places : AddressMap) (objective_at : Address)
     (model : ModelValue) (undos : List Undo) (after : ModelValue)
-    (start : IsStart boxes solver places objective_at model undos after) where
+    (start : IsStart bridges solver places objective_at model undos after) where
   -- where nothing but turns was changed
-  module _ (reads : ℕ) (later : Boxed) (reads_later : ℕ) (same : means_of later ≡ means_of boxes)
+  module _ (reads : ℕ) (later : Bridges) (reads_later : ℕ) (same : means_of later ≡ means_of bridges)
     where
       abbrev told : PushFault → Type 0
       told f =
-          IsPushedTo (parts_of boxes solver places objective_at reads) model undos after start (Err f)
+          IsPushedTo (parts_of bridges solver places objective_at reads) model undos after start (Err f)
           (parts_of later solver places objective_at reads_later)
 
       pub memory : told Memory
       memory = ap (λ (m : Means). m.setting) same
 
   module _ (d : Differing) (differs : HasDifferences model after d) where
-    abbrev pub edit : Edit
+    abbrev pub edit : AttachedEdit
     edit = record {
-      boxes = boxes;
-      table = boxes.table;
+      bridges = bridges;
+      table = bridges.table;
       solver = solver.leaves;
       places = places;
       objective_at = objective_at;
@@ -72,12 +72,12 @@ module _ (boxes : Boxed) (solver : Stored) (places : AddressMap) (objective_at :
       valid = start.valid;
       d = d;
       separates = separated model after start.held.valid start.valid d differs;
-      alike = λ at out. chooses_itself start.held.bridging start.sound.costly (means_of boxes).choice
+      alike = λ at out. chooses_itself start.held.bridging start.sound.costly (means_of bridges).choice
           start.sound.chosen at;
       touched = λ new. differing_touched start.held.bridging new d differs;
     }
 
-    pub of_edit : (read : ModelValue) → read ≡ after → IsEditOf edit boxes places read d
+    pub of_edit : (read : ModelValue) → read ≡ after → IsEditOf edit bridges places read d
     of_edit read same = record {
       means = refl;
       mapped = refl;
@@ -85,7 +85,7 @@ module _ (boxes : Boxed) (solver : Stored) (places : AddressMap) (objective_at :
       differing = refl;
     }
 
-    pub held_by : (later : Boxed) → means_of later ≡ means_of boxes
+    pub held_by : (later : Bridges) → means_of later ≡ means_of bridges
         → IsHeldBy edit later solver places objective_at d
     held_by later same = record {
       means = same;
@@ -95,9 +95,9 @@ module _ (boxes : Boxed) (solver : Stored) (places : AddressMap) (objective_at :
       differing = refl;
     }
 
-    pub refused : (reads : ℕ) (later : Boxed) (reads_later : ℕ) (f : PushFault)
-        → means_of later ≡ means_of boxes → IsRefusedBy edit f
-        → IsPushedTo (parts_of boxes solver places objective_at reads) model undos after start
+    pub refused : (reads : ℕ) (later : Bridges) (reads_later : ℕ) (f : PushFault)
+        → means_of later ≡ means_of bridges → IsRefusedBy edit f
+        → IsPushedTo (parts_of bridges solver places objective_at reads) model undos after start
         (Err f) (parts_of later solver places objective_at reads_later)
     refused reads later reads_later (Unsupported kind) same h = (
       h,
@@ -120,20 +120,20 @@ module _ (boxes : Boxed) (solver : Stored) (places : AddressMap) (objective_at :
     refused reads later reads_later Memory same h = ap (λ (m : Means). m.setting) same
 
     pub pushed : (standing : List Entry) (found : List Address) (plan : Plan)
-        (made : IsPlannedOf edit standing found plan) (later last : Boxed) (solver_last : Stored)
+        (made : IsPlannedOf edit standing found plan) (later last : Bridges) (solver_last : Stored)
         (places_last : AddressMap) (objective_last : Address) (n : ℕ)
         (reads reads_listed reads_last : ℕ)
-        → means_of later ≡ means_of boxes → setting_of last ≡ setting_of later
-        → turns_of later.states ≤ turns_of boxes.states + length plan.nodes.items
+        → means_of later ≡ means_of bridges → setting_of last ≡ setting_of later
+        → turns_of later.states ≤ turns_of bridges.states + length plan.nodes.items
         → reads_listed ≤ reads + entries_of undos → reads_last ≤ reads_listed + length found
         → IsChangedOf edit made.step later solver places objective_at n last solver_last
         places_last objective_last
-        → IsPushedTo (parts_of boxes solver places objective_at reads) model undos after start
+        → IsPushedTo (parts_of bridges solver places objective_at reads) model undos after start
         (Ok n) (parts_of last solver_last places_last objective_last reads_last)
     pushed standing found plan made later last solver_last places_last objective_last n reads
         reads_listed reads_last same setting turns listed searched changed =
-        let done = changed.done (turns_of boxes.states)
-        (subst (λ ns. turns_of later.states ≤ turns_of boxes.states + length ns) (sym made.nodes)
+        let done = changed.done (turns_of bridges.states)
+        (subst (λ ns. turns_of later.states ≤ turns_of bridges.states + length ns) (sym made.nodes)
         turns) in
         record {
           holds = done.holds;
@@ -155,7 +155,7 @@ module _ (boxes : Boxed) (solver : Stored) (places : AddressMap) (objective_at :
 
 -- what stands in it, by its parts, and back
 abbrev pub held_in : (lazy : Owned) (model : ModelValue) → IsBridgingOf lazy model
-    → HoldsBridging (setting_of lazy.boxes) lazy.boxes.states lazy.solver.leaves lazy.map
+    → HoldsBridging (setting_of lazy.bridges) lazy.bridges.states lazy.solver.leaves lazy.map
     lazy.objective_at model
 held_in lazy model h = record {
   valid = h.valid;
@@ -170,7 +170,7 @@ held_in lazy model h = record {
 }
 
 abbrev pub stands_in : (lazy : Owned) (model : ModelValue)
-    → HoldsBridging (setting_of lazy.boxes) lazy.boxes.states lazy.solver.leaves lazy.map
+    → HoldsBridging (setting_of lazy.bridges) lazy.bridges.states lazy.solver.leaves lazy.map
     lazy.objective_at model
     → IsBridgingOf lazy model
 stands_in lazy model h = record {
@@ -185,14 +185,14 @@ stands_in lazy model h = record {
   marks = h.marks;
 }
 
-module _ (old : Owned) (undos : List Undo) (after : ModelValue) (sound : AreSound (means_of old.boxes))
-    (once : occur_once (families_of old.boxes.states) ≡ true)
-    (native : supports_native old.boxes.table ≡ true) (can : CanPush old undos after) where
-  abbrev pub started : IsStart old.boxes old.solver old.map old.objective_at can.model undos after
+module _ (old : Owned) (undos : List Undo) (after : ModelValue) (sound : AreSound (means_of old.bridges))
+    (once : occur_once (families_of old.bridges.states) ≡ true)
+    (native : supports_native old.bridges.table ≡ true) (can : CanPush old undos after) where
+  abbrev pub started : IsStart old.bridges old.solver old.map old.objective_at can.model undos after
   started = record {
     sound = sound;
     once = once;
-    native = supported (setting_of old.boxes) native;
+    native = supported (setting_of old.bridges) native;
     held = held_in old can.model can.stands;
     back = can.back;
     valid = can.valid;
@@ -200,13 +200,13 @@ module _ (old : Owned) (undos : List Undo) (after : ModelValue) (sound : AreSoun
 
   abbrev told_by : Result ℕ PushFault → ℕ → Owned → ℕ → Type 0
   told_by r reads new reads_after =
-      IsPushedTo (parts_of old.boxes old.solver old.map old.objective_at reads) can.model undos after
-      started r (parts_of new.boxes new.solver new.map new.objective_at reads_after)
+      IsPushedTo (parts_of old.bridges old.solver old.map old.objective_at reads) can.model undos after
+      started r (parts_of new.bridges new.solver new.map new.objective_at reads_after)
 
   module _ (n reads : ℕ) (new : Owned) (reads_after : ℕ)
       (pushed : told_by (Ok n) reads new reads_after) where
     pub is_bridged : (count : ℕ) → count ≡ min n (2 ^ 64 - 1)
-        → IsBridgedBy old old.boxes.table after (Ok count) new
+        → IsBridgedBy old old.bridges.table after (Ok count) new
     is_bridged count is =
         (stands_in new after pushed.holds, pushed.setting, (n, pushed.counted, is))
 
@@ -235,11 +235,11 @@ module _ (old : Owned) (undos : List Undo) (after : ModelValue) (sound : AreSoun
 
   module _ (fault : PushFault) (reads : ℕ) (new : Owned) (reads_after : ℕ)
       (other : fault ≡ Memory → ⊥) (pushed : told_by (Err fault) reads new reads_after) where
-    pub is_refused : IsBridgedBy old old.boxes.table after (Err fault) new
+    pub is_refused : IsBridgedBy old old.bridges.table after (Err fault) new
     is_refused = by fault other pushed
       where
         by : (f : PushFault) → (f ≡ Memory → ⊥) → told_by (Err f) reads new reads_after
-            → IsBridgedBy old old.boxes.table after (Err f) new
+            → IsBridgedBy old old.bridges.table after (Err f) new
         by (Unsupported kind) o h = (
           h.0,
           record {
@@ -272,19 +272,19 @@ module _ (old : Owned) (undos : List Undo) (after : ModelValue) (sound : AreSoun
   -- the tables and what the map names stay
   module _ (fault : PushFault) (reads : ℕ) (new : Owned) (reads_after : ℕ)
       (other : fault ≡ Memory → ⊥) (pushed : told_by (Err fault) reads new reads_after) where
-    turned : IsTurned (parts_of old.boxes old.solver old.map old.objective_at reads)
-        (parts_of new.boxes new.solver new.map new.objective_at reads_after)
+    turned : IsTurned (parts_of old.bridges old.solver old.map old.objective_at reads)
+        (parts_of new.bridges new.solver new.map new.objective_at reads_after)
     turned = by fault other pushed
       where
         by : (f : PushFault) → (f ≡ Memory → ⊥) → told_by (Err f) reads new reads_after
-            → IsTurned (parts_of old.boxes old.solver old.map old.objective_at reads)
-            (parts_of new.boxes new.solver new.map new.objective_at reads_after)
+            → IsTurned (parts_of old.bridges old.solver old.map old.objective_at reads)
+            (parts_of new.bridges new.solver new.map new.objective_at reads_after)
         by (Unsupported kind) o h = h.1
         by (Overflow at) o h = h.1
         by Memory o h = absurd (o refl)
 
     pub is_kept_true : NamesEach old.map old.solver.leaves
-        → (supports_native new.boxes.table ≡ true) × NamesEach new.map new.solver.leaves
+        → (supports_native new.bridges.table ≡ true) × NamesEach new.map new.solver.leaves
     is_kept_true named = (
       subst (λ t. supports_native t ≡ true)
           (sym (ap (λ (m : Means). m.setting.table) turned.means)) native,
@@ -294,7 +294,7 @@ module _ (old : Owned) (undos : List Undo) (after : ModelValue) (sound : AreSoun
 
   pub is_pushed_true : (n reads : ℕ) (new : Owned) (reads_after : ℕ)
       → told_by (Ok n) reads new reads_after
-      → (supports_native new.boxes.table ≡ true) × NamesEach new.map new.solver.leaves
+      → (supports_native new.bridges.table ≡ true) × NamesEach new.map new.solver.leaves
   is_pushed_true n reads new reads_after pushed = (
     subst (λ t. supports_native t ≡ true)
         (sym (ap (λ (s : Setting). s.table) pushed.setting)) native,
@@ -303,12 +303,12 @@ module _ (old : Owned) (undos : List Undo) (after : ModelValue) (sound : AreSoun
 
   pub memory_setting : (fault : PushFault) → fault ≡ Memory → (reads : ℕ) (new : Owned)
       (reads_after : ℕ) → told_by (Err fault) reads new reads_after
-      → setting_of new.boxes ≡ setting_of old.boxes
+      → setting_of new.bridges ≡ setting_of old.bridges
   memory_setting fault is reads new reads_after pushed =
       subst (λ f. told_by (Err f) reads new reads_after) is pushed
 
 -- memory ran out on the way, and all was freed
-pub same_setting : (old mid new : Boxed) → setting_of mid ≡ setting_of old
+pub same_setting : (old mid new : Bridges) → setting_of mid ≡ setting_of old
     → families_of new.states ≡ families_of mid.states → new.table ≡ mid.table
     → setting_of new ≡ setting_of old
 same_setting old mid new e families table =

@@ -52,6 +52,7 @@ use Rattle.user_model.specs.declared.group.Group.{Group}
 use Rattle.user_model.specs.declared.objective.Objective.{Objective}
 use Rattle.user_model.specs.declared.objective.Objective.TheVariants as objective
 use Rattle.user_model.specs.declared.row.Row.{Row}
+use Rattle.item_core.specs.Kind.{kind_count}
 
 -- ---- plain functions name the model's variables
 
@@ -101,7 +102,7 @@ module _ {setting : Setting} {model : ModelValue} (sound : IsValidUnder setting 
     (old : FreshBridging setting model) (m : AddressMap) (has : HasExpressions m old)
     (other : ℕ → Choice) where
   abbrev changed : Kind → Bool
-  changed k = is_changed old.choice other 35 k
+  changed k = is_changed old.choice other kind_count k
 
   abbrev pub GivenBy : Item → Bool
   GivenBy = is_given changed (is_marked m)
@@ -142,7 +143,7 @@ module _ {setting : Setting} {model : ModelValue} (sound : IsValidUnder setting 
 
   abbrev Unchanged : Item → Type 0
   Unchanged item =
-      IsUnchanged setting sound.costly old.choice old.chosen sound.lawful other 35 item
+      IsUnchanged setting sound.costly old.choice old.chosen sound.lawful other kind_count item
 
   groups_can : All CanBe (model_image model).groups
   groups_can =
@@ -180,7 +181,7 @@ module _ {setting : Setting} {model : ModelValue} (sound : IsValidUnder setting 
     unfolding KeepsAtEach
     each_keeps_at none h = tt
     each_keeps_at (each {item} {items} first rest) h = (
-      λ here. unchanged_keeps setting sound.costly old.choice old.chosen sound.lawful other 35
+      λ here. unchanged_keeps setting sound.costly old.choice old.chosen sound.lawful other kind_count
           (All-head (λ i. i.at ≡ at → Unchanged i) item items h here) first,
       each_keeps_at rest (All-tail (λ i. i.at ≡ at → Unchanged i) item items h),
     )
@@ -192,7 +193,7 @@ module _ {setting : Setting} {model : ModelValue} (sound : IsValidUnder setting 
     unfolding KeepsAtIn
     rest_keeps_at none_in h = tt
     rest_keeps_at (each_in {inner} {item} {items} first rest) h = (
-      λ here. unchanged_keeps setting sound.costly old.choice old.chosen sound.lawful other 35
+      λ here. unchanged_keeps setting sound.costly old.choice old.chosen sound.lawful other kind_count
           (All-head (λ i. i.at ≡ at → Unchanged (put_in inner i)) item items h here) first,
       rest_keeps_at rest (All-tail (λ i. i.at ≡ at → Unchanged (put_in inner i)) item items h),
     )
@@ -256,7 +257,7 @@ module _ {setting : Setting} {model : ModelValue} (sound : IsValidUnder setting 
         ap changed (group_kind g.body
         (All-contains (λ g. is_group g.body ≡ true) (model_image model).groups g (groups_are model)
         inside))
-        ∙ keeps_unchanged setting sound.costly old.choice old.chosen sound.lawful other 35
+        ∙ keeps_unchanged setting sound.costly old.choice old.chosen sound.lawful other kind_count
         (All-contains CanBe (model_image model).groups g groups_can inside) held.tree held.keeps
 
     other_breaks : (at : Address) → KeepsAt old other at → (c : Item)
@@ -268,7 +269,7 @@ module _ {setting : Setting} {model : ModelValue} (sound : IsValidUnder setting 
         × (find (is_there c.at) (model_image model).others ≡ Some c))
         (model_image model).others c (others_found model sound.valid) inside).1) in
         ap changed (All-contains IsKindOf (model_image model).others c other_kinds inside)
-        ∙ keeps_unchanged setting sound.costly old.choice old.chosen sound.lawful other 35
+        ∙ keeps_unchanged setting sound.costly old.choice old.chosen sound.lawful other kind_count
         (All-contains (λ c. CanBe (put_in old.made.entries c)) (model_image model).others c others_can
         inside) held.tree held.keeps
 

@@ -10,7 +10,7 @@ use Rattle.lazy_bridge.specs.Expressed.{SetsAt, expr_at, is_marked}
 use Rattle.lazy_bridge.specs.Mentioned.{Notes, contents_name, is_noted}
 use Rattle.lazy_bridge.proofs.Names.{still_noted}
 use Rattle.leaf_update.specs.Others.{among}
-use Rattle.push_laws.specs.Edits.{Edit, IsMappedAnew}
+use Rattle.push_laws.specs.Edits.{AttachedEdit, IsMappedAnew}
 use Rattle.touched_items.specs.Differences.{groups_in, variables_in}
 use Rattle.touched_items.specs.declared.differing.Differing.{Differing}
 
@@ -38,7 +38,7 @@ mapped_with : (old forgotten expressed last : AddressMap) (d : Differing) (stand
     → SetsAt (λ v. is_kept (expression_in standing v)) (variables_in (groups_in d.after))
     (is_marked forgotten) (is_marked expressed)
     → last.exprs ≡ expressed.exprs → last.kept ≡ expressed.kept
-    → (e : Edit) → old.exprs ≡ e.places.exprs → old.kept ≡ e.places.kept → d ≡ e.d
+    → (e : AttachedEdit) → old.exprs ≡ e.places.exprs → old.kept ≡ e.places.kept → d ≡ e.d
     → ((var at : Address)
     → is_noted last.noted var at
     ≡ ((is_noted e.places.noted var at && not (contents_name e.d.before var at))
@@ -84,7 +84,7 @@ pub mapped_anew : (old forgotten expressed without last : AddressMap) (d : Diffe
     → last.exprs ≡ expressed.exprs → last.kept ≡ expressed.kept
     → Notes (contents_name d.before) false old.noted without.noted
     → Notes (contents_name d.after) true without.noted last.noted
-    → (e : Edit) → old.exprs ≡ e.places.exprs → old.kept ≡ e.places.kept
+    → (e : AttachedEdit) → old.exprs ≡ e.places.exprs → old.kept ≡ e.places.kept
     → old.noted ≡ e.places.noted → d ≡ e.d → IsMappedAnew e standing last
 mapped_anew old forgotten expressed without last d standing gone unmarked put marked exprs kept
     unnoted noted e same_exprs same_kept same_noted same_d =
@@ -112,7 +112,7 @@ pub mapped_alike : (old forgotten last : AddressMap) (d : Differing) (standing :
     (is_marked forgotten) (is_marked last)
     → last.noted ≡ old.noted
     → ((var at : Address) → contents_name d.before var at ≡ contents_name d.after var at)
-    → (e : Edit) → old.exprs ≡ e.places.exprs → old.kept ≡ e.places.kept
+    → (e : AttachedEdit) → old.exprs ≡ e.places.exprs → old.kept ≡ e.places.kept
     → old.noted ≡ e.places.noted → d ≡ e.d → IsMappedAnew e standing last
 mapped_alike old forgotten last d standing gone unmarked put marked stay alike e same_exprs
     same_kept same_noted same_d =

@@ -9,7 +9,7 @@ use Rattle.std.specs.Option.{option_copied, option_map_or}
 use Rattle.aff_core.specs.Address.{Address, address_eq, address_eq-Decides, root_address}
 use Rattle.aff_core.specs.declared.root.Root.TheVariants as root
 use Rattle.lazy_bridge.specs.Mentioned.{contents_name, is_noted, other_names, row_names}
-use Rattle.push_laws.specs.Edits.{Edit}
+use Rattle.push_laws.specs.Edits.{AttachedEdit}
 use Rattle.touched_items.specs.Differences.{rows_in}
 use Rattle.touched_items.specs.declared.differing.Contents.{Contents}
 use Rattle.user_model.specs.Model.{objective_mentions}
@@ -84,7 +84,7 @@ stays false false false h e = refl
 stays was true false h e = absurd (true≢false e)
 stays was false true h e = absurd (true≢false (sym e))
 
-pub still_noted : (e : Edit) → ((var at : Address)
+pub still_noted : (e : AttachedEdit) → ((var at : Address)
     → contents_name e.d.before var at ≡ contents_name e.d.after var at) → (var at : Address)
     → is_noted e.places.noted var at
     ≡ ((is_noted e.places.noted var at && not (contents_name e.d.before var at))

@@ -6,7 +6,7 @@ use Rattle.std.proofs.Common.{ap, subst, sym, ◌∙◌}
 use Rattle.address_map.specs.AddressMap.{AddressMap}
 use Rattle.address_map.specs.Noted.{noted_items}
 use Rattle.aff_core.specs.Address.{Address}
-use Rattle.bridge_set.specs.Boxed.{Boxed, means_of}
+use Rattle.bridge_set.specs.Bridges.{Bridges, means_of}
 use Rattle.bridge_graph.specs.declared.Choice.{Choice}
 use Rattle.bridge_plan.specs.Adds.{Adds, kept_of}
 use Rattle.bridge_plan.specs.Means.{Means}
@@ -26,7 +26,7 @@ use Rattle.model_bridging.specs.Outcome.{IsFirstAt, KindsOutcome, Outcome}
 use Rattle.model_bridging.specs.declared.fault.PushFault.{PushFault}
 use Rattle.model_bridging.specs.declared.fault.PushFault.TheVariants.{Unsupported, Overflow, Memory}
 use Rattle.push_laws.specs.Composed.{others_within, overflow_others}
-use Rattle.push_laws.specs.Edits.{AreAllOwn, AreChanging, Edit, IsSearch, choice_here, groups_held, missing_groups, missing_others}
+use Rattle.push_laws.specs.Edits.{AreAllOwn, AreChanging, AttachedEdit, IsSearch, choice_here, groups_held, missing_groups, missing_others}
 use Rattle.push_laws.specs.RefusedLaws.{groups_within, overflow_groups, unsupported_groups, unsupported_others, unsupported_wide}
 use Rattle.touched_items.specs.Differences.{differing_addresses, groups_in, own_variables}
 use Rattle.touched_items.specs.HeldExpressions.{stays_as}
@@ -36,15 +36,16 @@ use Rattle.user_model.specs.Model.{ModelValue}
 use Rattle.user_model.specs.declared.group.Group.{Group}
 use Rattle.user_model.specs.declared.objective.Objective.{Objective}
 use Rattle.user_model.specs.declared.row.Row.{Row}
+use Rattle.item_core.specs.Kind.{kind_count}
 
 -- ---- a fault that is handed on
 
-pub handed_made : (e : Edit) (r : Result Planned PushFault) (f : PushFault)
+pub handed_made : (e : AttachedEdit) (r : Result Planned PushFault) (f : PushFault)
     → IsErrAnd r (λ x. x ≡ f) → IsRefusedBy e f → IsMadeBy e r
 handed_made e (Ok x) f is h = absurd is
 handed_made e (Err g) f is h = subst (IsRefusedBy e) (sym is) h
 
-pub handed_found : {T : Type 0} (e : Edit) (standing : List Entry) (plan : Plan)
+pub handed_found : {T : Type 0} (e : AttachedEdit) (standing : List Entry) (plan : Plan)
     (items : T → List Address) (r : Result T PushFault) (f : PushFault) → IsErrAnd r (λ x. x ≡ f)
     → IsRefusedBy e f → IsFoundBy r items e standing plan
 handed_found e standing plan items (Ok x) f is h = absurd is
@@ -67,25 +68,25 @@ module _ (choice : ℕ → Choice) (given items : List (Bor Group)) (same : give
       subst (λ gs. KindsOutcome {T = T} (Err f)
       (first_missing choice (kinds_as_they_stand (listed gs)))) same
 
-  pub within_seen : All (IsWithin choice 35) (listed items) → All (IsWithin choice 35) (listed given)
-  within_seen = subst (λ gs. All (IsWithin choice 35) (listed gs)) (sym same)
+  pub within_seen : All (IsWithin choice kind_count) (listed items) → All (IsWithin choice kind_count) (listed given)
+  within_seen = subst (λ gs. All (IsWithin choice kind_count) (listed gs)) (sym same)
 
-  pub fit_seen : unfit choice 35 (listed given) ≡ None → unfit choice 35 (listed items) ≡ None
-  fit_seen = subst (λ gs. unfit choice 35 (listed gs) ≡ None) same
+  pub fit_seen : unfit choice kind_count (listed given) ≡ None → unfit choice kind_count (listed items) ≡ None
+  fit_seen = subst (λ gs. unfit choice kind_count (listed gs) ≡ None) same
 
   pub adds_seen : (plan new : Plan) (entries : List Entry)
-      → Adds plan new [] entries (worked_each choice (worked choice 35) (listed given))
-      → Adds plan new [] entries (worked_each choice (worked choice 35) (listed items))
+      → Adds plan new [] entries (worked_each choice (worked choice kind_count) (listed given))
+      → Adds plan new [] entries (worked_each choice (worked choice kind_count) (listed items))
   adds_seen plan new entries =
-      subst (λ gs. Adds plan new [] entries (worked_each choice (worked choice 35) (listed gs))) same
+      subst (λ gs. Adds plan new [] entries (worked_each choice (worked choice kind_count) (listed gs))) same
 
-  unfit_seen : (at : Address) → IsFirstAt (unfit choice 35 (listed given)) at
-      → IsFirstAt (unfit choice 35 (listed items)) at
-  unfit_seen at = subst (λ gs. IsFirstAt (unfit choice 35 (listed gs)) at) same
+  unfit_seen : (at : Address) → IsFirstAt (unfit choice kind_count (listed given)) at
+      → IsFirstAt (unfit choice kind_count (listed items)) at
+  unfit_seen at = subst (λ gs. IsFirstAt (unfit choice kind_count (listed gs)) at) same
 
   pub overflow_seen : (T : Type 0) (f : PushFault) (Q R : T → Type 0)
-      → Outcome (Err f) (unfit choice 35 (listed given)) Q
-      → Outcome (Err f) (unfit choice 35 (listed items)) R
+      → Outcome (Err f) (unfit choice kind_count (listed given)) Q
+      → Outcome (Err f) (unfit choice kind_count (listed items)) R
   overflow_seen T (Unsupported kind) Q R h = h
   overflow_seen T (Overflow at) Q R h = unfit_seen at h
   overflow_seen T Memory Q R h = h
@@ -132,7 +133,7 @@ module _ (choice : ℕ → Choice) (inner : List Entry) (rows every : List (Bor 
     (objective : Option Objective) (also : rows ≡ every) where
   abbrev unfit_among : List (Bor Row) → Option Item
   unfit_among rs =
-      unfit_put choice 35 inner (found_others (map (λ r. r.now) rs) objective)
+      unfit_put choice kind_count inner (found_others (map (λ r. r.now) rs) objective)
 
   pub others_unfit_seen : (T : Type 0) (f : PushFault) (Q R : T → Type 0)
       → Outcome (Err f) (unfit_among rows) Q → Outcome (Err f) (unfit_among every) R
@@ -141,78 +142,78 @@ module _ (choice : ℕ → Choice) (inner : List Entry) (rows every : List (Bor 
   others_unfit_seen T Memory Q R h = h
 
 -- the same edit after turns
-pub edit_later : (e : Edit) (boxes later : Boxed) (places : AddressMap) (after read : ModelValue)
-    (d : Differing) → means_of later ≡ means_of boxes → read ≡ after
-    → IsEditOf e boxes places after d → IsEditOf e later places read d
-edit_later e boxes later places after read d same also of = record {
+pub edit_later : (e : AttachedEdit) (bridges later : Bridges) (places : AddressMap) (after read : ModelValue)
+    (d : Differing) → means_of later ≡ means_of bridges → read ≡ after
+    → IsEditOf e bridges places after d → IsEditOf e later places read d
+edit_later e bridges later places after read d same also of = record {
   means = same ∙ of.means;
   mapped = of.mapped;
   model = also ∙ of.model;
   differing = of.differing;
 }
 
-module _ (e : Edit) (boxes : Boxed) (places : AddressMap) (after : ModelValue) (d : Differing)
-    (of : IsEditOf e boxes places after d) where
+module _ (e : AttachedEdit) (bridges : Bridges) (places : AddressMap) (after : ModelValue) (d : Differing)
+    (of : IsEditOf e bridges places after d) where
   -- what holds of the parts holds of the edit, and back
   along : (P : Means → AddressMap → ModelValue → Differing → Type 0)
-      → P (means_of boxes) places after d → P (means_of e.boxes) e.places e.after e.d
+      → P (means_of bridges) places after d → P (means_of e.bridges) e.places e.after e.d
   along P h =
-      subst (P (means_of e.boxes) e.places e.after) of.differing
-      (subst (λ a. P (means_of e.boxes) e.places a d) of.model
-      (subst (λ p. P (means_of e.boxes) p after d) of.mapped
+      subst (P (means_of e.bridges) e.places e.after) of.differing
+      (subst (λ a. P (means_of e.bridges) e.places a d) of.model
+      (subst (λ p. P (means_of e.bridges) p after d) of.mapped
       (subst (λ m. P m places after d) of.means h)))
 
   back : (P : Means → AddressMap → ModelValue → Differing → Type 0)
-      → P (means_of e.boxes) e.places e.after e.d → P (means_of boxes) places after d
+      → P (means_of e.bridges) e.places e.after e.d → P (means_of bridges) places after d
   back P h =
       subst (λ m. P m places after d) (sym of.means)
-      (subst (λ p. P (means_of e.boxes) p after d) (sym of.mapped)
-      (subst (λ a. P (means_of e.boxes) e.places a d) (sym of.model)
-      (subst (P (means_of e.boxes) e.places e.after) (sym of.differing) h)))
+      (subst (λ p. P (means_of e.bridges) p after d) (sym of.mapped)
+      (subst (λ a. P (means_of e.bridges) e.places a d) (sym of.model)
+      (subst (P (means_of e.bridges) e.places e.after) (sym of.differing) h)))
 
   -- ---- groups
 
   abbrev missing_of : Means → Differing → Option Kind
   missing_of m x = first_missing m.choice (kinds_as_they_stand (map group_item (groups_in x.after)))
 
-  trees_here : missing_of (means_of boxes) d ≡ None → missing_groups e ≡ None
+  trees_here : missing_of (means_of bridges) d ≡ None → missing_groups e ≡ None
   trees_here none = along (λ m p a x. missing_of m x ≡ None) none
 
   pub groups_refused : (T : Type 0) (f : PushFault)
-      → KindsOutcome {T = T} (Err f) (missing_of (means_of boxes) d) → IsRefusedBy e f
+      → KindsOutcome {T = T} (Err f) (missing_of (means_of bridges) d) → IsRefusedBy e f
   groups_refused T (Unsupported kind) h =
       unsupported_groups e kind (along (λ m p a x. missing_of m x ≡ Some kind) h)
   groups_refused T (Overflow at) h = absurd h
   groups_refused T Memory h = tt
 
-  pub groups_can : missing_of (means_of boxes) d ≡ None
-      → All (IsWithin (means_of boxes).choice 35) (map group_item (groups_in d.after))
+  pub groups_can : missing_of (means_of bridges) d ≡ None
+      → All (IsWithin (means_of bridges).choice kind_count) (map group_item (groups_in d.after))
   groups_can none =
-      back (λ m p a x. All (IsWithin m.choice 35) (map group_item (groups_in x.after)))
+      back (λ m p a x. All (IsWithin m.choice kind_count) (map group_item (groups_in x.after)))
       (groups_within e (trees_here none))
 
   abbrev outcome_of : {T : Type 0} → Result T PushFault → (T → List Entry) → Plan → Plan → Means
       → Differing → Type 0
   outcome_of r entries_of plan new m x =
-      Outcome r (unfit m.choice 35 (map group_item (groups_in x.after)))
+      Outcome r (unfit m.choice kind_count (map group_item (groups_in x.after)))
       (λ t. Adds plan new [] (entries_of t)
-      (worked_each m.choice (worked m.choice 35) (map group_item (groups_in x.after))))
+      (worked_each m.choice (worked m.choice kind_count) (map group_item (groups_in x.after))))
 
   -- the groups are planned first
   pub groups_planned : (plan new : Plan) (entries standing : List Entry)
       → plan.leaves.items ≡ [] → plan.nodes.items ≡ []
-      → missing_of (means_of boxes) d ≡ None
-      → unfit (means_of boxes).choice 35 (map group_item (groups_in d.after)) ≡ None
-      → Adds plan new [] entries (worked_each (means_of boxes).choice
-      (worked (means_of boxes).choice 35) (map group_item (groups_in d.after)))
+      → missing_of (means_of bridges) d ≡ None
+      → unfit (means_of bridges).choice kind_count (map group_item (groups_in d.after)) ≡ None
+      → Adds plan new [] entries (worked_each (means_of bridges).choice
+      (worked (means_of bridges).choice kind_count) (map group_item (groups_in d.after)))
       → expression_in standing ≡ expression_in entries
       → AreGroupsOf e standing new
   groups_planned plan new entries standing no_leaves no_nodes none fit adds stands =
       let more = along (λ m p a x. Adds plan new [] entries (worked_each m.choice
-      (worked m.choice 35) (map group_item (groups_in x.after)))) adds in
+      (worked m.choice kind_count) (map group_item (groups_in x.after)))) adds in
       record {
         trees = trees_here none;
-        fit = along (λ m p a x. unfit m.choice 35 (map group_item (groups_in x.after)) ≡ None) fit;
+        fit = along (λ m p a x. unfit m.choice kind_count (map group_item (groups_in x.after)) ≡ None) fit;
         stands = stands ∙ ap expression_in more.entries;
         leaves = more.leaves ∙ ap (λ l. l ++ (groups_held e).leaves) no_leaves;
         nodes = more.nodes ∙ ap (λ l. l ++ map kept_of (groups_held e).nodes) no_nodes;
@@ -220,15 +221,15 @@ module _ (e : Edit) (boxes : Boxed) (places : AddressMap) (after : ModelValue) (
 
   -- a number of theirs doesn't fit, and no item lacks a tree
   pub groups_overflow : (T : Type 0) (f : PushFault) (Q : T → Type 0)
-      → Outcome (Err f) (unfit (means_of boxes).choice 35 (map group_item (groups_in d.after))) Q
+      → Outcome (Err f) (unfit (means_of bridges).choice kind_count (map group_item (groups_in d.after))) Q
       → IsPassedBy e (Ok tt) → IsRefusedBy e f
   groups_overflow T (Unsupported kind) Q h passed = absurd h
   groups_overflow T (Overflow at) Q h passed =
       passed at
-      (along (λ m p a x. IsFirstAt (unfit m.choice 35 (map group_item (groups_in x.after))) at) h)
+      (along (λ m p a x. IsFirstAt (unfit m.choice kind_count (map group_item (groups_in x.after))) at) h)
   groups_overflow T Memory Q h passed = tt
 
-  pub trees_of : missing_of (means_of boxes) d ≡ None → missing_groups e ≡ None
+  pub trees_of : missing_of (means_of bridges) d ≡ None → missing_groups e ≡ None
   trees_of = trees_here
 
   -- ---- what is found
@@ -260,7 +261,7 @@ module _ (e : Edit) (boxes : Boxed) (places : AddressMap) (after : ModelValue) (
 
     pub all_passed : changed ≡ own_variables d → missing_groups e ≡ None
         → (r : Result (Unit {0}) PushFault)
-        → KindsOutcome r (missing_by (means_of boxes) places d) → IsPassedBy e r
+        → KindsOutcome r (missing_by (means_of bridges) places d) → IsPassedBy e r
     all_passed all none (Ok x) h =
         overflow_groups e changed addresses rows objective search (all_own all none)
         (along (λ m p a x. missing_by m p x ≡ None) h)
@@ -284,14 +285,14 @@ module _ (e : Edit) (boxes : Boxed) (places : AddressMap) (after : ModelValue) (
       }
 
       pub others_refused : (T : Type 0) (f : PushFault)
-          → KindsOutcome {T = T} (Err f) (missing_by (means_of boxes) places d) → IsRefusedBy e f
+          → KindsOutcome {T = T} (Err f) (missing_by (means_of bridges) places d) → IsRefusedBy e f
       others_refused T (Unsupported kind) h =
           unsupported_others e changed addresses rows objective search standing changing kind
           (along (λ m p a x. missing_by m p x ≡ Some kind) h)
       others_refused T (Overflow at) h = absurd h
       others_refused T Memory h = tt
 
-      module _ (none : missing_by (means_of boxes) places d ≡ None) (further : List Entry)
+      module _ (none : missing_by (means_of bridges) places d ≡ None) (further : List Entry)
           (stands : expression_in further ≡ expression_in (own_entries standing (groups_in d.after)
           ++ read_entries places (named_by rows objective))) where
         trees : missing_others e rows objective ≡ None
@@ -304,36 +305,36 @@ module _ (e : Edit) (boxes : Boxed) (places : AddressMap) (after : ModelValue) (
             ≡ expression_in (own_entries standing (groups_in x.after)
             ++ read_entries p (named_by rows objective))) stands
 
-        pub others_can : All (λ item. IsWithin (means_of boxes).choice 35 (put_in further item))
+        pub others_can : All (λ item. IsWithin (means_of bridges).choice kind_count (put_in further item))
             (found_others rows objective)
         others_can =
-            back (λ m p a x. All (λ item. IsWithin m.choice 35 (put_in further item))
+            back (λ m p a x. All (λ item. IsWithin m.choice kind_count (put_in further item))
             (found_others rows objective))
             (others_within e changed addresses rows objective search standing changing trees further
             stands_here)
 
         -- a number of theirs doesn't fit
         pub others_overflow : (T : Type 0) (f : PushFault) (Q : T → Type 0)
-            → Outcome (Err f) (unfit_put (means_of boxes).choice 35 further
+            → Outcome (Err f) (unfit_put (means_of bridges).choice kind_count further
             (found_others rows objective)) Q
             → IsRefusedBy e f
         others_overflow T (Unsupported kind) Q h = absurd h
         others_overflow T (Overflow at) Q h =
             overflow_others e changed addresses rows objective search standing changing trees further
             stands_here at
-            (along (λ m p a x. IsFirstAt (unfit_put m.choice 35 further
+            (along (λ m p a x. IsFirstAt (unfit_put m.choice kind_count further
             (found_others rows objective)) at) h)
         others_overflow T Memory Q h = tt
 
         -- all is planned
         pub all_planned : (new : Plan)
-            → unfit_put (means_of boxes).choice 35 further (found_others rows objective) ≡ None
-            → Adds plan new [] [] (worked_in (means_of boxes).choice
-            (worked (means_of boxes).choice 35) further (found_others rows objective))
+            → unfit_put (means_of bridges).choice kind_count further (found_others rows objective) ≡ None
+            → Adds plan new [] [] (worked_in (means_of bridges).choice
+            (worked (means_of bridges).choice kind_count) further (found_others rows objective))
             → IsPlannedOf e standing addresses new
         all_planned new fit adds =
             let more = along (λ m p a x. Adds plan new [] [] (worked_in m.choice
-            (worked m.choice 35) further (found_others rows objective))) adds in
+            (worked m.choice kind_count) further (found_others rows objective))) adds in
             record {
               step = record {
                 standing = standing;
@@ -349,14 +350,14 @@ module _ (e : Edit) (boxes : Boxed) (places : AddressMap) (after : ModelValue) (
                 trees = trees;
                 stands = stands_here;
                 planned = record {
-                  fit = along (λ m p a x. unfit_put m.choice 35 further
+                  fit = along (λ m p a x. unfit_put m.choice kind_count further
                       (found_others rows objective) ≡ None) fit;
                   leaves_are = more.leaves
-                      ∙ ap (λ l. l ++ (worked_in (choice_here e) (worked (choice_here e) 35) further
+                      ∙ ap (λ l. l ++ (worked_in (choice_here e) (worked (choice_here e) kind_count) further
                       (found_others rows objective)).leaves) groups.leaves;
                   nodes_are = more.nodes
                       ∙ ap (λ l. l ++ map kept_of (worked_in (choice_here e)
-                      (worked (choice_here e) 35) further (found_others rows objective)).nodes)
+                      (worked (choice_here e) kind_count) further (found_others rows objective)).nodes)
                       groups.nodes;
                 };
               };

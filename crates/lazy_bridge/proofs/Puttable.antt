@@ -2,7 +2,7 @@
 use Rattle.std.proofs.Common.{sym, subst}
 use Rattle.aff_core.specs.Address.{address_cmp}
 use Rattle.aff_core.specs.Rising.{HasDistinctKeys}
-use Rattle.bridge_set.specs.Boxed.{AreKeepable}
+use Rattle.bridge_set.specs.Bridges.{AreKeepable}
 use Rattle.bridge_graph.specs.Hypergraph.{IsCostly}
 use Rattle.fresh_bridging.specs.CanLaws.{AreLawful}
 use Rattle.fresh_bridging.specs.TheRules.{Setting, graph_of}

@@ -5,7 +5,7 @@ use Rattle.std.proofs.Common.{sym, ap, subst, ◌∙◌}
 use Rattle.std.proofs.lemmas.List.Elements.{All-map}
 use Rattle.address_map.specs.AddressMap.{AddressMap}
 use Rattle.aff_core.specs.Address.{Address}
-use Rattle.bridge_set.specs.Boxed.{kept_by}
+use Rattle.bridge_set.specs.Bridges.{kept_by}
 use Rattle.bridge_face.specs.State.{Kept, State}
 use Rattle.bridge_plan.specs.Means.{Means}
 use Rattle.item_core.specs.declared.family.Family.{Family}
@@ -37,7 +37,7 @@ leaves_both a b c first second = record {
 
 pub read_alike : (old now : Owned) → HasLeavesOf old now → leaf_model_in now ≡ leaf_model_in old
 read_alike old now same = λ i. leaf_model_in (record {
-  boxes = now.boxes;
+  bridges = now.bridges;
   solver = same.solver i;
   map = record now.map { vars = same.vars i; rows = same.rows i };
   objective_at = same.objective_at i;
@@ -50,12 +50,12 @@ none_kept states h = All-map (λ (k : Family × Kept). k.1 ≡ finite.empty)
     (λ (s : State). (s.family, s.kept)) states h
 
 pub nothing_tried : (old new : Owned) → IsTried old new → HoldsNothing old
-    → All (λ (s : State). s.kept ≡ finite.empty) new.boxes.states
+    → All (λ (s : State). s.kept ≡ finite.empty) new.bridges.states
 nothing_tried old new same h =
     all_from_map (λ (k : Family × Kept). k.1 ≡ finite.empty) (λ (s : State). (s.family, s.kept))
-    new.boxes.states
+    new.bridges.states
     (subst (All (λ (k : Family × Kept). k.1 ≡ finite.empty))
-    (sym (ap (λ (m : Means). m.kept) same.means)) (none_kept old.boxes.states h.kept))
+    (sym (ap (λ (m : Means). m.kept) same.means)) (none_kept old.bridges.states h.kept))
 
 -- ---- what depends on a map's leaves and expressions alone
 

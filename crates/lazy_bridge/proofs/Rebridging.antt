@@ -5,7 +5,7 @@ use Rattle.std.proofs.Common.{sym, ap, subst, ◌∙◌}
 use Rattle.std.proofs.lemmas.Option.{none-some}
 use Rattle.address_map.specs.AddressMap.{AddressMap}
 use Rattle.aff_core.specs.Address.{Address}
-use Rattle.bridge_set.specs.Boxed.{Boxed, choice_in, families_of, kept_by, means_of, setting_by, setting_of}
+use Rattle.bridge_set.specs.Bridges.{Bridges, choice_in, families_of, kept_by, means_of, setting_by, setting_of}
 use Rattle.bridge_face.specs.State.{State}
 use Rattle.bridge_plan.specs.Means.{AreSound, Means}
 use Rattle.fresh_bridging.specs.ChoiceLaws.{one_choice}
@@ -34,8 +34,8 @@ use Rattle.user_model.specs.Valid.{IsValid}
 
 -- a plan that was made can be put in
 pub can_be_put : (old : Owned) (tried : List Family) (model : ModelValue) (planned : ModelPlan)
-    → AreSound (means_of old.boxes) → supports_native old.boxes.table ≡ true → IsValid model
-    → IsPlanOf (setting_in old) model planned → tried ≡ families_of old.boxes.states
+    → AreSound (means_of old.bridges) → supports_native old.bridges.table ≡ true → IsValid model
+    → IsPlanOf (setting_in old) model planned → tried ≡ families_of old.bridges.states
     → IsPuttable tried planned
 can_be_put old tried model planned sound native valid plan same =
     subst (λ fs. IsPuttable fs planned) (sym same)
@@ -46,7 +46,7 @@ can_be_put old tried model planned sound native valid plan same =
 pub bridged : (old now new : Owned) (model : ModelValue) (planned : ModelPlan) (n : ℕ)
     → IsPlanOf (setting_in old) model planned → HasLeavesOf old now → Holds now model planned new
     → setting_in new ≡ setting_in now → Counts (leaf_model_in now) (leaf_model_in new) n
-    → IsValid model → IsBridgedBy old old.boxes.table model (Ok n) new
+    → IsValid model → IsBridgedBy old old.bridges.table model (Ok n) new
 bridged old now new model planned n plan alike holds same counts valid =
     let setting : setting_in new ≡ setting_in old = same ∙ alike.setting in (
       stands now new (setting_in old) model planned plan holds setting valid,
@@ -57,14 +57,14 @@ bridged old now new model planned n plan alike holds same counts valid =
 -- a fault of the planning changes nothing but turns
 pub refused : (old new : Owned) (model : ModelValue) (fault : PushFault)
     → (fault ≡ Memory → ⊥) → Planned (setting_in old) model (Err fault) → IsTried old new
-    → IsBridgedBy old old.boxes.table model (Err fault) new
+    → IsBridgedBy old old.bridges.table model (Err fault) new
 refused old new model (Unsupported kind) other plan same = (plan, same)
 refused old new model (Overflow at) other plan same = (plan, same)
 refused old new model Memory other plan same = absurd (other refl)
 
 -- where the model's numbers are small, each fits
 pub no_overflow : {T : Type 0} (old : Owned) (model : ModelValue) (fault : PushFault)
-    (r : Result T PushFault) → r ≡ Err fault → AreSound (means_of old.boxes) → IsValid model
+    (r : Result T PushFault) → r ≡ Err fault → AreSound (means_of old.bridges) → IsValid model
     → Planned (setting_in old) model (Err fault) → HasSmallNumbers model → (at : Address)
     → r ≢ Err (Overflow at)
 no_overflow old model fault r is sound valid plan small at e =
@@ -79,27 +79,27 @@ no_overflow old model fault r is sound valid plan small at e =
 
 -- another table was set, and nothing else
 pub record IsSet (old new : Owned) (table : Table) : Type 0 where
-  pub table_is : new.boxes.table ≡ table
-  pub states : new.boxes.states ≡ old.boxes.states
+  pub table_is : new.bridges.table ≡ table
+  pub states : new.bridges.states ≡ old.bridges.states
   pub solver : new.solver ≡ old.solver
   pub map : new.map ≡ old.map
   pub objective_at : new.objective_at ≡ old.objective_at
 
 set_setting : (old new : Owned) (table : Table) → IsSet old new table
-    → setting_in new ≡ setting_by table old.boxes.states
+    → setting_in new ≡ setting_by table old.bridges.states
 set_setting old new table h = λ i. setting_by (h.table_is i) (h.states i)
 
 set_leaves : (old new : Owned) (table : Table) → IsSet old new table
     → leaf_model_in new ≡ leaf_model_in old
 set_leaves old new table h = λ i. leaf_model_in (record {
-  boxes = new.boxes;
+  bridges = new.bridges;
   solver = h.solver i;
   map = h.map i;
   objective_at = h.objective_at i;
 })
 
 -- sound choices by one setting are the same
-pub same_means : (a b : Boxed) → AreSound (means_of a) → AreSound (means_of b)
+pub same_means : (a b : Bridges) → AreSound (means_of a) → AreSound (means_of b)
     → setting_of a ≡ setting_of b → kept_by a.states ≡ kept_by b.states → means_of a ≡ means_of b
 same_means a b sound also e k = λ i. record {
   setting = e i;
@@ -114,14 +114,14 @@ same_means a b sound also e k = λ i. record {
         (subst (λ s. AreChoices s (choice_in a.choices)) e sound.chosen kind) (also.chosen kind)
 
 module _ (old first second last : Owned) (table : Table) (model : ModelValue)
-    (set : IsSet old first table) (back : IsSet second last old.boxes.table)
-    (sound : AreSound (means_of old.boxes)) (also : AreSound (means_of last.boxes)) where
+    (set : IsSet old first table) (back : IsSet second last old.bridges.table)
+    (sound : AreSound (means_of old.bridges)) (also : AreSound (means_of last.bridges)) where
   restored : IsTried first second → IsTried old last
   restored h = record {
     means =
-        same_means last.boxes old.boxes also sound
-        (set_setting second last old.boxes.table back
-        ∙ ap (λ fs. record { table = old.boxes.table; families = fs })
+        same_means last.bridges old.bridges also sound
+        (set_setting second last old.bridges.table back
+        ∙ ap (λ fs. record { table = old.bridges.table; families = fs })
         (ap (λ (m : Means). m.setting.families) h.means ∙ ap families_of set.states))
         (ap kept_by back.states ∙ ap (λ (m : Means). m.kept) h.means ∙ ap kept_by set.states);
     solver = back.solver ∙ h.solver ∙ set.solver;
@@ -137,10 +137,10 @@ module _ (old first second last : Owned) (table : Table) (model : ModelValue)
     exprs = ap (λ (m : AddressMap). m.exprs) back.map ∙ h.exprs;
     noted = ap (λ (m : AddressMap). m.noted) back.map ∙ h.noted;
     marks = ap (λ (m : AddressMap). m.kept) back.map ∙ h.marks;
-    kept = subst (All (λ (box : State). box.kept ≡ finite.empty)) (sym back.states) h.kept;
+    kept = subst (All (λ (bridge : State). bridge.kept ≡ finite.empty)) (sym back.states) h.kept;
   }
 
-  pub set_back : (fault : PushFault) → IsBridgedBy first first.boxes.table model (Err fault) second
+  pub set_back : (fault : PushFault) → IsBridgedBy first first.bridges.table model (Err fault) second
       → IsBridgedBy old table model (Err fault) last
   set_back (Unsupported kind) h = (
     subst (λ s. IsUnsupported s model kind) (set_setting old first table set) h.0,
@@ -153,14 +153,14 @@ module _ (old first second last : Owned) (table : Table) (model : ModelValue)
   )
   set_back Memory h = (
     still_nothing h.0,
-    set_setting second last old.boxes.table back
-        ∙ ap (λ fs. record { table = old.boxes.table; families = fs })
+    set_setting second last old.bridges.table back
+        ∙ ap (λ fs. record { table = old.bridges.table; families = fs })
         (ap (λ (s : Setting). s.families) h.1 ∙ ap families_of set.states),
   )
 
 -- where the model is bridged by the other table
 pub set_on : (old first second : Owned) (table : Table) (model : ModelValue) (n : ℕ)
-    → IsSet old first table → IsBridgedBy first first.boxes.table model (Ok n) second
+    → IsSet old first table → IsBridgedBy first first.bridges.table model (Ok n) second
     → IsBridgedBy old table model (Ok n) second
 set_on old first second table model n set h = (
   h.0,

@@ -4,7 +4,7 @@ use Rattle.std.specs.FinMap as finite
 use Rattle.std.proofs.Common.{sym, ap, subst, ◌∙◌}
 use Rattle.std.proofs.lemmas.List.Elements.{All-nil, All-cons}
 use Rattle.aff_core.specs.Address.{address_cmp}
-use Rattle.bridge_set.specs.Boxed.{kept_among, kept_by, keeping}
+use Rattle.bridge_set.specs.Bridges.{kept_among, kept_by, keeping}
 use Rattle.bridge_face.specs.State.{Kept, State}
 use Rattle.bridge_face.specs.declared.kept_item.KeptItem.{KeptItem}
 use Rattle.map_laws.specs.EachLaws.{all_from_map}
@@ -53,9 +53,9 @@ stands old new setting model planned plan holds same valid =
           leaves = holds.leaves ∙ ap leaf_model_of q.leaves;
           named = holds.named;
           kept =
-              subst (λ ns. All (λ (s : State). s.kept ≡ kept_among ns s.family) new.boxes.states)
+              subst (λ ns. All (λ (s : State). s.kept ≡ kept_among ns s.family) new.bridges.states)
               q.nodes
-              (each_keeps planned.plan.nodes.items old.boxes.states new.boxes.states holds.kept);
+              (each_keeps planned.plan.nodes.items old.bridges.states new.bridges.states holds.kept);
           exprs = holds.exprs ∙ ap (finite.from_entries {R = address_cmp}) q.exprs;
           noted = holds.noted;
           marks = holds.marks ∙ ap marks_of q.kept;

@@ -6,8 +6,8 @@ use Rattle.std.proofs.Common.{ap, subst, ◌∙◌}
 use Rattle.address_map.specs.AddressMap.{AddressMap}
 use Rattle.aff_core.specs.Address.{Address}
 use Rattle.bridge_graph.specs.declared.Choice.{Choice}
-use Rattle.bridge_set.specs.Boxed.{Boxed, means_of, setting_by, setting_of}
-use Rattle.push_laws.specs.Edits.{Edit}
+use Rattle.bridge_set.specs.Bridges.{Bridges, means_of, setting_by, setting_of}
+use Rattle.push_laws.specs.Edits.{AttachedEdit}
 use Rattle.found_plan.specs.Read.{is_marked}
 use Rattle.fresh_bridging.specs.Entries.{is_kept}
 use Rattle.fresh_bridging.specs.FreshBridging.{expression_of}
@@ -25,19 +25,20 @@ use Rattle.lazy_bridge.proofs.GivenKinds.{given_apart}
 use Rattle.touched_items.specs.ExpressionLaws.{HasExpressions}
 use Rattle.touched_items.specs.declared.differing.Differing.{Differing}
 use Rattle.user_model.specs.Model.{ModelValue}
+use Rattle.item_core.specs.Kind.{kind_count}
 
 -- what is bridged otherwise by the new table
-abbrev pub AreRetabled : Boxed → (ℕ → Choice) → AddressMap → ModelValue → Differing → Type 0
-AreRetabled boxes choice places model d =
-    let changed : Kind → Bool = is_changed choice (means_of boxes).choice 35 in
+abbrev pub AreRetabled : Bridges → (ℕ → Choice) → AddressMap → ModelValue → Differing → Type 0
+AreRetabled bridges choice places model d =
+    let changed : Kind → Bool = is_changed choice (means_of bridges).choice kind_count in
     AreGiven changed (is_marked places) model d.before
     × AreGiven changed (is_marked places) model d.after
 
-module _ (boxes : Boxed) (table : Table) (choice : ℕ → Choice) (solver : Leaves)
+module _ (bridges : Bridges) (table : Table) (choice : ℕ → Choice) (solver : Leaves)
     (places : AddressMap) (objective_at : Address) (model : ModelValue)
-    (is : HoldsByTable boxes table choice solver places objective_at model)
-    (d : Differing) (given : AreRetabled boxes choice places model d) where
-  pub sound_before : IsValidUnder (setting_by table boxes.states) model
+    (is : HoldsByTable bridges table choice solver places objective_at model)
+    (d : Differing) (given : AreRetabled bridges choice places model d) where
+  pub sound_before : IsValidUnder (setting_by table bridges.states) model
   sound_before = record {
     costly = is.costly;
     lawful = is.lawful;
@@ -54,16 +55,16 @@ module _ (boxes : Boxed) (table : Table) (choice : ℕ → Choice) (solver : Lea
 
   same_choice : choice ≡ is.held.bridging.choice
   same_choice =
-      one_for_all (setting_by table boxes.states) is.costly choice is.held.bridging.choice is.chosen
+      one_for_all (setting_by table bridges.states) is.costly choice is.held.bridging.choice is.chosen
       is.held.bridging.chosen
 
   -- as by the choices of the bridging that is held
-  pub given_here : AreRetabled boxes is.held.bridging.choice places model d
-  given_here = subst (λ c. AreRetabled boxes c places model d) same_choice given
+  pub given_here : AreRetabled bridges is.held.bridging.choice places model d
+  given_here = subst (λ c. AreRetabled bridges c places model d) same_choice given
 
-  abbrev pub table_edit : Edit
+  abbrev pub table_edit : AttachedEdit
   table_edit = record {
-    boxes = boxes;
+    bridges = bridges;
     table = table;
     solver = solver;
     places = places;
@@ -80,12 +81,12 @@ module _ (boxes : Boxed) (table : Table) (choice : ℕ → Choice) (solver : Lea
     valid = is.held.valid;
     d = d;
     separates = given_apart
-        (is_changed is.held.bridging.choice (means_of boxes).choice 35) (is_marked places) model
+        (is_changed is.held.bridging.choice (means_of bridges).choice kind_count) (is_marked places) model
         is.held.valid d given_here.0 given_here.1;
-    alike = alike_beside sound_before is.held.bridging places has (means_of boxes).choice d
+    alike = alike_beside sound_before is.held.bridging places has (means_of bridges).choice d
         given_here.0 given_here.1;
-    touched = λ new. given_touched sound_before is.held.bridging places has (means_of boxes).choice d
+    touched = λ new. given_touched sound_before is.held.bridging places has (means_of bridges).choice d
         given_here.0 given_here.1 new
-        (one_for_all (setting_of boxes) is.sound.costly new.choice (means_of boxes).choice new.chosen
+        (one_for_all (setting_of bridges) is.sound.costly new.choice (means_of bridges).choice new.chosen
         is.sound.chosen);
   }

@@ -7,12 +7,12 @@ use Rattle.bridge_graph.specs.declared.Choice.{Choice}
 use Rattle.bridge_face.specs.State.{State}
 use Rattle.bridge_plan.specs.Means.{AreSound, Means}
 use Rattle.bridge_plan.specs.declared.plan.Plan.{Plan}
-use Rattle.bridge_set.specs.Boxed.{Boxed, choice_in, families_of, means_of, occur_once, setting_by, setting_of}
+use Rattle.bridge_set.specs.Bridges.{Bridges, choice_in, families_of, means_of, occur_once, setting_by, setting_of}
 use Rattle.bridge_set.specs.Turns.{turns_of}
-use Rattle.push_laws.specs.Edits.{Edit}
+use Rattle.push_laws.specs.Edits.{AttachedEdit}
 use Rattle.found_plan.specs.Read.{is_marked}
 use Rattle.fresh_bridging.specs.Entries.{Entry}
-use Rattle.item_core.specs.Kind.{kind_number}
+use Rattle.item_core.specs.Kind.{kind_count, kind_number}
 use Rattle.item_core.specs.declared.kind.Kind.{Kind}
 use Rattle.item_core.specs.declared.table.Table.{Table}
 use Rattle.table_change.specs.ChangedKindLaws.{changed_alike}
@@ -37,42 +37,42 @@ use Rattle.lazy_bridge.proofs.TableEdits.{AreRetabled, table_edit}
 use Rattle.touched_items.specs.declared.differing.Differing.{Differing}
 use Rattle.user_model.specs.Model.{ModelValue}
 
-module _ (boxes : Boxed) (table : Table) (choices : List Choice) (solver : Stored)
+module _ (bridges : Bridges) (table : Table) (choices : List Choice) (solver : Stored)
     (places : AddressMap) (objective_at : Address) (model : ModelValue)
-    (start : IsTableStart boxes table choices solver places objective_at model) where
-  abbrev told : Result ℕ PushFault → Boxed → Stored → AddressMap → Address → Type 0
+    (start : IsTableStart bridges table choices solver places objective_at model) where
+  abbrev told : Result ℕ PushFault → Bridges → Stored → AddressMap → Address → Type 0
   told r b s p o =
-      IsRetabledTo boxes table choices solver places objective_at model start r b s p o
+      IsRetabledTo bridges table choices solver places objective_at model start r b s p o
 
-  pub memory : (later : Boxed) → means_of later ≡ means_of boxes
+  pub memory : (later : Bridges) → means_of later ≡ means_of bridges
       → told (Err Memory) later solver places objective_at
   memory later same = ap (λ (m : Means). m.setting) same
 
   module _ (now : List Choice)
       (are : (kind : Kind)
-      → choice_in now (kind_number kind) ≡ (means_of boxes).choice (kind_number kind))
+      → choice_in now (kind_number kind) ≡ (means_of bridges).choice (kind_number kind))
       (changed : List Bool)
       (each : (kind : Kind) → slice_index_or changed (kind_number kind) false
-      ≡ is_changed (choice_in choices) (choice_in now) 35 kind)
+      ≡ is_changed (choice_in choices) (choice_in now) kind_count kind)
       (d : Differing) (before : AreGiven (passes changed) (is_marked places) model d.before)
       (behind : AreGiven (passes changed) (is_marked places) model d.after) where
-    pub same_kinds : passes changed ≡ is_changed start.choice (means_of boxes).choice 35
+    pub same_kinds : passes changed ≡ is_changed start.choice (means_of bridges).choice kind_count
     same_kinds =
         (λ i kind. each kind i)
-        ∙ changed_alike (choice_in choices) start.choice (choice_in now) (means_of boxes).choice
-        start.told are 35
+        ∙ changed_alike (choice_in choices) start.choice (choice_in now) (means_of bridges).choice
+        start.told are kind_count
 
-    pub given : AreRetabled boxes start.choice places model d
+    pub given : AreRetabled bridges start.choice places model d
     given = (
       subst (λ c. AreGiven c (is_marked places) model d.before) same_kinds before,
       subst (λ c. AreGiven c (is_marked places) model d.after) same_kinds behind,
     )
 
-    abbrev pub edit : Edit
+    abbrev pub edit : AttachedEdit
     edit =
-        table_edit boxes table start.choice solver.leaves places objective_at model start.holds d given
+        table_edit bridges table start.choice solver.leaves places objective_at model start.holds d given
 
-    pub of_edit : (read : ModelValue) → read ≡ model → IsEditOf edit boxes places read d
+    pub of_edit : (read : ModelValue) → read ≡ model → IsEditOf edit bridges places read d
     of_edit read same = record {
       means = refl;
       mapped = refl;
@@ -80,7 +80,7 @@ module _ (boxes : Boxed) (table : Table) (choices : List Choice) (solver : Store
       differing = refl;
     }
 
-    pub held_by : (later : Boxed) → means_of later ≡ means_of boxes
+    pub held_by : (later : Bridges) → means_of later ≡ means_of bridges
         → IsHeldBy edit later solver places objective_at d
     held_by later same = record {
       means = same;
@@ -90,7 +90,7 @@ module _ (boxes : Boxed) (table : Table) (choices : List Choice) (solver : Store
       differing = refl;
     }
 
-    pub refused : (later : Boxed) (f : PushFault) → means_of later ≡ means_of boxes
+    pub refused : (later : Bridges) (f : PushFault) → means_of later ≡ means_of bridges
         → IsRefusedBy edit f → told (Err f) later solver places objective_at
     refused later (Unsupported kind) same h = (
       h,
@@ -113,17 +113,17 @@ module _ (boxes : Boxed) (table : Table) (choices : List Choice) (solver : Store
     refused later Memory same h = ap (λ (m : Means). m.setting) same
 
     pub retabled : (standing : List Entry) (found : List Address) (plan : Plan)
-        (made : IsPlannedOf edit standing found plan) (later last : Boxed) (solver_last : Stored)
+        (made : IsPlannedOf edit standing found plan) (later last : Bridges) (solver_last : Stored)
         (places_last : AddressMap) (objective_last : Address) (n : ℕ)
-        → means_of later ≡ means_of boxes → setting_of last ≡ setting_of later
-        → turns_of later.states ≤ turns_of boxes.states + length plan.nodes.items
+        → means_of later ≡ means_of bridges → setting_of last ≡ setting_of later
+        → turns_of later.states ≤ turns_of bridges.states + length plan.nodes.items
         → IsChangedOf edit made.step later solver places objective_at n last solver_last
         places_last objective_last
         → told (Ok n) last solver_last places_last objective_last
     retabled standing found plan made later last solver_last places_last objective_last n same
         setting turns changed_of =
-        let done = changed_of.done (turns_of boxes.states)
-        (subst (λ ns. turns_of later.states ≤ turns_of boxes.states + length ns) (sym made.nodes)
+        let done = changed_of.done (turns_of bridges.states)
+        (subst (λ ns. turns_of later.states ≤ turns_of bridges.states + length ns) (sym made.nodes)
         turns) in
         record {
           holds = done.holds;
@@ -137,30 +137,30 @@ module _ (boxes : Boxed) (table : Table) (choices : List Choice) (solver : Store
         }
 
 -- a fault that is handed on
-pub handed_by : (boxes : Boxed) (table : Table) (choices : List Choice) (solver : Stored)
+pub handed_by : (bridges : Bridges) (table : Table) (choices : List Choice) (solver : Stored)
     (places : AddressMap) (objective_at : Address) (model : ModelValue)
-    (start : IsTableStart boxes table choices solver places objective_at model)
-    (r : Result ℕ PushFault) (f : PushFault) (b : Boxed) (s : Stored) (p : AddressMap) (o : Address)
+    (start : IsTableStart bridges table choices solver places objective_at model)
+    (r : Result ℕ PushFault) (f : PushFault) (b : Bridges) (s : Stored) (p : AddressMap) (o : Address)
     → IsErrAnd r (λ x. x ≡ f)
-    → IsRetabledTo boxes table choices solver places objective_at model start (Err f) b s p o
-    → IsRetabledTo boxes table choices solver places objective_at model start r b s p o
-handed_by boxes table choices solver places objective_at model start (Ok n) f b s p o is h = absurd is
-handed_by boxes table choices solver places objective_at model start (Err g) f b s p o is h =
-    subst (λ x. IsRetabledTo boxes table choices solver places objective_at model start (Err x) b s p
+    → IsRetabledTo bridges table choices solver places objective_at model start (Err f) b s p o
+    → IsRetabledTo bridges table choices solver places objective_at model start r b s p o
+handed_by bridges table choices solver places objective_at model start (Ok n) f b s p o is h = absurd is
+handed_by bridges table choices solver places objective_at model start (Err g) f b s p o is h =
+    subst (λ x. IsRetabledTo bridges table choices solver places objective_at model start (Err x) b s p
     o) (sym is) h
 
 -- ---- of a lazy bridging
 
 module _ (old : Owned) (model : ModelValue) (table : Table) (choices : List Choice)
-    (start : IsTableStart old.boxes table choices old.solver old.map old.objective_at model) where
+    (start : IsTableStart old.bridges table choices old.solver old.map old.objective_at model) where
   abbrev told_by : Result ℕ PushFault → Owned → Type 0
   told_by r new =
-      IsRetabledTo old.boxes table choices old.solver old.map old.objective_at model start r new.boxes
+      IsRetabledTo old.bridges table choices old.solver old.map old.objective_at model start r new.bridges
       new.solver new.map new.objective_at
 
   module _ (n : ℕ) (new : Owned) (done : told_by (Ok n) new) where
     pub is_bridged : (count : ℕ) → count ≡ min n (2 ^ 64 - 1)
-        → IsBridgedBy old old.boxes.table model (Ok count) new
+        → IsBridgedBy old old.bridges.table model (Ok count) new
     is_bridged count is =
         (stands_in new model done.holds, done.setting, (n, done.counted, is))
 
@@ -181,8 +181,8 @@ module _ (old : Owned) (model : ModelValue) (table : Table) (choices : List Choi
       turns = done.inner.2;
     }
 
-    pub stays_true : supports_native old.boxes.table ≡ true
-        → (supports_native new.boxes.table ≡ true) × NamesEach new.map new.solver.leaves
+    pub stays_true : supports_native old.bridges.table ≡ true
+        → (supports_native new.bridges.table ≡ true) × NamesEach new.map new.solver.leaves
     stays_true native = (
       subst (λ t. supports_native t ≡ true)
           (sym (ap (λ (s : Setting). s.table) done.setting)) native,
@@ -191,11 +191,11 @@ module _ (old : Owned) (model : ModelValue) (table : Table) (choices : List Choi
 
   module _ (fault : PushFault) (new : Owned) (other : fault ≡ Memory → ⊥)
       (done : told_by (Err fault) new) where
-    pub is_refused : IsBridgedBy old old.boxes.table model (Err fault) new
+    pub is_refused : IsBridgedBy old old.bridges.table model (Err fault) new
     is_refused = by fault other done
       where
         by : (f : PushFault) → (f ≡ Memory → ⊥) → told_by (Err f) new
-            → IsBridgedBy old old.boxes.table model (Err f) new
+            → IsBridgedBy old old.bridges.table model (Err f) new
         by (Unsupported kind) o h = (
           h.0,
           record {
@@ -225,19 +225,19 @@ module _ (old : Owned) (model : ModelValue) (table : Table) (choices : List Choi
         by (Overflow at) o h = h.0
         by Memory o h = absurd (o refl)
 
-    turned : IsTurnedTo old.boxes table choices old.solver old.map old.objective_at model start
-        new.boxes new.solver new.map new.objective_at
+    turned : IsTurnedTo old.bridges table choices old.solver old.map old.objective_at model start
+        new.bridges new.solver new.map new.objective_at
     turned = by fault other done
       where
         by : (f : PushFault) → (f ≡ Memory → ⊥) → told_by (Err f) new
-            → IsTurnedTo old.boxes table choices old.solver old.map old.objective_at model start
-            new.boxes new.solver new.map new.objective_at
+            → IsTurnedTo old.bridges table choices old.solver old.map old.objective_at model start
+            new.bridges new.solver new.map new.objective_at
         by (Unsupported kind) o h = h.1
         by (Overflow at) o h = h.1
         by Memory o h = absurd (o refl)
 
-    pub refused_true : supports_native old.boxes.table ≡ true → NamesEach old.map old.solver.leaves
-        → (supports_native new.boxes.table ≡ true) × NamesEach new.map new.solver.leaves
+    pub refused_true : supports_native old.bridges.table ≡ true → NamesEach old.map old.solver.leaves
+        → (supports_native new.bridges.table ≡ true) × NamesEach new.map new.solver.leaves
     refused_true native named = (
       subst (λ t. supports_native t ≡ true)
           (sym (ap (λ (m : Means). m.setting.table) turned.means)) native,
@@ -246,72 +246,72 @@ module _ (old : Owned) (model : ModelValue) (table : Table) (choices : List Choi
     )
 
   pub memory_keeps : (fault : PushFault) → fault ≡ Memory → (new : Owned)
-      → told_by (Err fault) new → setting_of new.boxes ≡ setting_of old.boxes
+      → told_by (Err fault) new → setting_of new.bridges ≡ setting_of old.bridges
   memory_keeps fault is new done = subst (λ f. told_by (Err f) new) is done
 
 -- ---- another table is set
 
 module _ (old first : Owned) (model : ModelValue) (table : Table) (set : IsSet old first table)
-    (sound : AreSound (means_of old.boxes)) (also : AreSound (means_of first.boxes))
-    (once : occur_once (families_of old.boxes.states) ≡ true)
-    (native : supports_native old.boxes.table ≡ true) (natives : supports_native table ≡ true)
+    (sound : AreSound (means_of old.bridges)) (also : AreSound (means_of first.bridges))
+    (once : occur_once (families_of old.bridges.states) ≡ true)
+    (native : supports_native old.bridges.table ≡ true) (natives : supports_native table ≡ true)
     (stands : IsBridgingOf old model) (choices : List Choice)
     (told : (kind : Kind)
-    → choice_in choices (kind_number kind) ≡ (means_of old.boxes).choice (kind_number kind)) where
+    → choice_in choices (kind_number kind) ≡ (means_of old.bridges).choice (kind_number kind)) where
   -- what was held, with the states that there were
   abbrev Held : Type 0
   Held = List State × Stored × AddressMap × Address
 
   abbrev was : Held
-  was = (old.boxes.states, old.solver, old.map, old.objective_at)
+  was = (old.bridges.states, old.solver, old.map, old.objective_at)
 
   abbrev is_now : Held
-  is_now = (first.boxes.states, first.solver, first.map, first.objective_at)
+  is_now = (first.bridges.states, first.solver, first.map, first.objective_at)
 
   same : is_now ≡ was
   same = λ i. (set.states i, set.solver i, set.map i, set.objective_at i)
 
   abbrev lazy_of : Held → Owned
   lazy_of h = record {
-    boxes = record first.boxes { states = h.0 };
+    bridges = record first.bridges { states = h.0 };
     solver = h.1;
     map = h.2;
     objective_at = h.3;
   }
 
   abbrev Starts : Held → Type 0
-  Starts h = IsTableStart (lazy_of h).boxes old.boxes.table choices h.1 h.2 h.3 model
+  Starts h = IsTableStart (lazy_of h).bridges old.bridges.table choices h.1 h.2 h.3 model
 
   start_was : Starts was
   start_was = record {
-    choice = (means_of old.boxes).choice;
+    choice = (means_of old.bridges).choice;
     holds = record {
-      sound = subst (λ ss. AreSound (means_of (record first.boxes { states = ss }))) set.states also;
-      native = supported (setting_by first.boxes.table old.boxes.states)
+      sound = subst (λ ss. AreSound (means_of (record first.bridges { states = ss }))) set.states also;
+      native = supported (setting_by first.bridges.table old.bridges.states)
           (ap supports_native set.table_is ∙ natives);
       once = once;
       costly = sound.costly;
       lawful = sound.lawful;
       chosen = sound.chosen;
-      native_before = supported (setting_of old.boxes) native;
+      native_before = supported (setting_of old.bridges) native;
       held = held_in old model stands;
     };
     told = told;
   }
 
-  pub start_now : IsTableStart first.boxes old.boxes.table choices first.solver first.map
+  pub start_now : IsTableStart first.bridges old.bridges.table choices first.solver first.map
       first.objective_at model
   start_now = subst Starts (sym same) start_was
 
   pub touched_on : (new : Owned)
-      → ((t : Table) → (start : IsTableStart first.boxes t choices first.solver first.map
+      → ((t : Table) → (start : IsTableStart first.bridges t choices first.solver first.map
       first.objective_at model) → IsRetabledFrom first t choices model start new)
       → IsRetabledByFew old model new
   unfolding start_was
   touched_on new each =
       let from = subst (λ h. (start : Starts h)
-      → IsRetabledFrom (lazy_of h) old.boxes.table choices model start new) same
-      (λ start. each old.boxes.table start) start_was in
+      → IsRetabledFrom (lazy_of h) old.bridges.table choices model start new) same
+      (λ start. each old.bridges.table start) start_was in
       record {
         stood = stands;
         stands = from.stands;

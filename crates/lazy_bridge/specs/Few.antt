@@ -1,8 +1,8 @@
 -- How little an accepted call does to what is held.
 --     ChangesFew      calls of the solver's model, by the number that is answered, and indices
 --     CanPush         what an edit is made on
---     IsPushedByFew   turns of the boxes and reads of the user's model, by what the edit touches
---     IsRetabledByFew     turns of the boxes, by what another table touches
+--     IsPushedByFew   turns of the bridges and reads of the user's model, by what the edit touches
+--     IsRetabledByFew     turns of the bridges, by what another table touches
 use Rattle.std.specs.Prelude.{◌≤◌, ◌+◌, ◌*◌, ℕ, List}
 use Rattle.bridge_set.specs.Turns.{turns_of}
 use Rattle.fresh_bridging.specs.Touched.{IsInner, IsTouched}
@@ -29,7 +29,7 @@ pub record CanPush (old : Owned) (undos : List Undo) (after : ModelValue) : Type
   pub back : LeadBackTo model undos after
   pub valid : IsValid after
 
--- the boxes took two turns at most for each node below the user's items that the edit touches,
+-- the bridges took two turns at most for each node below the user's items that the edit touches,
 -- before and after; and the user's model was read twice at most for each entry of the undos and for
 -- each of these items
 pub record IsPushedByFew (old : Owned) (undos : List Undo) (after : ModelValue) (reads : ℕ)
@@ -40,16 +40,16 @@ pub record IsPushedByFew (old : Owned) (undos : List Undo) (after : ModelValue) 
   pub stands : IsBridgingOf new after
   pub inner : ℕ
   pub inner_is : IsInner stood.bridging stands.bridging inner
-  pub turns : turns_of new.boxes.states ≤ turns_of old.boxes.states + 2 * inner
+  pub turns : turns_of new.bridges.states ≤ turns_of old.bridges.states + 2 * inner
   pub touched : ℕ
   pub touched_is : IsCountOf (IsTouched stood.bridging stands.bridging) touched
   pub few_reads : reads_after ≤ reads + 2 * (entries_of undos + touched)
 
--- the boxes took two turns at most for each node below the user's items that another table touches,
+-- the bridges took two turns at most for each node below the user's items that another table touches,
 -- before and after
 pub record IsRetabledByFew (old : Owned) (model : ModelValue) (new : Owned) : Type 0 where
   pub stood : IsBridgingOf old model
   pub stands : IsBridgingOf new model
   pub inner : ℕ
   pub inner_is : IsInner stood.bridging stands.bridging inner
-  pub turns : turns_of new.boxes.states ≤ turns_of old.boxes.states + 2 * inner
+  pub turns : turns_of new.bridges.states ≤ turns_of old.bridges.states + 2 * inner

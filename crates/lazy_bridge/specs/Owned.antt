@@ -1,23 +1,23 @@
--- What contracts see of `Lazy`, the lazy bridging of a user's model over boxed bridges: the boxes
--- (the table, the choices by it, and the state of each bridge), the solver's model, the map of
--- addresses, and the address of the solver's objective.
+-- What contracts see of `Lazy`, the lazy bridging of a user's model: the bridges (the table, the
+-- choices by it, and the state of each bridge), the solver's model, the map of addresses, and the
+-- address of the solver's objective.
 --
 -- It names no family: an edge may be used exactly where its family is on in the table and among the
--- boxes.
+-- bridges.
 --
 --     HoldsNothing lazy          no leaf, no node, no expression, nothing noted, nothing marked
 --     IsBridgingOf lazy model    the fresh bridging of the model stands in it: the solver's model,
 --                                each leaf of which the map names, read through the map is its
---                                leaves; each box keeps the part of its nodes that is of the box's
---                                family; the map has the expression of each of the user's
---                                variables, and has noted which rows, and whether the objective,
---                                name which variables, and which of these are kept
+--                                leaves; each bridge keeps the nodes of its family; the map has the
+--                                expression of each of the user's variables, and has noted which
+--                                rows, and whether the objective, name which variables, and which of
+--                                these are kept
 use Rattle.std.specs.Prelude.{◌≡◌, true, All, refl}
 use Rattle.std.specs.Coded.{Coded, code_by, coded×}
 use Rattle.std.specs.FinMap as finite
 use Rattle.address_map.specs.AddressMap.{AddressMap, address_map_code}
 use Rattle.aff_core.specs.Address.{Address, address_code}
-use Rattle.bridge_set.specs.Boxed.{Boxed, boxed_code, setting_of}
+use Rattle.bridge_set.specs.Bridges.{Bridges, bridges_code, setting_of}
 use Rattle.bridge_set.specs.Nodes.{nodes_by}
 use Rattle.bridge_face.specs.State.{State}
 use Rattle.fresh_bridging.specs.FreshBridging.{FreshBridging, is_made, leaves_of}
@@ -33,22 +33,22 @@ use Rattle.user_model.specs.Model.{ModelValue}
 use Rattle.user_model.specs.Valid.{IsValid}
 
 pub record Owned : Type 0 where
-  pub boxes : Boxed
+  pub bridges : Bridges
   pub solver : Stored
   pub map : AddressMap
   pub objective_at : Address
 
 abbrev pub owned_code : Coded Owned
 owned_code =
-    code_by (Boxed × (Stored × (AddressMap × Address)))
-    (coded× boxed_code (coded× stored_code (coded× address_map_code address_code)))
-    (λ l. (l.boxes, (l.solver, (l.map, l.objective_at))))
-    (λ p. record { boxes = p.0; solver = p.1.0; map = p.1.1.0; objective_at = p.1.1.1 })
+    code_by (Bridges × (Stored × (AddressMap × Address)))
+    (coded× bridges_code (coded× stored_code (coded× address_map_code address_code)))
+    (λ l. (l.bridges, (l.solver, (l.map, l.objective_at))))
+    (λ p. record { bridges = p.0; solver = p.1.0; map = p.1.1.0; objective_at = p.1.1.1 })
     (λ _. refl)
 
--- the table, and the families of the boxes
+-- the table, and the families of the bridges
 abbrev pub setting_in : Owned → Setting
-setting_in lazy = setting_of lazy.boxes
+setting_in lazy = setting_of lazy.bridges
 
 -- the solver's model, read through the map
 abbrev pub leaf_model_in : Owned → LeafModel
@@ -71,7 +71,7 @@ pub record HoldsNothing (lazy : Owned) : Type 0 where
   pub exprs : lazy.map.exprs ≡ finite.empty
   pub noted : lazy.map.noted ≡ finite.empty
   pub marks : lazy.map.kept ≡ finite.empty
-  pub kept : All (λ (box : State). box.kept ≡ finite.empty) lazy.boxes.states
+  pub kept : All (λ (bridge : State). bridge.kept ≡ finite.empty) lazy.bridges.states
 
 -- the fresh bridging of the model, which is valid, and in which each number fits
 pub record IsBridgingOf (lazy : Owned) (model : ModelValue) : Type 0 where
@@ -80,7 +80,7 @@ pub record IsBridgingOf (lazy : Owned) (model : ModelValue) : Type 0 where
   pub made : is_made bridging ≡ true
   pub leaves : leaf_model_in lazy ≡ leaves_of bridging
   pub named : NamesEach lazy.map lazy.solver.leaves
-  pub kept : All (λ (box : State). box.kept ≡ nodes_by bridging box.family) lazy.boxes.states
+  pub kept : All (λ (bridge : State). bridge.kept ≡ nodes_by bridging bridge.family) lazy.bridges.states
   pub exprs : lazy.map.exprs ≡ expressions_by bridging
   pub noted : IsIndexOf model lazy.map.noted
   pub marks : lazy.map.kept ≡ marks_of (kept_variables bridging)

@@ -5,7 +5,7 @@ use Rattle.address_map.specs.AddressMap.{AddressMap}
 use Rattle.aff_core.specs.Address.{Address, address_cmp}
 use Rattle.aff_core.specs.Function.{Function}
 use Rattle.aff_core.specs.Rising.{HasDistinctKeys}
-use Rattle.bridge_set.specs.Boxed.{AreKeepable, kept_by, keeping}
+use Rattle.bridge_set.specs.Bridges.{AreKeepable, kept_by, keeping}
 use Rattle.fresh_bridging.specs.Leaves.{leaf_model_of}
 use Rattle.item_core.specs.declared.family.Family.{Family}
 use Rattle.lazy_bridge.specs.Mentioned.{IsIndexOf, marks_of}
@@ -15,7 +15,7 @@ use Rattle.leaf_update.specs.Named.{NamesEach}
 use Rattle.model_bridging.specs.declared.model_plan.ModelPlan.{ModelPlan}
 use Rattle.user_model.specs.Model.{ModelValue}
 
--- a plan that can be put in where there are boxes of these families
+-- a plan that can be put in where there are bridges of these families
 pub record IsPuttable (families : List Family) (planned : ModelPlan) : Type 0 where
   pub leaves : AreLeaves planned.plan.leaves.items
   pub nodes : AreKeepable families planned.plan.nodes.items
@@ -31,7 +31,7 @@ pub record Holds (old : Owned) (model : ModelValue) (planned : ModelPlan) (new :
   pub leaves : leaf_model_in new ≡ leaf_model_of planned.plan.leaves.items
   pub named : NamesEach new.map new.solver.leaves
   pub kept :
-      kept_by new.boxes.states ≡ map (keeping planned.plan.nodes.items) old.boxes.states
+      kept_by new.bridges.states ≡ map (keeping planned.plan.nodes.items) old.bridges.states
   pub exprs : new.map.exprs ≡ finite.from_entries planned.exprs.items
   pub noted : IsIndexOf model new.map.noted
   pub marks : new.map.kept ≡ marks_of planned.kept.items

@@ -1,13 +1,13 @@
 -- What a call answers that bridges a model.
 --
--- The planning step works the whole fresh bridging out by the boxes' images, an item at a time, and
+-- The planning step works the whole fresh bridging out by the bridges' images, an item at a time, and
 -- refuses there: `Unsupported` with the kind of the first of the user's items that has no tree, and
 -- then `Overflow` with the address of the first at which a number doesn't fit. Until then nothing
--- but the boxes' turns has changed. The change step lets all nodes and expressions go, puts those of
+-- but the bridges' turns has changed. The change step lets all nodes and expressions go, puts those of
 -- the plan in, and changes the leaves in place; memory alone can refuse it, and then it holds
 -- nothing.
 use Rattle.std.specs.Prelude.{◌≡◌, ◌-◌, ◌^◌, ℕ, min, Some, Result, Ok, Err}
-use Rattle.bridge_set.specs.Boxed.{means_of, setting_by}
+use Rattle.bridge_set.specs.Bridges.{means_of, setting_by}
 use Rattle.fresh_bridging.specs.FreshBridging.{FreshBridging, IsUnsupported, unfit_at}
 use Rattle.item_core.specs.declared.table.Table.{Table}
 use Rattle.leaf_model.specs.LeafModel.{IsChanged, LeafModel}
@@ -18,9 +18,9 @@ use Rattle.model_bridging.specs.declared.fault.PushFault.TheVariants.{Unsupporte
 use Rattle.model_bridging.specs.declared.model_plan.ModelPlan.{ModelPlan}
 use Rattle.user_model.specs.Model.{ModelValue}
 
--- all but the boxes' turns is as it was
+-- all but the bridges' turns is as it was
 pub record IsTried (old new : Owned) : Type 0 where
-  pub means : means_of new.boxes ≡ means_of old.boxes
+  pub means : means_of new.bridges ≡ means_of old.bridges
   pub solver : new.solver ≡ old.solver
   pub map : new.map ≡ old.map
   pub objective_at : new.objective_at ≡ old.objective_at
@@ -34,12 +34,12 @@ Counts before after n = (m : ℕ) × IsChanged before after m × (n ≡ min m (2
 -- wanting, and it holds nothing by the table that it had
 abbrev pub IsBridgedBy : Owned → Table → ModelValue → Result ℕ PushFault → Owned → Type 0
 IsBridgedBy old table model (Ok n) new =
-    IsBridgingOf new model × (setting_in new ≡ setting_by table old.boxes.states)
+    IsBridgingOf new model × (setting_in new ≡ setting_by table old.bridges.states)
     × Counts (leaf_model_in old) (leaf_model_in new) n
 IsBridgedBy old table model (Err (Unsupported kind)) new =
-    IsUnsupported (setting_by table old.boxes.states) model kind × IsTried old new
+    IsUnsupported (setting_by table old.bridges.states) model kind × IsTried old new
 IsBridgedBy old table model (Err (Overflow at)) new =
-    ((bridging : FreshBridging (setting_by table old.boxes.states) model)
+    ((bridging : FreshBridging (setting_by table old.bridges.states) model)
     × (unfit_at bridging ≡ Some at))
     × IsTried old new
 IsBridgedBy old table model (Err Memory) new =
@@ -48,4 +48,4 @@ IsBridgedBy old table model (Err Memory) new =
 -- the planning step alone: the plan of the fresh bridging by the table, or a refusal
 abbrev pub IsPlannedBy : Owned → ModelValue → Result ModelPlan PushFault → Owned → Type 0
 IsPlannedBy old model (Ok planned) new = IsPlanOf (setting_in old) model planned × IsTried old new
-IsPlannedBy old model (Err fault) new = IsBridgedBy old old.boxes.table model (Err fault) new
+IsPlannedBy old model (Err fault) new = IsBridgedBy old old.bridges.table model (Err fault) new

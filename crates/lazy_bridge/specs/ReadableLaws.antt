@@ -1,7 +1,7 @@
 -- The map and the solver's model in which a fresh bridging stands belong together.
 use Rattle.std.specs.Prelude.{IsTrue}
 use Rattle.std.proofs.Common.{sym, subst}
-use Rattle.bridge_set.specs.Boxed.{means_of}
+use Rattle.bridge_set.specs.Bridges.{means_of}
 use Rattle.bridge_plan.specs.Means.{AreSound}
 use Rattle.equality_form.specs.Native.{IsNativeModel}
 use Rattle.lazy_bridge.specs.Native.{supports_native}
@@ -13,8 +13,8 @@ use Rattle.std_form.specs.Readable.{IsReadable}
 use Rattle.tree_laws.specs.NativeModel.{native_model}
 use Rattle.user_model.specs.Model.{ModelValue}
 
-pub readable_here : (lazy : Owned) (model : ModelValue) → AreSound (means_of lazy.boxes)
-    → IsTrue (supports_native lazy.boxes.table) → IsBridgingOf lazy model
+pub readable_here : (lazy : Owned) (model : ModelValue) → AreSound (means_of lazy.bridges)
+    → IsTrue (supports_native lazy.bridges.table) → IsBridgingOf lazy model
     → IsReadable lazy.map lazy.solver.leaves
 readable_here lazy model sound native stands =
     readable lazy.map lazy.solver.leaves stands.named lazy.objective_at

@@ -1,13 +1,13 @@
 //! Lists of bridges that a lazy bridging begins with.
 ghost use Rattle.std.specs.Prelude.{◌≡◌, All, IsTrue, map};
 ghost use Rattle.std.specs.FinMap as finite;
-ghost use Rattle.bridge_set.specs.Boxed.{families_of, occur_once};
+ghost use Rattle.bridge_set.specs.Bridges.{families_of, occur_once};
 
 use bridge_face::Bridge;
 use bridge_set::has_family;
 use lists::Memory;
 
-/// Adds a bridge, which lets go of all that it keeps, unless there is one of its family.
+/// Adds a bridge unless the list has one of its family. It is emptied first.
 pub fn add_bridge<B: Bridge>(bridges: &mut Vec<B>, mut bridge: B) -> Result<(), Memory>
     requires once { IsTrue (occur_once (families_of (map B.state bridges.old.items))) }
     requires kept { All (λ s. s.kept ≡ finite.empty) (map B.state bridges.old.items) }

@@ -4,7 +4,7 @@ ghost use Rattle.std.specs.Prelude as prelude;
 ghost use Rattle.std.specs.FinMap as finite;
 ghost use Rattle.aff_core.specs.Address.{address_cmp};
 ghost use Rattle.aff_core.specs.Rising.{HasDistinctKeys};
-ghost use Rattle.bridge_set.specs.Boxed.{families_of, kept_by, keeping};
+ghost use Rattle.bridge_set.specs.Bridges.{families_of, kept_by, keeping};
 ghost use Rattle.fresh_bridging.specs.Leaves.{leaf_model_of};
 ghost use Rattle.leaf_update.specs.Named.{NamesEach};
 ghost use Rattle.leaf_update.specs.Splice.{IsChangedTo};
@@ -17,7 +17,7 @@ use crate::mentions::note_model;
 use address_map::AddressMap;
 use aff_core::{Address, Aff};
 use bridge_face::Bridge;
-use bridge_set::Boxes;
+use bridge_set::BridgeSet;
 use leaf_update::replace_leaves;
 use lists::Memory;
 use model_bridging::ModelPlan;
@@ -30,29 +30,29 @@ use std::alloc::Global;
 // addresses at which the leaves differ.
 pub(crate) fn put_model<B: Bridge>(
     alloc: Global,
-    boxes: &mut Boxes<B>,
+    bridges: &mut BridgeSet<B>,
     solver: &mut SolverModel,
     map: &mut AddressMap,
     objective_at: &mut Address,
     planned: ModelPlan,
     model: &UserModel,
 ) -> Result<u128, Memory>
-    requires planned { IsPuttable (families_of boxes.old.states) planned }
-    requires empty { All (λ s. s.kept ≡ finite.empty) boxes.old.states }
+    requires planned { IsPuttable (families_of bridges.old.states) planned }
+    requires empty { All (λ s. s.kept ≡ finite.empty) bridges.old.states }
     requires exprs { map.old.exprs ≡ finite.empty }
     requires named { NamesEach map.old solver.old.leaves }
     ensures changed { IfOk result (λ n. IsChangedTo (leaf_model_of planned.plan.leaves.items)
         solver.old (with_exprs map.old planned.exprs.items) objective_at.old n
         solver.new map.new objective_at.new) }
-    ensures kept { OnOk result (kept_by boxes.new.states
-        ≡ prelude.map (keeping planned.plan.nodes.items) boxes.old.states) }
+    ensures kept { OnOk result (kept_by bridges.new.states
+        ≡ prelude.map (keeping planned.plan.nodes.items) bridges.old.states) }
     ensures noted { OnOk result (IsIndexOf model.now.model map.new.noted) }
     ensures marks { OnOk result (map.new.kept ≡ marks_of planned.kept.items) }
-    ensures families { families_of boxes.new.states ≡ families_of boxes.old.states }
-    ensures table { boxes.new.table ≡ boxes.old.table }
+    ensures families { families_of bridges.new.states ≡ families_of bridges.old.states }
+    ensures table { bridges.new.table ≡ bridges.old.table }
 {
     let ModelPlan { plan, exprs, kept } = planned;
-    boxes.keep_all(plan.nodes)?;
+    bridges.keep_all(plan.nodes)?;
     put_expressions(map, exprs)?;
     let changed = replace_leaves(alloc, solver, map, objective_at, &plan.leaves)?;
     mark_variables(map, &kept)?;
@@ -78,14 +78,14 @@ fn put_expressions(map: &mut AddressMap, exprs: Vec<(Address, Aff)>) -> Result<(
 
 // Frees all that is kept.
 pub(crate) fn let_all_go<B: Bridge>(
-    boxes: &mut Boxes<B>,
+    bridges: &mut BridgeSet<B>,
     solver: &mut SolverModel,
     map: &mut AddressMap,
 )
-    ensures empty { All (λ s. s.kept ≡ finite.empty) boxes.new.states }
-    ensures families { families_of boxes.new.states ≡ families_of boxes.old.states }
-    ensures table { boxes.new.table ≡ boxes.old.table }
-    ensures choices { boxes.new.choices ≡ boxes.old.choices }
+    ensures empty { All (λ s. s.kept ≡ finite.empty) bridges.new.states }
+    ensures families { families_of bridges.new.states ≡ families_of bridges.old.states }
+    ensures table { bridges.new.table ≡ bridges.old.table }
+    ensures choices { bridges.new.choices ≡ bridges.old.choices }
     ensures leaves { solver.new.leaves ≡ no_leaves solver.new.leaves.calls }
     ensures calls { solver.new.leaves.calls ≡ solver.old.leaves.calls }
     ensures vars { map.new.vars.indices ≡ finite.empty }
@@ -95,7 +95,7 @@ pub(crate) fn let_all_go<B: Bridge>(
     ensures marks { map.new.kept ≡ finite.empty }
     ensures named { NamesEach map.new solver.new.leaves }
 {
-    boxes.clear();
+    bridges.clear();
     solver.clear();
     map.clear();
 }

@@ -5,7 +5,7 @@ ghost use Rattle.std.specs.FinMap as finite;
 ghost use Rattle.std.specs.List.{list_all};
 ghost use Rattle.aff_core.specs.Address.{Address, root_address};
 ghost use Rattle.aff_core.specs.declared.root.Root.TheVariants.{Objective};
-ghost use Rattle.bridge_set.specs.Boxed.{families_of, means_of, occur_once};
+ghost use Rattle.bridge_set.specs.Bridges.{families_of, means_of, occur_once};
 ghost use Rattle.bridge_graph.specs.Hypergraph.{is_edge_cost};
 ghost use Rattle.bridge_graph.specs.Tree.{IsLeastCost, IsTreeless};
 ghost use Rattle.bridge_plan.specs.Means.{AreSound};
@@ -33,30 +33,27 @@ use aff_core::{Address, Root};
 use bridge_face::Bridge;
 use bridge_graph::Choice;
 use bridge_plan::Rewriter;
-use bridge_set::Boxes;
+use bridge_set::BridgeSet;
 use item_core::{Kind, Table};
 use lists::Memory;
 use model_bridging::{ModelPlan, PushFault, plan_model};
-use model_store::{Reading, Undo, UserModel};
+use model_store::{CountedView, Undo, UserModel};
 use solver_store::SolverModel;
 use std::alloc::Global;
 use std::marker::Model;
 use table_change::{Choices, list_choices};
 
-/// The lazy bridging over boxed bridges.
-pub type Lazy = LazyOver<Box<dyn Bridge>>;
-
 /// Bridges, and the solver's model and map that are kept as the fresh bridging of a user's model.
 #[derive(Drop)]
-pub struct LazyOver<B: Bridge> {
+pub struct Lazy<B: Bridge> {
     alloc: Global,
-    boxes: Boxes<B>,
+    bridges: BridgeSet<B>,
     solver: SolverModel,
     map: AddressMap,
     objective_at: Address,
 }
 
-impl<B: Bridge> Model for LazyOver<B> {
+impl<B: Bridge> Model for Lazy<B> {
     ghost use Rattle.lazy_bridge.specs.Owned.{Owned, owned_code};
 
     ghost Value = { Owned };
@@ -68,17 +65,17 @@ impl<B: Bridge> Model for LazyOver<B> {
     ghost use Rattle.lazy_bridge.specs.Native.{supports_native};
 
     ghost view = { λ l. record {
-      boxes = l.boxes;
+      bridges = l.bridges;
       solver = l.solver;
       map = l.map;
       objective_at = l.objective_at;
     } };
 
-    ghost invariant = { λ l. IsTrue (supports_native l.boxes.table)
+    ghost invariant = { λ l. IsTrue (supports_native l.bridges.table)
         × NamesEach l.map l.solver.leaves };
 }
 
-impl<B: Bridge> LazyOver<B> {
+impl<B: Bridge> Lazy<B> {
     /// A bridging that holds nothing. Costs are 1 to 1,000, native kinds and free variables alone
     /// are supported, and no family occurs twice.
     pub fn new(
@@ -87,7 +84,7 @@ impl<B: Bridge> LazyOver<B> {
         bridges: Vec<B>,
         solver: SolverModel,
         map: AddressMap,
-    ) -> LazyOver<B>
+    ) -> Lazy<B>
         requires costs { IsTrue (list_all is_edge_cost table.cost) }
         requires native { IsTrue (supports_native table) }
         requires once { IsTrue (occur_once (families_of (prelude.map B.state bridges.items))) }
@@ -99,12 +96,12 @@ impl<B: Bridge> LazyOver<B> {
         requires noted { map.noted ≡ finite.empty }
         requires marks { map.kept ≡ finite.empty }
         ensures nothing { HoldsNothing result }
-        ensures table { result.boxes.table ≡ table }
-        ensures states { result.boxes.states ≡ prelude.map B.state bridges.items }
+        ensures table { result.bridges.table ≡ table }
+        ensures states { result.bridges.states ≡ prelude.map B.state bridges.items }
     {
-        LazyOver {
+        Lazy {
             alloc,
-            boxes: Boxes::new(table, bridges),
+            bridges: BridgeSet::new(table, bridges),
             solver,
             map,
             objective_at: Address::root(Root::Objective, 0),
@@ -116,7 +113,7 @@ impl<B: Bridge> LazyOver<B> {
     /// table. The solver's model is called at most once a leaf.
     pub fn fill(&mut self, model: &UserModel) -> Result<u64, PushFault>
         requires { HoldsNothing self.old }
-        ensures bridged { IsBridgedBy self.old self.old.boxes.table model.now.model
+        ensures bridged { IsBridgedBy self.old self.old.bridges.table model.now.model
             result self.new }
         ensures small { HasSmallNumbers model.now.model
             → (at : Address) → result ≢ Err (PushFault.Overflow at) }
@@ -130,9 +127,13 @@ impl<B: Bridge> LazyOver<B> {
     /// last first. What they don't touch isn't looked at: an edit costs what it touches. The answer
     /// is the number of addresses at which the leaves differ, and the solver's model is called no
     /// more often: a leaf that stays keeps its index, and is not touched where it is the same.
-    pub fn push<'a>(&mut self, after: &mut Reading<'a>, undos: &'a [Undo]) -> Result<u64, PushFault>
+    pub fn push<'a>(
+        &mut self,
+        after: &mut CountedView<'a>,
+        undos: &'a [Undo],
+    ) -> Result<u64, PushFault>
         requires { CanPush self.old undos.now after.old.model }
-        ensures bridged { IsBridgedBy self.old self.old.boxes.table after.old.model
+        ensures bridged { IsBridgedBy self.old self.old.bridges.table after.old.model
             result self.new }
         ensures small { HasSmallNumbers after.old.model
             → (at : Address) → result ≢ Err (PushFault.Overflow at) }
@@ -142,10 +143,10 @@ impl<B: Bridge> LazyOver<B> {
         ensures same { after.new.model ≡ after.old.model }
     {
         // what this ensures of the choices and the families
-        let _sound = self.boxes.table();
+        let _sound = self.bridges.table();
         match push_touched(
             self.alloc,
-            &mut self.boxes,
+            &mut self.bridges,
             &mut self.solver,
             &mut self.map,
             &mut self.objective_at,
@@ -159,7 +160,7 @@ impl<B: Bridge> LazyOver<B> {
             }
             Err(fault) => {
                 if let PushFault::Memory = fault {
-                    let_all_go(&mut self.boxes, &mut self.solver, &mut self.map);
+                    let_all_go(&mut self.bridges, &mut self.solver, &mut self.map);
                     return Err(PushFault::Memory);
                 }
                 Err(fault)
@@ -181,7 +182,7 @@ impl<B: Bridge> LazyOver<B> {
         ensures touched { OnOk result (IsRetabledByFew self.old model.now.model self.new) }
     {
         let before = *self.table();
-        let choices = list_choices(&self.boxes);
+        let choices = list_choices(&self.bridges);
         self.preset(table);
         match self.rebridge(model, &choices) {
             Ok(count) => Ok(count),
@@ -196,35 +197,35 @@ impl<B: Bridge> LazyOver<B> {
     pub fn preset(&mut self, table: Table)
         requires costs { IsTrue (list_all is_edge_cost table.cost) }
         requires native { IsTrue (supports_native table) }
-        ensures table { self.new.boxes.table ≡ table }
-        ensures states { self.new.boxes.states ≡ self.old.boxes.states }
+        ensures table { self.new.bridges.table ≡ table }
+        ensures states { self.new.bridges.states ≡ self.old.bridges.states }
         ensures solver { self.new.solver ≡ self.old.solver }
         ensures map { self.new.map ≡ self.old.map }
         ensures objective_at { self.new.objective_at ≡ self.old.objective_at }
-        ensures sound { AreSound (means_of self.new.boxes) }
+        ensures sound { AreSound (means_of self.new.bridges) }
     {
-        self.boxes.choose(table);
+        self.bridges.choose(table);
     }
 
     // Bridges a model anew whose bridging by other choices stands.
     fn rebridge(&mut self, model: &UserModel, before: &Choices) -> Result<u64, PushFault>
-        requires { (table : Table) × IsTableStart self.old.boxes table before.now self.old.solver
+        requires { (table : Table) × IsTableStart self.old.bridges table before.now self.old.solver
             self.old.map self.old.objective_at model.now.model }
-        ensures bridged { IsBridgedBy self.old self.old.boxes.table model.now.model
+        ensures bridged { IsBridgedBy self.old self.old.bridges.table model.now.model
             result self.new }
         ensures small { HasSmallNumbers model.now.model
             → (at : Address) → result ≢ Err (PushFault.Overflow at) }
         ensures few { IfOk result (λ changed. ChangesFew self.old changed self.new) }
         ensures touched { OnOk result ((table : Table)
-            → (start : IsTableStart self.old.boxes table before.now self.old.solver self.old.map
+            → (start : IsTableStart self.old.bridges table before.now self.old.solver self.old.map
             self.old.objective_at model.now.model)
             → IsRetabledFrom self.old table before.now model.now.model start self.new) }
     {
         // what this ensures of the choices and the families
-        let _sound = self.boxes.table();
+        let _sound = self.bridges.table();
         match retable(
             self.alloc,
-            &mut self.boxes,
+            &mut self.bridges,
             &mut self.solver,
             &mut self.map,
             &mut self.objective_at,
@@ -238,7 +239,7 @@ impl<B: Bridge> LazyOver<B> {
             }
             Err(fault) => {
                 if let PushFault::Memory = fault {
-                    let_all_go(&mut self.boxes, &mut self.solver, &mut self.map);
+                    let_all_go(&mut self.bridges, &mut self.solver, &mut self.map);
                     return Err(PushFault::Memory);
                 }
                 Err(fault)
@@ -249,15 +250,15 @@ impl<B: Bridge> LazyOver<B> {
     // Plans a model's bridging by the table, or frees all where memory runs out.
     fn plan(&mut self, model: &UserModel) -> Result<ModelPlan, PushFault>
         ensures planned { IsPlannedBy self.old model.now.model result self.new }
-        ensures puttable { IfOk result (IsPuttable (families_of self.new.boxes.states)) }
+        ensures puttable { IfOk result (IsPuttable (families_of self.new.bridges.states)) }
         ensures valid { IsValid model.now.model }
         ensures small { HasSmallNumbers model.now.model
             → (at : Address) → result ≢ Err (PushFault.Overflow at) }
     {
         // what these ensure of the choices and of the model
-        let _sound = self.boxes.table();
+        let _sound = self.bridges.table();
         let _valid = model.objective();
-        match plan_model(self.alloc, &mut self.boxes, model) {
+        match plan_model(self.alloc, &mut self.bridges, model) {
             Ok(planned) => Ok(planned),
             Err(fault) => {
                 if let PushFault::Memory = fault {
@@ -271,8 +272,8 @@ impl<B: Bridge> LazyOver<B> {
 
     // Puts a model's plan in, where no node and no expression is held, or frees all.
     fn put(&mut self, planned: ModelPlan, model: &UserModel) -> Result<u64, Memory>
-        requires planned { IsPuttable (families_of self.old.boxes.states) planned }
-        requires kept { All (λ s. s.kept ≡ finite.empty) self.old.boxes.states }
+        requires planned { IsPuttable (families_of self.old.bridges.states) planned }
+        requires kept { All (λ s. s.kept ≡ finite.empty) self.old.bridges.states }
         requires exprs { self.old.map.exprs ≡ finite.empty }
         ensures holds { IfOk result (λ changed. Holds self.old model.now.model planned self.new
             × Counts (leaf_model_in self.old) (leaf_model_in self.new) changed) }
@@ -282,7 +283,7 @@ impl<B: Bridge> LazyOver<B> {
     {
         match put_model(
             self.alloc,
-            &mut self.boxes,
+            &mut self.bridges,
             &mut self.solver,
             &mut self.map,
             &mut self.objective_at,
@@ -295,7 +296,7 @@ impl<B: Bridge> LazyOver<B> {
                 Ok(capped(changed))
             }
             Err(memory) => {
-                let_all_go(&mut self.boxes, &mut self.solver, &mut self.map);
+                let_all_go(&mut self.bridges, &mut self.solver, &mut self.map);
                 Err(memory)
             }
         }
@@ -305,20 +306,20 @@ impl<B: Bridge> LazyOver<B> {
     pub fn clear(&mut self)
         ensures nothing { HoldsNothing self.new }
         ensures setting { setting_in self.new ≡ setting_in self.old }
-        ensures choices { self.new.boxes.choices ≡ self.old.boxes.choices }
+        ensures choices { self.new.bridges.choices ≡ self.old.bridges.choices }
         ensures calls { self.new.solver.leaves.calls ≡ self.old.solver.leaves.calls }
     {
-        let_all_go(&mut self.boxes, &mut self.solver, &mut self.map);
+        let_all_go(&mut self.bridges, &mut self.solver, &mut self.map);
     }
 
     pub fn table(&self) -> &Table
-        ensures table { result.now ≡ self.now.boxes.table }
-        ensures costs { IsTrue (list_all is_edge_cost self.now.boxes.table.cost) }
-        ensures native { IsTrue (supports_native self.now.boxes.table) }
-        ensures sound { AreSound (means_of self.now.boxes) }
-        ensures once { IsTrue (occur_once (families_of self.now.boxes.states)) }
+        ensures table { result.now ≡ self.now.bridges.table }
+        ensures costs { IsTrue (list_all is_edge_cost self.now.bridges.table.cost) }
+        ensures native { IsTrue (supports_native self.now.bridges.table) }
+        ensures sound { AreSound (means_of self.now.bridges) }
+        ensures once { IsTrue (occur_once (families_of self.now.bridges.states)) }
     {
-        self.boxes.table()
+        self.bridges.table()
     }
 
     pub fn solver(&self) -> &SolverModel
@@ -336,21 +337,21 @@ impl<B: Bridge> LazyOver<B> {
     }
 
     pub fn bridges(&self) -> &[B]
-        ensures { prelude.map B.state result.now ≡ self.now.boxes.states }
+        ensures { prelude.map B.state result.now ≡ self.now.bridges.states }
     {
-        self.boxes.bridges()
+        self.bridges.bridges()
     }
 
-    /// The address of the objective of the solver's model: the one to which the boxes lead from
+    /// The address of the objective of the solver's model: the one to which the bridges lead from
     /// the root of the user's objective.
     pub fn objective_at(&self) -> &Address
         ensures at { result.now ≡ self.now.objective_at }
         ensures place { (model : ModelValue) → IsBridgingOf self.now model
             → IsSome self.now.solver.leaves.objective
-            → LeadsTo self.now.boxes.states (root_address Objective 0) result.now }
+            → LeadsTo self.now.bridges.states (root_address Objective 0) result.now }
     {
         // what this ensures of the choices and of the table
-        let _sound = self.boxes.table();
+        let _sound = self.bridges.table();
         &self.objective_at
     }
 
@@ -359,8 +360,8 @@ impl<B: Bridge> LazyOver<B> {
         ensures { IsChoice (graph_of (setting_in self.now)) (kind_number kind) result }
     {
         // what this ensures of the choices
-        let _sound = self.boxes.table();
-        self.boxes.choice(kind)
+        let _sound = self.bridges.table();
+        self.bridges.choice(kind)
     }
 
     /// The least cost of a tree of the kind, if it has one.
@@ -370,6 +371,6 @@ impl<B: Bridge> LazyOver<B> {
         ensures least { IfSome result
             (IsLeastCost (graph_of (setting_in self.now)) (kind_number kind)) }
     {
-        self.boxes.cost(kind)
+        self.bridges.cost(kind)
     }
 }

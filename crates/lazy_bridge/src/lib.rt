@@ -1,5 +1,4 @@
-//! Lazy bridging over boxed bridges: the solver's model is kept as the fresh bridging of the
-//! user's.
+//! Lazy bridging: the solver's model is kept as the fresh bridging of the user's.
 #![tactic(auto)]
 
 mod alike;
@@ -13,5 +12,5 @@ mod pushing;
 mod retabling;
 
 pub use bridges::add_bridge;
-pub use lazy::{Lazy, LazyOver};
+pub use lazy::Lazy;
 pub use model_bridging::PushFault;

@@ -5,7 +5,7 @@ ghost use Rattle.std.specs.List.{filter_map};
 ghost use Rattle.std.specs.Option.{option_copied};
 ghost use Rattle.address_map.specs.Noted.{noted_items};
 ghost use Rattle.aff_core.specs.Address.{Address};
-ghost use Rattle.bridge_set.specs.Boxed.{families_of, kept_by, means_of, setting_of};
+ghost use Rattle.bridge_set.specs.Bridges.{families_of, kept_by, means_of, setting_of};
 ghost use Rattle.bridge_set.specs.Letting.{IsAlone, without_each};
 ghost use Rattle.bridge_set.specs.Turns.{turns_of};
 ghost use Rattle.bridge_set.specs.Walk.{IsNarrow, IsRoot, nodes_below};
@@ -13,7 +13,7 @@ ghost use Rattle.found_plan.specs.Read.{named_by, own_entries, read_entries};
 ghost use Rattle.fresh_bridging.specs.Entries.{expression_in};
 ghost use Rattle.lazy_bridge.specs.Steps.{AreGroupsOf, IsChangedOf, IsEditOf, IsFoundBy, IsHeldBy, IsMadeBy, IsPassedBy, IsPlannedOf, IsPushedTo, IsStart, changing_variables, parts_of};
 ghost use Rattle.local_laws.specs.Unlisted.{LeadBackTo, entries_of};
-ghost use Rattle.push_laws.specs.Edits.{Edit, IsMappedAnew, missing_groups};
+ghost use Rattle.push_laws.specs.Edits.{AttachedEdit, IsMappedAnew, missing_groups};
 ghost use Rattle.touched_items.specs.DifferenceLaws.{HasDifferences};
 ghost use Rattle.touched_items.specs.Differences.{differing_addresses, groups_in};
 ghost use Rattle.touched_items.specs.Results.{found_rows};
@@ -27,12 +27,12 @@ use address_map::AddressMap;
 use aff_core::Address;
 use bridge_face::Bridge;
 use bridge_plan::{Plan, Standing};
-use bridge_set::Boxes;
+use bridge_set::BridgeSet;
 use found_plan::{check_found, old_leaves, standing_for};
 use leaf_update::{change_leaves, gone_among};
 use lists::Memory;
 use model_bridging::{PushFault, check_found_groups, plan_found_groups, plan_found_others};
-use model_store::{Reading, Undo};
+use model_store::{CountedView, Undo};
 use solver_store::SolverModel;
 use std::alloc::Global;
 use touched_items::{
@@ -55,33 +55,41 @@ pub(crate) struct Planned {
 // some of this may be done.
 pub(crate) fn push_touched<'a, B: Bridge>(
     alloc: Global,
-    boxes: &mut Boxes<B>,
+    bridges: &mut BridgeSet<B>,
     solver: &mut SolverModel,
     map: &mut AddressMap,
     objective_at: &mut Address,
-    after: &mut Reading<'a>,
+    after: &mut CountedView<'a>,
     undos: &'a [Undo],
 ) -> Result<u128, PushFault>
-    requires { (model : ModelValue) × IsStart boxes.old solver.old map.old objective_at.old model
+    requires { (model : ModelValue) × IsStart bridges.old solver.old map.old objective_at.old model
         undos.now after.old.model }
     ensures pushed { (model : ModelValue)
-        → (start : IsStart boxes.old solver.old map.old objective_at.old model undos.now
+        → (start : IsStart bridges.old solver.old map.old objective_at.old model undos.now
         after.old.model)
-        → IsPushedTo (parts_of boxes.old solver.old map.old objective_at.old after.old.reads) model
+        → IsPushedTo (parts_of bridges.old solver.old map.old objective_at.old after.old.reads) model
         undos.now after.old.model start result
-        (parts_of boxes.new solver.new map.new objective_at.new after.new.reads) }
+        (parts_of bridges.new solver.new map.new objective_at.new after.new.reads) }
     ensures model { after.new.model ≡ after.old.model }
 {
     let differing = find_differing(alloc, after, undos)?;
-    let planned = plan_touched(alloc, boxes, map, after, &differing)?;
-    let changed = change_touched(alloc, boxes, solver, map, objective_at, &differing, planned)?;
+    let planned = plan_touched(alloc, bridges, map, after, &differing)?;
+    let changed = change_touched(
+        alloc,
+        bridges,
+        solver,
+        map,
+        objective_at,
+        &differing,
+        planned,
+    )?;
     Ok(changed)
 }
 
 // The items that differ from what they were before undos, which are read once each.
 fn find_differing<'a>(
     alloc: Global,
-    reading: &mut Reading<'a>,
+    reading: &mut CountedView<'a>,
     undos: &'a [Undo],
 ) -> Result<Differing<'a>, Memory>
     requires { (model : ModelValue) × LeadBackTo model undos.now reading.old.model }
@@ -95,35 +103,37 @@ fn find_differing<'a>(
     compare_listed(alloc, reading, &listed)
 }
 
-// Plans what an edit touches, and changes nothing but the boxes' turns.
+// Plans what an edit touches, and changes nothing but the bridges' turns.
 pub(crate) fn plan_touched<'a, B: Bridge>(
     alloc: Global,
-    boxes: &mut Boxes<B>,
+    bridges: &mut BridgeSet<B>,
     map: &AddressMap,
-    reading: &mut Reading<'a>,
+    reading: &mut CountedView<'a>,
     differing: &Differing<'a>,
 ) -> Result<Planned, PushFault>
-    requires { (e : Edit) × IsEditOf e boxes.old map.now reading.old.model differing.now }
-    ensures made { (e : Edit) → IsEditOf e boxes.old map.now reading.old.model differing.now
+    requires { (e : AttachedEdit) × IsEditOf e bridges.old map.now reading.old.model differing.now }
+    ensures made { (e : AttachedEdit) → IsEditOf e bridges.old map.now reading.old.model differing.now
         → IsMadeBy e result }
-    ensures means { means_of boxes.new ≡ means_of boxes.old }
-    ensures turns { IfOk result (λ planned. turns_of boxes.new.states
-        ≤ turns_of boxes.old.states + length planned.plan.nodes.items) }
+    ensures means { means_of bridges.new ≡ means_of bridges.old }
+    ensures turns { IfOk result (λ planned. turns_of bridges.new.states
+        ≤ turns_of bridges.old.states + length planned.plan.nodes.items) }
     ensures model { reading.new.model ≡ reading.old.model }
     ensures reads { IfOk result (λ planned. reading.new.reads
         ≤ reading.old.reads + length planned.found.items) }
 {
-    check_found_groups(boxes, &differing.after.groups)?;
+    check_found_groups(bridges, &differing.after.groups)?;
     let mut plan = Plan::new(alloc);
-    let entries = match plan_found_groups(alloc, boxes, &mut plan, &differing.after.groups) {
+    let entries = match plan_found_groups(alloc, bridges, &mut plan, &differing.after.groups) {
         Ok(entries) => entries,
         Err(fault) => {
-            check_all(alloc, boxes, map, reading, differing)?;
+            check_all(alloc, bridges, map, reading, differing)?;
             return Err(fault);
         }
     };
     let standing = Standing::of(alloc, entries)?;
-    let found = plan_found(alloc, boxes, map, reading, differing, &standing, &mut plan)?;
+    let found = plan_found(
+        alloc, bridges, map, reading, differing, &standing, &mut plan,
+    )?;
     Ok(Planned {
         found,
         plan,
@@ -135,21 +145,21 @@ pub(crate) fn plan_touched<'a, B: Bridge>(
 // the addresses of all that is found.
 fn plan_found<'a, B: Bridge>(
     alloc: Global,
-    boxes: &mut Boxes<B>,
+    bridges: &mut BridgeSet<B>,
     map: &AddressMap,
-    reading: &mut Reading<'a>,
+    reading: &mut CountedView<'a>,
     differing: &Differing<'a>,
     standing: &Standing,
     plan: &mut Plan,
 ) -> Result<Vec<Address>, PushFault>
-    requires { (e : Edit) × IsEditOf e boxes.old map.now reading.old.model differing.now
+    requires { (e : AttachedEdit) × IsEditOf e bridges.old map.now reading.old.model differing.now
         × AreGroupsOf e standing.now plan.old }
-    ensures made { (e : Edit) → IsEditOf e boxes.old map.now reading.old.model differing.now
+    ensures made { (e : AttachedEdit) → IsEditOf e bridges.old map.now reading.old.model differing.now
         → AreGroupsOf e standing.now plan.old
         → IsFoundBy result (λ found. found.items) e standing.now plan.new }
-    ensures means { means_of boxes.new ≡ means_of boxes.old }
-    ensures turns { OnOk result (turns_of boxes.new.states + length plan.old.nodes.items
-        ≤ turns_of boxes.old.states + length plan.new.nodes.items) }
+    ensures means { means_of bridges.new ≡ means_of bridges.old }
+    ensures turns { OnOk result (turns_of bridges.new.states + length plan.old.nodes.items
+        ≤ turns_of bridges.old.states + length plan.new.nodes.items) }
     ensures model { reading.new.model ≡ reading.old.model }
     ensures reads { IfOk result (λ found. reading.new.reads
         ≤ reading.old.reads + length found.items) }
@@ -157,7 +167,7 @@ fn plan_found<'a, B: Bridge>(
     let found = find_touched(alloc, reading, map, differing, standing)?;
     check_found(
         alloc,
-        boxes,
+        bridges,
         map,
         &differing.after.groups,
         &found.rows,
@@ -166,7 +176,7 @@ fn plan_found<'a, B: Bridge>(
     let mut further = stand_for_found(alloc, standing, map, differing, &found)?;
     plan_found_others(
         alloc,
-        boxes,
+        bridges,
         plan,
         &mut further,
         &found.rows,
@@ -179,7 +189,7 @@ fn plan_found<'a, B: Bridge>(
 // The items that differ, and the rows and the objective that are noted at the variables that change.
 fn find_touched<'a>(
     alloc: Global,
-    reading: &mut Reading<'a>,
+    reading: &mut CountedView<'a>,
     map: &AddressMap,
     differing: &Differing<'a>,
     standing: &Standing,
@@ -225,12 +235,12 @@ fn stand_for_found(
 // all variables of the groups that differ.
 fn check_all<'a, B: Bridge>(
     alloc: Global,
-    boxes: &Boxes<B>,
+    bridges: &BridgeSet<B>,
     map: &AddressMap,
-    reading: &mut Reading<'a>,
+    reading: &mut CountedView<'a>,
     differing: &Differing<'a>,
 ) -> Result<(), PushFault>
-    ensures passed { (e : Edit) → IsEditOf e boxes.now map.now reading.old.model differing.now
+    ensures passed { (e : AttachedEdit) → IsEditOf e bridges.now map.now reading.old.model differing.now
         → missing_groups e ≡ None → IsPassedBy e result }
     ensures model { reading.new.model ≡ reading.old.model }
 {
@@ -238,7 +248,7 @@ fn check_all<'a, B: Bridge>(
     let found = find_items(alloc, reading, map, differing, &vars)?;
     check_found(
         alloc,
-        boxes,
+        bridges,
         map,
         &differing.after.groups,
         &found.rows,
@@ -250,22 +260,22 @@ fn check_all<'a, B: Bridge>(
 // the leaves differ. After `Memory` some of this may be done.
 pub(crate) fn change_touched<B: Bridge>(
     alloc: Global,
-    boxes: &mut Boxes<B>,
+    bridges: &mut BridgeSet<B>,
     solver: &mut SolverModel,
     map: &mut AddressMap,
     objective_at: &mut Address,
     differing: &Differing<'_>,
     planned: Planned,
 ) -> Result<u128, Memory>
-    requires { (e : Edit)
-        × IsHeldBy e boxes.old solver.old map.old objective_at.old differing.now
+    requires { (e : AttachedEdit)
+        × IsHeldBy e bridges.old solver.old map.old objective_at.old differing.now
         × IsPlannedOf e planned.standing planned.found.items planned.plan }
-    ensures changed { IfOk result (λ n. (e : Edit)
-        → IsHeldBy e boxes.old solver.old map.old objective_at.old differing.now
+    ensures changed { IfOk result (λ n. (e : AttachedEdit)
+        → IsHeldBy e bridges.old solver.old map.old objective_at.old differing.now
         → (made : IsPlannedOf e planned.standing planned.found.items planned.plan)
-        → IsChangedOf e made.step boxes.old solver.old map.old objective_at.old n
-        boxes.new solver.new map.new objective_at.new) }
-    ensures setting { setting_of boxes.new ≡ setting_of boxes.old }
+        → IsChangedOf e made.step bridges.old solver.old map.old objective_at.old n
+        bridges.new solver.new map.new objective_at.new) }
+    ensures setting { setting_of bridges.new ≡ setting_of bridges.old }
 {
     let Planned {
         found,
@@ -282,9 +292,9 @@ pub(crate) fn change_touched<B: Bridge>(
         &found,
     )?;
     let gone = gone_among(alloc, &old_leaves, &leaves)?;
-    let_found_go(alloc, boxes, &found)?;
+    let_found_go(alloc, bridges, &found)?;
     let changed = change_leaves(alloc, solver, map, objective_at, &gone, &leaves)?;
-    boxes.keep_each(nodes)?;
+    bridges.keep_each(nodes)?;
     change_entries(map, differing, &standing)?;
     Ok(changed)
 }
@@ -292,22 +302,22 @@ pub(crate) fn change_touched<B: Bridge>(
 // Lets all nodes go that are below found items.
 fn let_found_go<B: Bridge>(
     alloc: Global,
-    boxes: &mut Boxes<B>,
+    bridges: &mut BridgeSet<B>,
     found: &[Address],
 ) -> Result<(), Memory>
-    requires narrow { IsNarrow boxes.old.states }
+    requires narrow { IsNarrow bridges.old.states }
     requires roots { All IsRoot found.now }
-    requires alone { (ats : List Address) → All (λ at. IsAlone at (kept_by boxes.old.states)) ats }
-    ensures gone { OnOk result (kept_by boxes.new.states ≡ prelude.map
-        (without_each (flat_map (nodes_below boxes.old.states) found.now))
-        (kept_by boxes.old.states)) }
-    ensures turns { OnOk result (turns_of boxes.new.states ≤ turns_of boxes.old.states
-        + length (flat_map (nodes_below boxes.old.states) found.now)) }
-    ensures families { families_of boxes.new.states ≡ families_of boxes.old.states }
-    ensures table { boxes.new.table ≡ boxes.old.table }
+    requires alone { (ats : List Address) → All (λ at. IsAlone at (kept_by bridges.old.states)) ats }
+    ensures gone { OnOk result (kept_by bridges.new.states ≡ prelude.map
+        (without_each (flat_map (nodes_below bridges.old.states) found.now))
+        (kept_by bridges.old.states)) }
+    ensures turns { OnOk result (turns_of bridges.new.states ≤ turns_of bridges.old.states
+        + length (flat_map (nodes_below bridges.old.states) found.now)) }
+    ensures families { families_of bridges.new.states ≡ families_of bridges.old.states }
+    ensures table { bridges.new.table ≡ bridges.old.table }
 {
-    let nodes = boxes.list_nodes(alloc, found)?;
-    boxes.let_each_go(nodes.as_slice());
+    let nodes = bridges.list_nodes(alloc, found)?;
+    bridges.let_each_go(nodes.as_slice());
     Ok(())
 }
 
@@ -318,7 +328,7 @@ fn change_entries(
     differing: &Differing<'_>,
     standing: &Standing,
 ) -> Result<(), Memory>
-    ensures anew { OnOk result ((e : Edit) → map.old.exprs ≡ e.places.exprs
+    ensures anew { OnOk result ((e : AttachedEdit) → map.old.exprs ≡ e.places.exprs
         → map.old.kept ≡ e.places.kept → map.old.noted ≡ e.places.noted
         → differing.now ≡ e.d → IsMappedAnew e standing.now map.new) }
     ensures vars { map.new.vars ≡ map.old.vars }

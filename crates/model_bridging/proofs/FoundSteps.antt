@@ -23,6 +23,7 @@ use Rattle.user_model.specs.Model.{variable_address}
 use Rattle.user_model.specs.declared.group.Group.{Group}
 use Rattle.user_model.specs.declared.objective.Objective.{Objective}
 use Rattle.user_model.specs.declared.row.Row.{Row}
+use Rattle.item_core.specs.Kind.{kind_count}
 
 -- ---- what groups tell
 
@@ -79,10 +80,10 @@ module _ (choice : ℕ → Choice) (kept : Address → Bool) (rows : List Row) (
 -- what is answered by one objective is by an equal one
 pub as_copied : {T : Type 0} (r : Result T PushFault) (choice : ℕ → Choice) (inner : List Entry)
     (plan after : Plan) (rows : List Row) (o p : Option Objective) → p ≡ o
-    → Outcome r (unfit_put choice 35 inner (found_others rows o))
+    → Outcome r (unfit_put choice kind_count inner (found_others rows o))
     (λ _. Adds plan after [] [] (others_held choice inner (found_others rows o)))
-    → Outcome r (unfit_put choice 35 inner (found_others rows p))
+    → Outcome r (unfit_put choice kind_count inner (found_others rows p))
     (λ _. Adds plan after [] [] (others_held choice inner (found_others rows p)))
 as_copied r choice inner plan after rows o p e h =
-    subst (λ q. Outcome r (unfit_put choice 35 inner (found_others rows q))
+    subst (λ q. Outcome r (unfit_put choice kind_count inner (found_others rows q))
     (λ _. Adds plan after [] [] (others_held choice inner (found_others rows q)))) (sym e) h

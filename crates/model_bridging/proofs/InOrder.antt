@@ -7,6 +7,7 @@ use Rattle.ratio_core.specs.Answers.{ExactWhere}
 use Rattle.ratio_core.specs.AnsweredLaws.{exact_as}
 use Rattle.expansion.specs.Grown.{Held, put_held}
 use Rattle.item_core.specs.declared.item.Item.{Item}
+use Rattle.item_core.specs.Kind.{kind_count}
 use Rattle.fresh_bridging.specs.Entries.{Entry, put_in, put_in_fits}
 use Rattle.fresh_bridging.specs.TableLaws.{and_first, and_second}
 use Rattle.fresh_bridging.specs.TheRules.{rules_by}
@@ -39,49 +40,49 @@ module _ (p : Item → Bool) (all left rest : List Item) (x : Item)
 -- what is planned so far and what is left is all, and the first unfit of what is left that of all
 pub record GroupsSoFar (first : Means) (all left : List Item) (plan now : Plan)
     (entries : List Entry) (means : Means) : Type 0 where
-  pub in_turn : EachSoFar first 35 all left plan now [] entries means
-  pub unfit_left : unfit first.choice 35 left ≡ unfit first.choice 35 all
+  pub in_turn : EachSoFar first kind_count all left plan now [] entries means
+  pub unfit_left : unfit first.choice kind_count left ≡ unfit first.choice kind_count all
 
 pub groups_start : (first : Means) (all : List Item) (plan : Plan) (entries : List Entry)
-    → entries ≡ [] → All (IsWithin first.choice 35) all
+    → entries ≡ [] → All (IsWithin first.choice kind_count) all
     → GroupsSoFar first all all plan plan entries first
 groups_start first all plan entries none within = record {
-  in_turn = subst (λ es. EachSoFar first 35 all all plan plan [] es first) (sym none)
-      (each_start first 35 all plan [] within);
+  in_turn = subst (λ es. EachSoFar first kind_count all all plan plan [] es first) (sym none)
+      (each_start first kind_count all plan [] within);
   unfit_left = refl;
 }
 
 module _ (first : Means) (all left rest : List Item) (x : Item) (plan now : Plan)
     (entries : List Entry) (means : Means) (h : GroupsSoFar first all left plan now entries means)
     (next : left ≡ x ∷ rest) (item : Item) (is : item ≡ x) where
-  pub group_within : IsWithin means.choice 35 item
+  pub group_within : IsWithin means.choice kind_count item
   group_within =
-      subst (IsWithin means.choice 35) (sym is)
-      (each_within first 35 all left rest x plan now [] entries means h.in_turn next)
+      subst (IsWithin means.choice kind_count) (sym is)
+      (each_within first kind_count all left rest x plan now [] entries means h.in_turn next)
 
   pub group_more : (after : Plan) (es : List Entry) (later : Means)
-      → IsTrue (worked means.choice 35 item).fits
-      → Adds now after entries es (worked means.choice 35 item) → later ≡ means
+      → IsTrue (worked means.choice kind_count item).fits
+      → Adds now after entries es (worked means.choice kind_count item) → later ≡ means
       → GroupsSoFar first all rest plan after es later
   group_more after es later fits adds same =
-      let said : IsTrue (worked means.choice 35 x).fits
-      × Adds now after entries es (worked means.choice 35 x) =
-      subst (λ i. IsTrue (worked means.choice 35 i).fits
-      × Adds now after entries es (worked means.choice 35 i)) is (fits, adds) in
+      let said : IsTrue (worked means.choice kind_count x).fits
+      × Adds now after entries es (worked means.choice kind_count x) =
+      subst (λ i. IsTrue (worked means.choice kind_count i).fits
+      × Adds now after entries es (worked means.choice kind_count i)) is (fits, adds) in
       record {
-        in_turn = each_step first 35 all left rest x plan now [] entries means h.in_turn next after
+        in_turn = each_step first kind_count all left rest x plan now [] entries means h.in_turn next after
             es later said.0 said.1 same;
-        unfit_left = first_more (item_fits first.choice 35) all left rest x h.unfit_left next
-            (subst (λ (m : Means). IsTrue (worked m.choice 35 x).fits) h.in_turn.same said.0);
+        unfit_left = first_more (item_fits first.choice kind_count) all left rest x h.unfit_left next
+            (subst (λ (m : Means). IsTrue (worked m.choice kind_count x).fits) h.in_turn.same said.0);
       }
 
 pub groups_end : (first : Means) (all left : List Item) (plan now : Plan) (entries : List Entry)
     (means : Means) → GroupsSoFar first all left plan now entries means → left ≡ []
-    → (unfit first.choice 35 all ≡ None)
+    → (unfit first.choice kind_count all ≡ None)
     × Adds plan now [] entries (groups_held first.choice all)
 groups_end first all left plan now entries means h none = (
-  sym h.unfit_left ∙ ap (unfit first.choice 35) none,
-  (each_end first 35 all left plan now [] entries means h.in_turn none).1,
+  sym h.unfit_left ∙ ap (unfit first.choice kind_count) none,
+  (each_end first kind_count all left plan now [] entries means h.in_turn none).1,
 )
 
 -- ---- the rows
@@ -95,65 +96,65 @@ from_start {first} {means} {inner} {standing} same stays P p =
 
 pub record RowsSoFar (first : Means) (inner : List Entry) (all left : List Item) (plan now : Plan)
     (means : Means) (standing : List Entry) : Type 0 where
-  pub in_turn : InSoFar first 35 inner all left plan now means standing
-  pub unfit_left : unfit_put first.choice 35 inner left ≡ unfit_put first.choice 35 inner all
+  pub in_turn : InSoFar first kind_count inner all left plan now means standing
+  pub unfit_left : unfit_put first.choice kind_count inner left ≡ unfit_put first.choice kind_count inner all
 
 pub rows_start : (first : Means) (inner : List Entry) (all : List Item) (plan : Plan)
-    → All (λ item. IsWithin first.choice 35 (put_in inner item)) all
+    → All (λ item. IsWithin first.choice kind_count (put_in inner item)) all
     → RowsSoFar first inner all all plan plan first inner
 rows_start first inner all plan within = record {
-  in_turn = in_start first 35 inner all plan within;
+  in_turn = in_start first kind_count inner all plan within;
   unfit_left = refl;
 }
 
 module _ (first : Means) (inner : List Entry) (all left rest : List Item) (x : Item)
     (plan now : Plan) (means : Means) (standing : List Entry)
     (h : RowsSoFar first inner all left plan now means standing) (next : left ≡ x ∷ rest) where
-  pub row_within : IsWithin means.choice 35 (put_in standing x)
+  pub row_within : IsWithin means.choice kind_count (put_in standing x)
   row_within =
-      in_within first 35 inner all left rest x plan now means standing h.in_turn next
+      in_within first kind_count inner all left rest x plan now means standing h.in_turn next
       (put_in standing x) refl
 
   pub row_more : (after : Plan) (later : Means) (stays : List Entry)
-      → IsTrue (child_fits means.choice 35 standing x)
+      → IsTrue (child_fits means.choice kind_count standing x)
       → Adds now after [] [] (put_held (rules_by means.choice) standing x
-      (worked means.choice 35 (put_in standing x)))
+      (worked means.choice kind_count (put_in standing x)))
       → later ≡ means → stays ≡ standing
       → RowsSoFar first inner all rest plan after later stays
   row_more after later stays fits adds same stay =
-      let held = worked means.choice 35 (put_in standing x) in
+      let held = worked means.choice kind_count (put_in standing x) in
       record {
-        in_turn = subst (InSoFar first 35 inner all rest plan after later) (sym stay)
-            (in_step first 35 inner all left rest x plan now means standing h.in_turn next
+        in_turn = subst (InSoFar first kind_count inner all rest plan after later) (sym stay)
+            (in_step first kind_count inner all left rest x plan now means standing h.in_turn next
             (put_in standing x) refl (and_first (put_in_fits standing x) held.fits fits) after later
             [] held.entries (and_second (put_in_fits standing x) held.fits fits)
             (record { leaves = adds.leaves; nodes = adds.nodes; entries = refl }) same);
-        unfit_left = first_more (child_fits first.choice 35 inner) all left rest x h.unfit_left next
+        unfit_left = first_more (child_fits first.choice kind_count inner) all left rest x h.unfit_left next
             (from_start h.in_turn.same h.in_turn.stands
-            (λ choice es. child_fits choice 35 es x ≡ true) fits);
+            (λ choice es. child_fits choice kind_count es x ≡ true) fits);
       }
 
 pub rows_end : (first : Means) (inner : List Entry) (all left : List Item) (plan now : Plan)
     (means : Means) (standing : List Entry)
     → RowsSoFar first inner all left plan now means standing → left ≡ []
-    → (unfit_put first.choice 35 inner all ≡ None)
+    → (unfit_put first.choice kind_count inner all ≡ None)
     × Adds plan now [] [] (others_held first.choice inner all)
 rows_end first inner all left plan now means standing h none = (
-  sym h.unfit_left ∙ ap (unfit_put first.choice 35 inner) none,
-  (in_end first 35 inner all left plan now means standing h.in_turn none).1,
+  sym h.unfit_left ∙ ap (unfit_put first.choice kind_count inner) none,
+  (in_end first kind_count inner all left plan now means standing h.in_turn none).1,
 )
 
 -- ---- a row or the objective
 
 module _ (choice : ℕ → Choice) (inner : List Entry) (item : Item) (plan after : Plan) where
   abbrev held_here : Held Item Entry
-  held_here = worked choice 35 (put_in inner item)
+  held_here = worked choice kind_count (put_in inner item)
 
   pub child_answered : {T : Type 0} (r : Result T NumberFault) (made : Item)
       → IsTrue (put_in_fits inner item) → made ≡ put_in inner item
-      → ExactWhere r (IsTrue (worked choice 35 made).fits)
-      (λ _. Adds plan after [] [] (record (worked choice 35 made) { entries = [] }))
-      → ExactWhere r (IsTrue (child_fits choice 35 inner item))
+      → ExactWhere r (IsTrue (worked choice kind_count made).fits)
+      (λ _. Adds plan after [] [] (record (worked choice kind_count made) { entries = [] }))
+      → ExactWhere r (IsTrue (child_fits choice kind_count inner item))
       (λ _. Adds plan after [] [] (put_held (rules_by choice) inner item held_here))
   child_answered r made put is said =
       exact_as r (IsTrue held_here.fits) (IsTrue (put_in_fits inner item && held_here.fits))
@@ -161,12 +162,12 @@ module _ (choice : ℕ → Choice) (inner : List Entry) (item : Item) (plan afte
       (λ _. Adds plan after [] [] (put_held (rules_by choice) inner item held_here))
       (λ fits. ap₂ ◌&&◌ put fits) (λ t. and_second (put_in_fits inner item) held_here.fits t)
       (λ _ h. record { leaves = h.leaves; nodes = h.nodes; entries = refl })
-      (subst (λ i. ExactWhere r (IsTrue (worked choice 35 i).fits)
-      (λ _. Adds plan after [] [] (record (worked choice 35 i) { entries = [] }))) is said)
+      (subst (λ i. ExactWhere r (IsTrue (worked choice kind_count i).fits)
+      (λ _. Adds plan after [] [] (record (worked choice kind_count i) { entries = [] }))) is said)
 
   -- as the only one of a list
   pub one_answered : {T : Type 0} (r : Result T NumberFault)
-      → ExactWhere r (IsTrue (child_fits choice 35 inner item))
+      → ExactWhere r (IsTrue (child_fits choice kind_count inner item))
       (λ _. Adds plan after [] [] (put_held (rules_by choice) inner item held_here))
       → ExactWhere r (IsTrue (others_held choice inner (item ∷ [])).fits)
       (λ _. Adds plan after [] [] (others_held choice inner (item ∷ [])))

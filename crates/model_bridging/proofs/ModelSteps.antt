@@ -32,8 +32,8 @@ module _ (means : Means) (sound : AreSound means) (model : ModelValue) (valid : 
         IsWithinLevels means.choice (map group_item groups)
         (map row_item rows ++ objective_items objective)
 
-    abbrev Answered : Result ModelPlan PushFault → List Group → List Row → Objective → Type 0
-    Answered r groups rows objective =
+    abbrev Ending : Result ModelPlan PushFault → List Group → List Row → Objective → Type 0
+    Ending r groups rows objective =
         Outcome r (unfit_item means.choice (map group_item groups)
         (map row_item rows ++ objective_items objective)) (IsWhole means.choice groups
         (map row_item rows ++ objective_items objective))
@@ -80,7 +80,7 @@ module _ (means : Means) (sound : AreSound means) (model : ModelValue) (valid : 
             (of_the_model (λ g r o. missing g r o ≡ None) none))
 
         pub model_answered : (r : Result ModelPlan PushFault) → missing groups rows objective ≡ None
-            → Answered r groups rows objective → Planned means.setting model r
+            → Ending r groups rows objective → Planned means.setting model r
         model_answered r none said =
             answered means.setting means.choice sound.chosen model
-            (of_the_model Ready (ready none)) r (of_the_model (Answered r) said)
+            (of_the_model Ready (ready none)) r (of_the_model (Ending r) said)

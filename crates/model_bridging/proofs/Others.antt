@@ -23,6 +23,7 @@ use Rattle.user_model.specs.declared.group.GroupVar.{GroupVar}
 use Rattle.user_model.specs.declared.objective.Objective.{Objective}
 use Rattle.user_model.specs.declared.objective.Objective.TheVariants as objective
 use Rattle.map_laws.specs.EachLaws.{all_second}
+use Rattle.item_core.specs.Kind.{kind_count}
 use Rattle.fresh_bridging.specs.Entries.{Entry, expression_in, is_kept, put_in, put_in_fits}
 use Rattle.fresh_bridging.specs.ModelImage.{group_item, objective_item, objective_items}
 use Rattle.fresh_bridging.specs.TableLaws.{and_first}
@@ -88,22 +89,22 @@ module _ (choice : ℕ → Choice) (inner : List Entry) where
   unfolding worked_in
   held_append [] ys = refl
   held_append (x ∷ xs) ys =
-      let one = put_held (rules_by choice) inner x (worked choice 35 (put_in inner x)) in
+      let one = put_held (rules_by choice) inner x (worked choice kind_count (put_in inner x)) in
       ap (joined one) (held_append xs ys)
       ∙ sym (joined_assoc one (others_held choice inner xs) (others_held choice inner ys))
 
   pub unfit_append : (xs ys : List Item)
-      → unfit_put choice 35 inner (xs ++ ys)
-      ≡ option_or (unfit_put choice 35 inner xs) (unfit_put choice 35 inner ys)
-  unfit_append xs ys = find-append (λ item. not (child_fits choice 35 inner item)) xs ys
+      → unfit_put choice kind_count inner (xs ++ ys)
+      ≡ option_or (unfit_put choice kind_count inner xs) (unfit_put choice kind_count inner ys)
+  unfit_append xs ys = find-append (λ item. not (child_fits choice kind_count inner item)) xs ys
 
   pub rows_refused : (T U : Type 0) (Q : T → Type 0) (S : U → Type 0) (r : Result T PushFault)
       (f : PushFault) (xs ys : List Item) → IsErrAnd r (λ x. x ≡ f)
-      → Outcome {T = U} (Err f) (unfit_put choice 35 inner xs) S
-      → Outcome r (unfit_put choice 35 inner (xs ++ ys)) Q
+      → Outcome {T = U} (Err f) (unfit_put choice kind_count inner xs) S
+      → Outcome r (unfit_put choice kind_count inner (xs ++ ys)) Q
   rows_refused T U Q S r f xs ys is h =
       subst (λ u. Outcome r u Q) (sym (unfit_append xs ys))
-      (handed_first T U Q S r f (unfit_put choice 35 inner xs) (unfit_put choice 35 inner ys) is h)
+      (handed_first T U Q S r f (unfit_put choice kind_count inner xs) (unfit_put choice kind_count inner ys) is h)
 
   pub both_added : (xs ys : List Item) (plan mid after : Plan)
       → Adds plan mid [] [] (others_held choice inner xs)
@@ -116,16 +117,16 @@ module _ (choice : ℕ → Choice) (inner : List Entry) where
 
   -- what holds where the held fits is unfit nowhere
   pub fit_together : (items : List Item) → IsTrue (others_held choice inner items).fits
-      → unfit_put choice 35 inner items ≡ None
+      → unfit_put choice kind_count inner items ≡ None
   unfolding worked_in
   fit_together [] t = refl
   fit_together (x ∷ xs) t =
-      both (child_fits choice 35 inner x) (others_held choice inner xs).fits t
+      both (child_fits choice kind_count inner x) (others_held choice inner xs).fits t
       (fit_together xs)
     where
       both : (a b : Bool) → (a && b) ≡ true
-          → (b ≡ true → unfit_put choice 35 inner xs ≡ None)
-          → cond (not a) (Some x) (unfit_put choice 35 inner xs) ≡ None
+          → (b ≡ true → unfit_put choice kind_count inner xs ≡ None)
+          → cond (not a) (Some x) (unfit_put choice kind_count inner xs) ≡ None
       both true b e later = later e
       both false b e later = cc
 
@@ -134,36 +135,36 @@ module _ (choice : ℕ → Choice) (inner : List Entry) where
 module _ (choice : ℕ → Choice) (es fs : List Entry) (same : expression_in es ≡ expression_in fs)
   where
     pub unfit_alike : (items : List Item)
-        → unfit_put choice 35 es items ≡ unfit_put choice 35 fs items
+        → unfit_put choice kind_count es items ≡ unfit_put choice kind_count fs items
     unfit_alike [] = refl
     unfit_alike (x ∷ xs) =
         ap₂ (λ b o. cond (not b) (Some x) o)
         (ap₂ ◌&&◌ (put_fits_alike es fs same x)
-        (ap (λ p. item_fits choice 35 (p x)) (put_alike es fs same))) (unfit_alike xs)
+        (ap (λ p. item_fits choice kind_count (p x)) (put_alike es fs same))) (unfit_alike xs)
 
     pub held_alike : (items : List Item) → others_held choice es items ≡ others_held choice fs items
-    held_alike items = worked_in_alike es fs same choice (worked choice 35) items
+    held_alike items = worked_in_alike es fs same choice (worked choice kind_count) items
 
     pub within_alike : (items : List Item)
-        → All (λ item. IsWithin choice 35 (put_in fs item)) items
-        → All (λ item. IsWithin choice 35 (put_in es item)) items
+        → All (λ item. IsWithin choice kind_count (put_in fs item)) items
+        → All (λ item. IsWithin choice kind_count (put_in es item)) items
     within_alike items h =
-        subst (λ p. All (λ item. IsWithin choice 35 (p item)) items) (sym (put_alike es fs same)) h
+        subst (λ p. All (λ item. IsWithin choice kind_count (p item)) items) (sym (put_alike es fs same)) h
 
 -- ---- the rows, and then the objective
 
 module _ (choice : ℕ → Choice) (inner : List Entry) where
   unfit_one : (item : Item) → ¬ (IsTrue (others_held choice inner (item ∷ [])).fits)
-      → IsFirstAt (unfit_put choice 35 inner (item ∷ [])) item.at
+      → IsFirstAt (unfit_put choice kind_count inner (item ∷ [])) item.at
   unfolding worked_in
-  unfit_one item misses = by (child_fits choice 35 inner item) misses
+  unfit_one item misses = by (child_fits choice kind_count inner item) misses
     where
       by : (b : Bool) → ¬ ((b && true) ≡ true) → IsFirstAt (cond (not b) (Some item) None) item.at
       by true k = absurd (k refl)
       by false k = refl
 
   unfit_objective : (o : Objective) → ¬ (IsTrue (others_held choice inner (objective_items o)).fits)
-      → IsFirstAt (unfit_put choice 35 inner (objective_items o)) (root_address root.Objective 0)
+      → IsFirstAt (unfit_put choice kind_count inner (objective_items o)) (root_address root.Objective 0)
   unfolding worked_in
   unfit_objective objective.Feasibility misses = absurd (misses refl)
   unfit_objective (objective.Plain sense var) misses =
@@ -174,23 +175,23 @@ module _ (choice : ℕ → Choice) (inner : List Entry) where
 module _ (first : Means) (inner : List Entry) (rows : List Item) (o : Objective)
     (plan mid : Plan) (means : Means) (standing : List Entry) (same : means ≡ first)
     (stays : standing ≡ inner)
-    (said : (unfit_put first.choice 35 inner rows ≡ None)
+    (said : (unfit_put first.choice kind_count inner rows ≡ None)
     × Adds plan mid [] [] (others_held first.choice inner rows)) where
   pub objective_within :
-      All (λ item. IsWithin first.choice 35 (put_in inner item)) (rows ++ objective_items o)
-      → All (λ item. IsWithin means.choice 35 (put_in standing item)) (objective_items o)
+      All (λ item. IsWithin first.choice kind_count (put_in inner item)) (rows ++ objective_items o)
+      → All (λ item. IsWithin means.choice kind_count (put_in standing item)) (objective_items o)
   objective_within all =
-      subst (λ (m : Means). All (λ item. IsWithin m.choice 35 (put_in standing item))
+      subst (λ (m : Means). All (λ item. IsWithin m.choice kind_count (put_in standing item))
       (objective_items o)) (sym same)
-      (subst (λ es. All (λ item. IsWithin first.choice 35 (put_in es item)) (objective_items o))
+      (subst (λ es. All (λ item. IsWithin first.choice kind_count (put_in es item)) (objective_items o))
       (sym stays)
-      (all_second (λ item. IsWithin first.choice 35 (put_in inner item)) rows (objective_items o)
+      (all_second (λ item. IsWithin first.choice kind_count (put_in inner item)) rows (objective_items o)
       all))
 
   pub others_done : (after : Plan)
       → IsTrue (others_held means.choice standing (objective_items o)).fits
       × Adds mid after [] [] (others_held means.choice standing (objective_items o))
-      → (unfit_put first.choice 35 inner (rows ++ objective_items o) ≡ None)
+      → (unfit_put first.choice kind_count inner (rows ++ objective_items o) ≡ None)
       × Adds plan after [] [] (others_held first.choice inner (rows ++ objective_items o))
   others_done after last =
       let here : IsTrue (others_held first.choice inner (objective_items o)).fits
@@ -198,9 +199,9 @@ module _ (first : Means) (inner : List Entry) (rows : List Item) (o : Objective)
       from_start same stays (λ choice es. IsTrue (others_held choice es (objective_items o)).fits
       × Adds mid after [] [] (others_held choice es (objective_items o))) last in (
         unfit_append first.choice inner rows (objective_items o)
-            ∙ none_of_both (unfit_put first.choice 35 inner rows)
-            (unfit_put first.choice 35 inner (objective_items o))
-            (unfit_put first.choice 35 inner (objective_items o)) said.0 refl
+            ∙ none_of_both (unfit_put first.choice kind_count inner rows)
+            (unfit_put first.choice kind_count inner (objective_items o))
+            (unfit_put first.choice kind_count inner (objective_items o)) said.0 refl
             (fit_together first.choice inner (objective_items o) here.0),
         both_added first.choice inner rows (objective_items o) plan mid after said.1 here.1,
       )
@@ -210,10 +211,10 @@ module _ (first : Means) (inner : List Entry) (rows : List Item) (o : Objective)
       → ExactWhere {T = T} (Err f)
       (IsTrue (others_held means.choice standing (objective_items o)).fits) Q
       → Outcome {T = U} (Err (refused_at f at))
-      (unfit_put first.choice 35 inner (rows ++ objective_items o)) S
+      (unfit_put first.choice kind_count inner (rows ++ objective_items o)) S
   objective_told T U Q S fault.Overflow at is misses =
       ap (option_map (λ (i : Item). i.at)) (unfit_append first.choice inner rows (objective_items o)
-      ∙ ap (λ a. option_or a (unfit_put first.choice 35 inner (objective_items o))) said.0)
+      ∙ ap (λ a. option_or a (unfit_put first.choice kind_count inner (objective_items o))) said.0)
       ∙ (unfit_objective first.choice inner o
       (from_start same stays (λ choice es. ¬ (IsTrue
       (others_held choice es (objective_items o)).fits)) misses)
@@ -225,9 +226,9 @@ module _ (first : Means) (inner : List Entry) (rows : List Item) (o : Objective)
       → at ≡ root_address root.Objective 0
       → ExactWhere {T = T} (Err f)
       (IsTrue (others_held means.choice standing (objective_items o)).fits) Q
-      → Outcome {T = U} (Err told) (unfit_put first.choice 35 inner (rows ++ objective_items o)) S
+      → Outcome {T = U} (Err told) (unfit_put first.choice kind_count inner (rows ++ objective_items o)) S
   objective_refused T U Q S f at told told_is at_is misses =
-      subst (λ e. Outcome {T = U} (Err e) (unfit_put first.choice 35 inner
+      subst (λ e. Outcome {T = U} (Err e) (unfit_put first.choice kind_count inner
       (rows ++ objective_items o)) S) (sym told_is) (objective_told T U Q S f at at_is misses)
 
 -- ---- the objective alone
@@ -250,25 +251,25 @@ module _ (choice : ℕ → Choice) (inner : List Entry) (o : Objective) (plan : 
 
   module _ (item : Item) (one : objective_items o ≡ item ∷ []) where
     pub objective_ready : (made : Item) → made ≡ put_in inner item
-        → All (λ i. IsWithin choice 35 (put_in inner i)) (objective_items o)
-        → IsWithin choice 35 made
+        → All (λ i. IsWithin choice kind_count (put_in inner i)) (objective_items o)
+        → IsWithin choice kind_count made
     objective_ready made is all =
-        let Within : Item → Type 0 = λ i. IsWithin choice 35 (put_in inner i) in
-        subst (IsWithin choice 35) (sym is) (All-head Within item [] (subst (All Within) one all))
+        let Within : Item → Type 0 = λ i. IsWithin choice kind_count (put_in inner i) in
+        subst (IsWithin choice kind_count) (sym is) (All-head Within item [] (subst (All Within) one all))
 
     pub objective_needs : IsTrue (others_held choice inner (objective_items o)).fits
         → IsTrue (put_in_fits inner item)
     unfolding worked_in
     objective_needs t =
-        let held = worked choice 35 (put_in inner item) in
+        let held = worked choice kind_count (put_in inner item) in
         and_first (put_in_fits inner item) held.fits
         (and_first (put_in_fits inner item && held.fits) true
         (subst (λ items. IsTrue (others_held choice inner items).fits) one t))
 
     pub objective_answered : (after : Plan) {T : Type 0} (r : Result T NumberFault) (made : Item)
         → IsTrue (put_in_fits inner item) → made ≡ put_in inner item
-        → ExactWhere r (IsTrue (worked choice 35 made).fits)
-        (λ _. Adds plan after [] [] (record (worked choice 35 made) { entries = [] }))
+        → ExactWhere r (IsTrue (worked choice kind_count made).fits)
+        (λ _. Adds plan after [] [] (record (worked choice kind_count made) { entries = [] }))
         → ExactWhere r (IsTrue (others_held choice inner (objective_items o)).fits)
         (λ _. Adds plan after [] [] (others_held choice inner (objective_items o)))
     objective_answered after r made fit is said =
@@ -281,7 +282,7 @@ module _ (choice : ℕ → Choice) (inner : List Entry) (o : Objective) (plan : 
 
 module _ (first : Means) (groups : List Group) (others : List Item) (start one : Plan)
     (entries standing : List Entry) (means : Means) (same : means ≡ first)
-    (said : (unfit first.choice 35 (map group_item groups) ≡ None)
+    (said : (unfit first.choice kind_count (map group_item groups) ≡ None)
     × Adds start one [] entries (groups_held first.choice (map group_item groups)))
     (stands : expression_in standing ≡ expression_in entries) where
   abbrev held_here : Held Item Entry
@@ -298,16 +299,16 @@ module _ (first : Means) (groups : List Group) (others : List Item) (start one :
   kept_where e vars = filter (λ v. is_kept (e v)) (map (λ v. variable_address v.number) vars)
 
   pub others_ready : IsWithinLevels first.choice (map group_item groups) others
-      → All (λ item. IsWithin means.choice 35 (put_in standing item)) others
+      → All (λ item. IsWithin means.choice kind_count (put_in standing item)) others
   others_ready ready =
-      subst (λ (m : Means). All (λ item. IsWithin m.choice 35 (put_in standing item)) others)
+      subst (λ (m : Means). All (λ item. IsWithin m.choice kind_count (put_in standing item)) others)
       (sym same)
       (within_alike first.choice standing held_here.entries alike others ready.others)
 
-  unfit_same : unfit_put means.choice 35 standing others
-      ≡ unfit_put first.choice 35 held_here.entries others
+  unfit_same : unfit_put means.choice kind_count standing others
+      ≡ unfit_put first.choice kind_count held_here.entries others
   unfit_same =
-      ap (λ (m : Means). unfit_put m.choice 35 standing others) same
+      ap (λ (m : Means). unfit_put m.choice kind_count standing others) same
       ∙ unfit_alike first.choice standing held_here.entries alike others
 
   others_same : others_held means.choice standing others
@@ -318,15 +319,15 @@ module _ (first : Means) (groups : List Group) (others : List Item) (start one :
 
   pub whole_refused : (T U : Type 0) (Q : T → Type 0) (S : U → Type 0) (r : Result T PushFault)
       (f : PushFault) → IsErrAnd r (λ x. x ≡ f)
-      → Outcome {T = U} (Err f) (unfit_put means.choice 35 standing others) S
+      → Outcome {T = U} (Err f) (unfit_put means.choice kind_count standing others) S
       → Outcome r (unfit_item first.choice (map group_item groups) others) Q
   whole_refused T U Q S r f is h =
-      handed_next T U Q S r f (unfit first.choice 35 (map group_item groups))
-      (unfit_put first.choice 35 held_here.entries others)
-      (unfit_put means.choice 35 standing others) is said.0 unfit_same h
+      handed_next T U Q S r f (unfit first.choice kind_count (map group_item groups))
+      (unfit_put first.choice kind_count held_here.entries others)
+      (unfit_put means.choice kind_count standing others) is said.0 unfit_same h
 
   pub whole_done : (planned : ModelPlan) → start.leaves.items ≡ [] → start.nodes.items ≡ []
-      → (unfit_put means.choice 35 standing others ≡ None)
+      → (unfit_put means.choice kind_count standing others ≡ None)
       × Adds one planned.plan [] [] (others_held means.choice standing others)
       → planned.exprs.items ≡ map (with_function standing) (flat_map (λ g. g.vars) groups)
       → planned.kept.items ≡ kept_among standing (flat_map (λ g. g.vars) groups)
@@ -336,9 +337,9 @@ module _ (first : Means) (groups : List Group) (others : List Item) (start one :
       let adds : Adds one planned.plan [] [] (others_held first.choice held_here.entries others) =
       subst (Adds one planned.plan [] []) others_same last.1 in
       let further = others_held first.choice held_here.entries others in (
-        none_of_both (unfit first.choice 35 (map group_item groups))
-            (unfit_put first.choice 35 held_here.entries others)
-            (unfit_put means.choice 35 standing others) said.0 unfit_same last.0,
+        none_of_both (unfit first.choice kind_count (map group_item groups))
+            (unfit_put first.choice kind_count held_here.entries others)
+            (unfit_put means.choice kind_count standing others) said.0 unfit_same last.0,
         record {
           leaves = adds.leaves ∙ ap (λ l. l ++ further.leaves)
               (said.1.leaves ∙ ap (λ l. l ++ held_here.leaves) no_leaves);

@@ -15,6 +15,7 @@ use Rattle.item_core.specs.declared.item.Item.{Item}
 use Rattle.user_model.specs.Model.{ModelValue, variable_address, variables}
 use Rattle.user_model.specs.Valid.{IsValid}
 use Rattle.user_model.specs.declared.group.GroupVar.{GroupVar}
+use Rattle.item_core.specs.Kind.{kind_count}
 use Rattle.fresh_bridging.specs.Entries.{Entry, expression_in, put_in}
 use Rattle.fresh_bridging.specs.FreshBridging.{FreshBridging}
 use Rattle.fresh_bridging.specs.ModelImage.{model_image}
@@ -46,21 +47,21 @@ none_of_two None b e = (refl, e)
 none_of_two (Some item) b e = absurd (none-some item (sym e))
 
 module _ (choice : ℕ → Choice) where
-  groups_fit : (items : List Item) → unfit choice 35 items ≡ None
+  groups_fit : (items : List Item) → unfit choice kind_count items ≡ None
       → (groups_held choice items).fits ≡ true
   unfolding worked_each
   groups_fit [] e = refl
   groups_fit (item ∷ items) e =
-      let parts = none_first (item_fits choice 35 item) item (unfit choice 35 items) e in
+      let parts = none_first (item_fits choice kind_count item) item (unfit choice kind_count items) e in
       ap₂ ◌&&◌ parts.0 (groups_fit items parts.1)
 
-  others_fit : (inner : List Entry) (items : List Item) → unfit_put choice 35 inner items ≡ None
+  others_fit : (inner : List Entry) (items : List Item) → unfit_put choice kind_count inner items ≡ None
       → (others_held choice inner items).fits ≡ true
   unfolding worked_in
   others_fit inner [] e = refl
   others_fit inner (item ∷ items) e =
-      let parts = none_first (child_fits choice 35 inner item) item
-      (unfit_put choice 35 inner items) e in
+      let parts = none_first (child_fits choice kind_count inner item) item
+      (unfit_put choice kind_count inner items) e in
       ap₂ ◌&&◌ parts.0 (others_fit inner items parts.1)
 
 -- ---- the bridging that holds what is worked out
@@ -77,30 +78,30 @@ module _ (choice : ℕ → Choice) (model : ModelValue) where
     pub fresh : Fresh (rules_by choice) (model_image model)
     pub by_groups : held_each fresh.groups ≡ groups
     pub by_others : held_in fresh.others ≡ others_held choice groups.entries further_here
-    pub unfit_group : unfit_each fresh.groups ≡ unfit choice 35 items_here
-    pub unfit_other : unfit_in fresh.others ≡ unfit_put choice 35 groups.entries further_here
+    pub unfit_group : unfit_each fresh.groups ≡ unfit choice kind_count items_here
+    pub unfit_other : unfit_in fresh.others ≡ unfit_put choice kind_count groups.entries further_here
 
   abbrev Within : List Entry → Type 0
-  Within inner = All (λ item. IsWithin choice 35 (put_in inner item)) further_here
+  Within inner = All (λ item. IsWithin choice kind_count (put_in inner item)) further_here
 
   made_of : (inner : List Entry) (trees : EachBridged (rules_by choice) items_here inner)
-      → All (IsWithin choice 35) items_here → Within inner → HasFresh (held_each trees)
+      → All (IsWithin choice kind_count) items_here → Within inner → HasFresh (held_each trees)
   made_of inner trees groups others =
-      let made = in_bridged choice (worked choice 35) (IsWithin choice 35)
-      (within_bridged choice 35) inner further_here others in
+      let made = in_bridged choice (worked choice kind_count) (IsWithin choice kind_count)
+      (within_bridged choice kind_count) inner further_here others in
       record {
         fresh = record { entries = inner; groups = trees; others = made.trees };
         by_groups = refl;
         by_others = made.hold;
-        unfit_group = unfit_each_is choice 35 trees groups;
-        unfit_other = unfit_in_is choice 35 made.trees others;
+        unfit_group = unfit_each_is choice kind_count trees groups;
+        unfit_other = unfit_in_is choice kind_count made.trees others;
       }
 
   pub has_fresh : IsWithinLevels choice items_here further_here
       → HasFresh (groups_held choice items_here)
   has_fresh ready =
-      let made = each_bridged choice (worked choice 35) (IsWithin choice 35)
-      (within_bridged choice 35) items_here ready.groups in
+      let made = each_bridged choice (worked choice kind_count) (IsWithin choice kind_count)
+      (within_bridged choice kind_count) items_here ready.groups in
       subst (λ (h : Held Item Entry). Within h.entries → HasFresh h) made.hold
       (made_of made.entries made.trees ready.groups) ready.others
 
@@ -133,8 +134,8 @@ module _ (setting : Setting) (choice : ℕ → Choice) (chosen : AreChoices sett
   unfolding model_leaves model_nodes
   whole_plan planned none whole =
       let held = groups_held choice (model_image model).groups in
-      let both = none_of_two (unfit choice 35 (model_image model).groups)
-      (unfit_put choice 35 held.entries (model_image model).others) none in
+      let both = none_of_two (unfit choice kind_count (model_image model).groups)
+      (unfit_put choice kind_count held.entries (model_image model).others) none in
       record {
         bridging = bridging_here;
         made = ap₂ ◌&&◌ (ap (λ (h : Held Item Entry). h.fits) found.by_groups
@@ -184,12 +185,12 @@ ready_by_kinds means sound model valid none =
     let trees = trees_there setting choice sound.chosen items first in
     let groups = groups_within setting sound.costly choice sound.chosen sound.lawful model valid
     trees in
-    let made = each_bridged choice (worked choice 35) (IsWithin choice 35)
-    (within_bridged choice 35) items groups in
+    let made = each_bridged choice (worked choice kind_count) (IsWithin choice kind_count)
+    (within_bridged choice kind_count) items groups in
     record {
       groups = groups;
       others = subst
-          (λ (h : Held Item Entry). All (λ item. IsWithin choice 35 (put_in h.entries item))
+          (λ (h : Held Item Entry). All (λ item. IsWithin choice kind_count (put_in h.entries item))
           (model_image model).others)
           made.hold
           (others_within setting sound.costly choice sound.chosen sound.lawful model valid

@@ -9,7 +9,7 @@ use Rattle.expansion.specs.Bridged.{EachBridged}
 use Rattle.expansion.specs.Ranks.{RanksBelow}
 use Rattle.item_core.specs.declared.item.Item.{Item}
 use Rattle.item_core.specs.Edge.{edge_entry}
-use Rattle.item_core.specs.Kind.{kind_number}
+use Rattle.item_core.specs.Kind.{kind_count, kind_number}
 use Rattle.item_core.specs.KindOf.{kind_of_body}
 use Rattle.bridge_face.specs.Law.{IsItemFor}
 use Rattle.user_model.specs.Model.{ModelValue}
@@ -56,28 +56,28 @@ module _ (setting : Setting) (costly : IsCostly (graph_of setting)) (choice : �
             b.below,
       )
 
-  pub can_within : (item : Item) → CanHere item → IsWithin choice 35 item
+  pub can_within : (item : Item) → CanHere item → IsWithin choice kind_count item
   can_within item can =
       ranked_within choice CanHere rank_here level
-      (ranked setting costly choice chosen lawful) suits lower 35 item can
+      (ranked setting costly choice chosen lawful) suits lower kind_count item can
       (omega (arith, at_most_34 setting costly choice chosen (kind_of_body item.body)))
 
   -- ---- the user's items
 
   module _ (model : ModelValue) (valid : IsValid model) where
     pub groups_within : All (HasTree (graph_of setting)) (model_image model).groups
-        → All (IsWithin choice 35) (model_image model).groups
+        → All (IsWithin choice kind_count) (model_image model).groups
     groups_within trees =
-        All-weaker (IsGroup setting costly choice chosen lawful) (IsWithin choice 35)
+        All-weaker (IsGroup setting costly choice chosen lawful) (IsWithin choice kind_count)
         (λ g h. can_within g h.can) (model_image model).groups
         (groups_can_all setting costly choice chosen lawful model valid trees)
 
     pub others_within : (inner : List Entry)
         → EachBridged (rules_by choice) (model_image model).groups inner
         → All (λ item. HasTree (graph_of setting) (put_in inner item)) (model_image model).others
-        → All (λ item. IsWithin choice 35 (put_in inner item)) (model_image model).others
+        → All (λ item. IsWithin choice kind_count (put_in inner item)) (model_image model).others
     others_within inner groups trees =
         All-weaker (λ item. CanHere (put_in inner item))
-        (λ item. IsWithin choice 35 (put_in inner item))
+        (λ item. IsWithin choice kind_count (put_in inner item))
         (λ item can. can_within (put_in inner item) can) (model_image model).others
         (others_can_all setting costly choice chosen lawful model valid inner groups trees)

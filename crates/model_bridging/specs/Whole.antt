@@ -10,6 +10,7 @@ use Rattle.item_core.specs.declared.item.Item.{Item}
 use Rattle.user_model.specs.Model.{variable_address}
 use Rattle.user_model.specs.declared.group.Group.{Group}
 use Rattle.user_model.specs.declared.group.GroupVar.{GroupVar}
+use Rattle.item_core.specs.Kind.{kind_count}
 use Rattle.fresh_bridging.specs.Entries.{Entry, expression_in, function_in, is_kept, put_in}
 use Rattle.fresh_bridging.specs.ModelImage.{group_item}
 use Rattle.bridge_plan.specs.Adds.{kept_of}
@@ -29,20 +30,20 @@ kept_among entries vars =
 
 module _ (choice : ℕ → Choice) where
   abbrev pub groups_held : List Item → Held Item Entry
-  groups_held items = worked_each choice (worked choice 35) items
+  groups_held items = worked_each choice (worked choice kind_count) items
 
   abbrev pub others_held : List Entry → List Item → Held Item Entry
-  others_held inner items = worked_in choice (worked choice 35) inner items
+  others_held inner items = worked_in choice (worked choice kind_count) inner items
 
   -- the items, of which these are the groups, stand within the levels that there are
   pub record IsWithinLevels (items further : List Item) : Type 0 where
-    pub groups : All (IsWithin choice 35) items
-    pub others : All (λ item. IsWithin choice 35 (put_in (groups_held items).entries item)) further
+    pub groups : All (IsWithin choice kind_count) items
+    pub others : All (λ item. IsWithin choice kind_count (put_in (groups_held items).entries item)) further
 
   -- the first of them that doesn't fit
   abbrev pub unfit_item : List Item → List Item → Option Item
   unfit_item items further =
-      option_or (unfit choice 35 items) (unfit_put choice 35 (groups_held items).entries further)
+      option_or (unfit choice kind_count items) (unfit_put choice kind_count (groups_held items).entries further)
 
   -- the plan has what they hold, each variable with its expression as a function, and those that are
   -- kept

@@ -2,6 +2,7 @@
 ghost use Rattle.std.specs.Prelude.{◌≡◌, ◌≤◌, ◌+◌, [], All, IfOk, OnOk, length, map};
 ghost use Rattle.std.specs.Option.{option_copied};
 ghost use Rattle.aff_core.specs.Address.{Address};
+ghost use Rattle.item_core.specs.Kind.{kind_count};
 ghost use Rattle.fresh_bridging.specs.Entries.{put_in};
 ghost use Rattle.fresh_bridging.specs.ModelImage.{group_item, row_item};
 ghost use Rattle.bridge_plan.specs.Adds.{Adds};
@@ -58,12 +59,12 @@ pub fn plan_found_groups<R: Rewriter>(
     plan: &mut Plan,
     groups: &[&Group],
 ) -> Result<Vec<Entry>, PushFault>
-    requires { All (IsWithin (R.means rewriter.old).choice 35)
+    requires { All (IsWithin (R.means rewriter.old).choice kind_count)
         (map group_item (map (λ g. g.now) groups.now)) }
     ensures answer { let choice = (R.means rewriter.old).choice in
         let items = map group_item (map (λ g. g.now) groups.now) in
-        Outcome result (unfit choice 35 items) (λ entries. Adds plan.old plan.new [] entries.items
-        (worked_each choice (worked choice 35) items)) }
+        Outcome result (unfit choice kind_count items) (λ entries. Adds plan.old plan.new [] entries.items
+        (worked_each choice (worked choice kind_count) items)) }
     ensures means { R.means rewriter.new ≡ R.means rewriter.old }
     ensures turns { OnOk result (R.turns rewriter.new + length plan.old.nodes.items
         ≤ R.turns rewriter.old + length plan.new.nodes.items) }
@@ -123,12 +124,12 @@ pub fn plan_found_others<R: Rewriter>(
     rows: &[&Row],
     objective: Option<&Objective>,
 ) -> Result<(), PushFault>
-    requires { All (λ item. IsWithin (R.means rewriter.old).choice 35 (put_in standing.old item))
+    requires { All (λ item. IsWithin (R.means rewriter.old).choice kind_count (put_in standing.old item))
         (found_others (map (λ r. r.now) rows.now) (option_copied objective)) }
     ensures answer { let choice = (R.means rewriter.old).choice in
         let others = found_others (map (λ r. r.now) rows.now) (option_copied objective.entry) in
-        Outcome result (unfit_put choice 35 standing.old others) (λ _. Adds plan.old plan.new [] []
-        (worked_in choice (worked choice 35) standing.old others)) }
+        Outcome result (unfit_put choice kind_count standing.old others) (λ _. Adds plan.old plan.new [] []
+        (worked_in choice (worked choice kind_count) standing.old others)) }
     ensures means { R.means rewriter.new ≡ R.means rewriter.old }
     ensures turns { OnOk result (R.turns rewriter.new + length plan.old.nodes.items
         ≤ R.turns rewriter.old + length plan.new.nodes.items) }
@@ -150,12 +151,12 @@ fn plan_found_rows<R: Rewriter>(
     standing: &mut Standing,
     rows: &[&Row],
 ) -> Result<(), PushFault>
-    requires { All (λ item. IsWithin (R.means rewriter.old).choice 35 (put_in standing.old item))
+    requires { All (λ item. IsWithin (R.means rewriter.old).choice kind_count (put_in standing.old item))
         (map row_item (map (λ r. r.now) rows.now)) }
     ensures answer { let choice = (R.means rewriter.old).choice in
         let items = map row_item (map (λ r. r.now) rows.now) in
-        Outcome result (unfit_put choice 35 standing.old items) (λ _. Adds plan.old plan.new [] []
-        (worked_in choice (worked choice 35) standing.old items)) }
+        Outcome result (unfit_put choice kind_count standing.old items) (λ _. Adds plan.old plan.new [] []
+        (worked_in choice (worked choice kind_count) standing.old items)) }
     ensures means { R.means rewriter.new ≡ R.means rewriter.old }
     ensures turns { OnOk result (R.turns rewriter.new + length plan.old.nodes.items
         ≤ R.turns rewriter.old + length plan.new.nodes.items) }

@@ -3,6 +3,7 @@ ghost use Rattle.std.specs.Prelude.{◌≡◌, ◌≤◌, ◌+◌, ◌++◌, [],
 ghost use Rattle.ratio_core.specs.Answers.{ExactWhere};
 ghost use Rattle.expansion.specs.Grown.{put_held};
 ghost use Rattle.item_core.specs.declared.item.Item.{Item};
+ghost use Rattle.item_core.specs.Kind.{kind_count};
 ghost use Rattle.fresh_bridging.specs.Entries.{put_in};
 ghost use Rattle.fresh_bridging.specs.ModelImage.{group_item, objective_items, row_item};
 ghost use Rattle.fresh_bridging.specs.TheRules.{rules_by};
@@ -19,7 +20,7 @@ use crate::kinds::check_kinds;
 use crate::model_items::item_of_group;
 use aff_core::{Address, Aff, Root};
 use bridge_plan::{Entry, Plan, Rewriter, Standing, plan_item};
-use item_core::Item;
+use item_core::{Item, KIND_COUNT};
 use lists::Memory;
 use model_store::UserModel;
 use ratio_core::NumberFault;
@@ -27,7 +28,7 @@ use std::alloc::Global;
 use user_model::{GroupVar, Groups, Objective, Row, Rows};
 
 /// How many items stand above one another at most.
-pub(crate) const LEVELS: u8 = 35;
+pub(crate) const LEVELS: u8 = KIND_COUNT as u8;
 
 /// The plan of a model: its leaves and nodes, each of its variables with its expression as a
 /// function, and those of its variables that are kept, all in the order of the bridging.
@@ -89,11 +90,11 @@ fn plan_groups<R: Rewriter>(
     plan: &mut Plan,
     groups: &Groups,
 ) -> Result<Vec<Entry>, PushFault>
-    requires { All (IsWithin (R.means rewriter.old).choice 35) (map group_item groups.now.items) }
+    requires { All (IsWithin (R.means rewriter.old).choice kind_count) (map group_item groups.now.items) }
     ensures answer { let choice = (R.means rewriter.old).choice in
         let items = map group_item groups.now.items in
-        Outcome result (unfit choice 35 items) (λ entries. Adds plan.old plan.new [] entries.items
-        (worked_each choice (worked choice 35) items)) }
+        Outcome result (unfit choice kind_count items) (λ entries. Adds plan.old plan.new [] entries.items
+        (worked_each choice (worked choice kind_count) items)) }
     ensures means { R.means rewriter.new ≡ R.means rewriter.old }
 {
     let mut entries = Vec::new(alloc);
@@ -117,12 +118,12 @@ fn plan_others<R: Rewriter>(
     rows: &Rows,
     objective: &Objective,
 ) -> Result<(), PushFault>
-    requires { All (λ item. IsWithin (R.means rewriter.old).choice 35 (put_in standing.old item))
+    requires { All (λ item. IsWithin (R.means rewriter.old).choice kind_count (put_in standing.old item))
         (map row_item rows.now.items ++ objective_items objective.now) }
     ensures answer { let choice = (R.means rewriter.old).choice in
         let others = map row_item rows.now.items ++ objective_items objective.now in
-        Outcome result (unfit_put choice 35 standing.old others) (λ _. Adds plan.old plan.new [] []
-        (worked_in choice (worked choice 35) standing.old others)) }
+        Outcome result (unfit_put choice kind_count standing.old others) (λ _. Adds plan.old plan.new [] []
+        (worked_in choice (worked choice kind_count) standing.old others)) }
     ensures means { R.means rewriter.new ≡ R.means rewriter.old }
 {
     plan_rows(alloc, rewriter, plan, standing, rows)?;
@@ -140,12 +141,12 @@ fn plan_rows<R: Rewriter>(
     standing: &mut Standing,
     rows: &Rows,
 ) -> Result<(), PushFault>
-    requires { All (λ item. IsWithin (R.means rewriter.old).choice 35 (put_in standing.old item))
+    requires { All (λ item. IsWithin (R.means rewriter.old).choice kind_count (put_in standing.old item))
         (map row_item rows.now.items) }
     ensures answer { let choice = (R.means rewriter.old).choice in
         let items = map row_item rows.now.items in
-        Outcome result (unfit_put choice 35 standing.old items) (λ _. Adds plan.old plan.new [] []
-        (worked_in choice (worked choice 35) standing.old items)) }
+        Outcome result (unfit_put choice kind_count standing.old items) (λ _. Adds plan.old plan.new [] []
+        (worked_in choice (worked choice kind_count) standing.old items)) }
     ensures means { R.means rewriter.new ≡ R.means rewriter.old }
     ensures same { standing.new ≡ standing.old }
 {
@@ -166,12 +167,12 @@ pub(crate) fn plan_row<R: Rewriter>(
     standing: &mut Standing,
     row: &Row,
 ) -> Result<(), NumberFault>
-    requires { IsWithin (R.means rewriter.old).choice 35 (put_in standing.old (row_item row.now)) }
+    requires { IsWithin (R.means rewriter.old).choice kind_count (put_in standing.old (row_item row.now)) }
     ensures answer { let choice = (R.means rewriter.old).choice in
         let item = row_item row.now in
-        ExactWhere result (IsTrue (child_fits choice 35 standing.old item))
+        ExactWhere result (IsTrue (child_fits choice kind_count standing.old item))
         (λ _. Adds plan.old plan.new [] [] (put_held (rules_by choice) standing.old item
-        (worked choice 35 (put_in standing.old item)))) }
+        (worked choice kind_count (put_in standing.old item)))) }
     ensures means { R.means rewriter.new ≡ R.means rewriter.old }
     ensures turns { OnOk result (R.turns rewriter.new + length plan.old.nodes.items
         ≤ R.turns rewriter.old + length plan.new.nodes.items) }
@@ -190,11 +191,11 @@ pub(crate) fn plan_objective<R: Rewriter>(
     standing: &mut Standing,
     objective: &Objective,
 ) -> Result<(), NumberFault>
-    requires { All (λ item. IsWithin (R.means rewriter.old).choice 35 (put_in standing.old item))
+    requires { All (λ item. IsWithin (R.means rewriter.old).choice kind_count (put_in standing.old item))
         (objective_items objective.now) }
     ensures answer { let choice = (R.means rewriter.old).choice in
         let items = objective_items objective.now in
-        let held = worked_in choice (worked choice 35) standing.old items in
+        let held = worked_in choice (worked choice kind_count) standing.old items in
         ExactWhere result (IsTrue held.fits) (λ _. Adds plan.old plan.new [] [] held) }
     ensures means { R.means rewriter.new ≡ R.means rewriter.old }
     ensures turns { OnOk result (R.turns rewriter.new + length plan.old.nodes.items
@@ -221,8 +222,8 @@ fn plan_further<R: Rewriter>(
     plan: &mut Plan,
     item: Item,
 ) -> Result<(), NumberFault>
-    requires { IsWithin (R.means rewriter.old).choice 35 item }
-    ensures answer { let held = worked (R.means rewriter.old).choice 35 item in
+    requires { IsWithin (R.means rewriter.old).choice kind_count item }
+    ensures answer { let held = worked (R.means rewriter.old).choice kind_count item in
         ExactWhere result (IsTrue held.fits)
         (λ _. Adds plan.old plan.new [] [] (record held { entries = [] })) }
     ensures means { R.means rewriter.new ≡ R.means rewriter.old }

@@ -7,7 +7,7 @@ mod reading;
 mod store;
 
 pub use parked::Parked;
-pub use reading::Reading;
+pub use reading::CountedView;
 pub use store::UserModel;
 pub use user_model::{
     ApplyFault, Edit, Group, GroupVar, GroupVars, Groups, NamedFunc, NextNumbers, Objective,

@@ -13,12 +13,12 @@ use user_model::{Group, Objective, Row};
 /// A view of a user's model that lends one item a call, and counts these calls up to the largest
 /// `u64`. No call takes memory.
 #[derive(Drop)]
-pub struct Reading<'a> {
+pub struct CountedView<'a> {
     user: &'a UserModel,
     count: u64,
 }
 
-impl<'a> Model for Reading<'a> {
+impl<'a> Model for CountedView<'a> {
     ghost use Rattle.model_store.specs.Reading.{ReadModel, read_code};
 
     ghost Value = { ReadModel };
@@ -28,13 +28,13 @@ impl<'a> Model for Reading<'a> {
     ghost view = { λ r. record { model = r.user.now.model; reads = r.count } };
 }
 
-impl<'a> Reading<'a> {
+impl<'a> CountedView<'a> {
     /// A view that has read nothing yet.
-    pub fn new(model: &'a UserModel) -> Reading<'a>
+    pub fn new(model: &'a UserModel) -> CountedView<'a>
         ensures model { result.model ≡ model.now.model }
         ensures reads { result.reads ≡ 0 }
     {
-        Reading {
+        CountedView {
             user: model,
             count: 0,
         }

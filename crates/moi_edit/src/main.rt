@@ -5,7 +5,7 @@ ghost use Rattle.std.specs.Prelude.{◌≡◌, false};
 ghost use Rattle.edit_engine.specs.Held.{state_of};
 
 use any_bridge::{AnyBridge, all_bridges};
-use edit_engine::SessionOver;
+use edit_engine::Session;
 use io_face::{Files, StdIn, StdOut};
 use lists::Memory;
 use moi_run::{Status, run};
@@ -24,12 +24,12 @@ fn main(rt: HostRuntime) -> ExitCode {
 
 /// Runs the words on a new session that has a bridge of each family.
 fn run_words(rt: &HostRuntime, words: &[String]) -> Result<Status, Memory> {
-    let mut session = SessionOver::new(rt.alloc(), all_bridges(rt.alloc())?);
+    let mut session = Session::new(rt.alloc(), all_bridges(rt.alloc())?);
     Ok(run_on(rt, words, &mut session))
 }
 
 // The session is lent, so that it is freed once, where nothing else is at hand.
-fn run_on(rt: &HostRuntime, words: &[String], session: &mut SessionOver<AnyBridge>) -> Status
+fn run_on(rt: &HostRuntime, words: &[String], session: &mut Session<AnyBridge>) -> Status
     requires { (state_of session.old).attached ≡ false }
 {
     let mut shelf = Files::new(rt);

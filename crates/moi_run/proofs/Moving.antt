@@ -1,5 +1,5 @@
 -- How lines move a session's machine, by what the session says of each.
-use Rattle.std.specs.Prelude.{◌≡◌, ◌≢◌, ℕ, Bool, List, [], ◌∷◌, ◌++◌, Option, flat_map, refl}
+use Rattle.std.specs.Prelude.{◌≢◌, ℕ, Bool, List, [], ◌∷◌, ◌++◌, Option, flat_map, refl}
 use Rattle.std.specs.List.{sum_by}
 use Rattle.std.proofs.Common.{ap, arith, ◌∙◌}
 use Rattle.std.proofs.lemmas.List.{flat_map_more}

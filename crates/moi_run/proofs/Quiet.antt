@@ -20,21 +20,21 @@ use Rattle.script_core.specs.Solver.{optimize_form}
 use Rattle.script_core.specs.Sums.{function_of}
 use Rattle.script_core.specs.Terms.{function_terms_of, terms_of}
 use Rattle.script_core.specs.Variables.{creation_set_of, variable_form}
-use Rattle.script_core.specs.declared.reading.Reading.{Reading}
+use Rattle.script_core.specs.declared.reading.LineReading.{LineReading}
 use Rattle.script_tokens.specs.Tokens.{is_line_byte, tokens_of}
 use Rattle.user_model.specs.declared.edit.Edit.{Edit}
 
 -- ---- what is read asks for no file
 
-abbrev IsQuiet : Option Reading → Type 0
+abbrev IsQuiet : Option LineReading → Type 0
 IsQuiet read = is_load (answer_of read) ≡ false
 
-quiet_behind : {A : Type 0} (o : Option A) (f : A → Option Reading)
+quiet_behind : {A : Type 0} (o : Option A) (f : A → Option LineReading)
     → ((a : A) → IsQuiet (f a)) → IsQuiet (option_and_then f o)
 quiet_behind None f h = refl
 quiet_behind (Some a) f h = h a
 
-quiet_if : (b : Bool) (read : Option Reading) → IsQuiet read → IsQuiet (cond b read None)
+quiet_if : (b : Bool) (read : Option LineReading) → IsQuiet read → IsQuiet (cond b read None)
 quiet_if true read h = h
 quiet_if false read h = refl
 

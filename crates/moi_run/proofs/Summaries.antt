@@ -5,7 +5,6 @@ use Rattle.std.specs.List.{range_with_len}
 use Rattle.std.proofs.lemmas.Bool.{cases_lt, cond-false, cond-true}
 use Rattle.std.proofs.lemmas.List.FromFn.{map-range_with_len_more}
 use Rattle.command_words.specs.declared.words.Invocation.{Invocation}
-use Rattle.command_words.specs.declared.words.Invocation.TheVariants.{Generate}
 use Rattle.edit_engine.specs.Lines.{Prints, accepted, is_load, quit, refusal, says_load, silent}
 use Rattle.edit_engine.specs.LinesLaws.{stops_by}
 use Rattle.edit_engine.specs.Script.{Answered, Machine, Steps}

@@ -15,12 +15,12 @@ use crate::status::Status;
 use crate::stop::Stop;
 use bridge_face::Bridge;
 use command_words::Setup;
-use edit_engine::SessionOver;
+use edit_engine::Session;
 use io_face::{Shelf, Sink};
 
 /// Answers one line, and writes what is printed.
 pub(crate) fn answer_line<B: Bridge, H: Shelf, O: Sink>(
-    session: &mut SessionOver<B>,
+    session: &mut Session<B>,
     line: &[u8],
     shelf: &mut H,
     output: &mut O,
@@ -54,7 +54,7 @@ pub(crate) fn answer_with<B: Bridge, H: Shelf, O: Sink>(
     lines: &[&[u8]],
     shelf: &mut H,
     output: &mut O,
-    session: &mut SessionOver<B>,
+    session: &mut Session<B>,
 ) -> Status
     requires detached { (state_of session.old).attached ≡ false }
     ensures runs { let told = told_by (H.files shelf.old) (H.sure shelf.old) in
@@ -85,7 +85,7 @@ fn answer_each<B: Bridge, H: Shelf, O: Sink>(
     lines: &[&[u8]],
     shelf: &mut H,
     output: &mut O,
-    session: &mut SessionOver<B>,
+    session: &mut Session<B>,
 ) -> Status
     ensures outcome { let told = told_by (H.files shelf.old) (H.sure shelf.old) in
         let before = tally_of session.old told (H.asked shelf.old) in

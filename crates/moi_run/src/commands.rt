@@ -25,7 +25,7 @@ use crate::solve::answer_solve;
 use crate::status::Status;
 use bridge_face::Bridge;
 use command_words::{Invocation, read_words};
-use edit_engine::SessionOver;
+use edit_engine::Session;
 use io_face::{Shelf, Sink, Source};
 use std::alloc::Global;
 
@@ -41,7 +41,7 @@ pub fn run<B: Bridge, H: Shelf, I: Source, O: Sink>(
     shelf: &mut H,
     input: &mut I,
     output: &mut O,
-    session: &mut SessionOver<B>,
+    session: &mut Session<B>,
 ) -> Status
     requires detached { (state_of session.old).attached ≡ false }
 
@@ -186,7 +186,7 @@ fn obey_words<B: Bridge, H: Shelf, I: Source, O: Sink>(
     shelf: &mut H,
     input: &mut I,
     output: &mut O,
-    session: &mut SessionOver<B>,
+    session: &mut Session<B>,
 ) -> Status
     requires detached { (state_of session.old).attached ≡ false }
     ensures usage { (result ≡ Status.Usage) ↔ (said_by words.now ≡ None) }
@@ -234,7 +234,7 @@ fn obey<B: Bridge, H: Shelf, I: Source, O: Sink>(
     shelf: &mut H,
     input: &mut I,
     output: &mut O,
-    session: &mut SessionOver<B>,
+    session: &mut Session<B>,
 ) -> Status
     requires detached { (state_of session.old).attached ≡ false }
     ensures runs { let told = told_by (H.files shelf.old) (H.sure shelf.old) in

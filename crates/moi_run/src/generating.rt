@@ -10,7 +10,7 @@ ghost use Rattle.moi_run.specs.Status.{IsEnded};
 use crate::status::Status;
 use crate::stop::Stop;
 use bridge_face::Bridge;
-use edit_engine::{Answer, SessionOver};
+use edit_engine::{Answer, Session};
 use generated_script::{Recipe, ScriptLines};
 use io_face::{Shelf, Sink, write_all};
 use item_core::Target;
@@ -27,7 +27,7 @@ pub(crate) fn answer_generated<B: Bridge, H: Shelf, O: Sink>(
     recipe: Recipe,
     shelf: &mut H,
     output: &mut O,
-    session: &mut SessionOver<B>,
+    session: &mut Session<B>,
 ) -> Status
     requires detached { (state_of session.old).attached ≡ false }
     ensures outcome { let told = told_by (H.files shelf.old) (H.sure shelf.old) in
@@ -51,7 +51,7 @@ fn sum_up_answers<B: Bridge, H: Shelf, O: Sink>(
     recipe: Recipe,
     shelf: &mut H,
     output: &mut O,
-    session: &mut SessionOver<B>,
+    session: &mut Session<B>,
 ) -> Status
     ensures outcome { let told = told_by (H.files shelf.old) (H.sure shelf.old) in
         GenerateOutcome result recipe (machine_of session.old told) (machine_of session.new told)

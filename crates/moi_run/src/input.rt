@@ -20,7 +20,7 @@ use crate::status::Status;
 use crate::stop::Stop;
 use bridge_face::Bridge;
 use command_words::Setup;
-use edit_engine::SessionOver;
+use edit_engine::Session;
 use io_face::{Shelf, Sink, Source};
 use line_reader::{LineReader, Next};
 use std::alloc::Global;
@@ -32,7 +32,7 @@ pub(crate) fn answer_script<B: Bridge, H: Shelf, I: Source, O: Sink>(
     shelf: &mut H,
     input: &mut I,
     output: &mut O,
-    session: &mut SessionOver<B>,
+    session: &mut Session<B>,
 ) -> Status
     requires detached { (state_of session.old).attached ≡ false }
     ensures runs { let told = told_by (H.files shelf.old) (H.sure shelf.old) in
@@ -67,7 +67,7 @@ fn answer_lines<B: Bridge, H: Shelf, I: Source, O: Sink>(
     shelf: &mut H,
     input: &mut I,
     output: &mut O,
-    session: &mut SessionOver<B>,
+    session: &mut Session<B>,
 ) -> Status
     requires held { reader.old.held ≡ [] }
     requires room { reader.old.room ≡ input_limit }

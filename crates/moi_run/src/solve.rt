@@ -13,7 +13,7 @@ use crate::answers::answer_with;
 use crate::status::Status;
 use bridge_face::Bridge;
 use command_words::Setup;
-use edit_engine::SessionOver;
+use edit_engine::Session;
 use io_face::{Shelf, Sink};
 use lists::Memory;
 use name_index::Name;
@@ -27,7 +27,7 @@ pub(crate) fn answer_solve<B: Bridge, H: Shelf, O: Sink>(
     model: &Name,
     shelf: &mut H,
     output: &mut O,
-    session: &mut SessionOver<B>,
+    session: &mut Session<B>,
 ) -> Status
     requires detached { (state_of session.old).attached ≡ false }
     ensures runs { let told = told_by (H.files shelf.old) (H.sure shelf.old) in

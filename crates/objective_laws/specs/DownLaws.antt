@@ -1,4 +1,4 @@
--- Below an item that is an objective, what the boxes keep leads to the one leaf objective.
+-- Below an item that is an objective, what the bridges keep leads to the one leaf objective.
 use Rattle.std.specs.Prelude.{◌≡◌, ◌⊎◌, ℕ, true, List, [], ◌∷◌, ◌++◌, All, Contains, Some, None, flat_map, refl}
 use Rattle.std.proofs.Common.{inl, inr, sym, ap, ap₂, subst, ◌∙◌}
 use Rattle.std.proofs.lemmas.Grind.{flat_map-append}
@@ -47,7 +47,7 @@ last_at (r ∷ rows) o h k = inr (
 
 -- ---- down a tree
 
--- one leaf objective, at the address to which the boxes lead
+-- one leaf objective, at the address to which the bridges lead
 pub record Leads (states : List State) (at : Address) (items : List Item) : Type 0 where
   pub leaf : Address × Body
   pub alone : flat_map leaf_objectives items ≡ leaf ∷ []
@@ -64,7 +64,7 @@ module _ (setting : Setting) (costly : IsCostly (graph_of setting)) (choice : �
   abbrev RowThere : Item → Type 0
   RowThere c = IsRowHere setting costly choice chosen lawful c
 
-  -- the boxes keep each node at its address, and nothing where an objective is a leaf
+  -- the bridges keep each node at its address, and nothing where an objective is a leaf
   abbrev pub Keep : List (ℕ × Item) → Type 0
   Keep ns = (n : ℕ × Item) → Contains ns n → kept_first states n.1.at ≡ Some (kept_of n)
 

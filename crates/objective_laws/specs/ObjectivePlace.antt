@@ -1,5 +1,5 @@
 -- Where the objective of the solver's model is read. It has no index, so its address is found from
--- the boxes: from the root of the user's objective, as long as a box keeps an item at the address,
+-- the bridges: from the root of the user's objective, as long as a bridge keeps an item at the address,
 -- on to the child objective that its edge makes of the item.
 use Rattle.std.specs.Prelude.{◌≡◌, List, Some, None}
 use Rattle.aff_core.specs.Address.{Address}
@@ -9,7 +9,7 @@ use Rattle.bridge_face.specs.declared.kept_item.KeptItem.{KeptItem}
 use Rattle.bridge_set.specs.Walk.{kept_first}
 use Rattle.item_core.specs.declared.item.Item.{Item}
 
--- the boxes lead from the first address to the second, at which none keeps an item
+-- the bridges lead from the first address to the second, at which none keeps an item
 pub data LeadsTo (states : List State) : Address → Address → Type 0 where
   ends : {at : Address} → kept_first states at ≡ None → LeadsTo states at at
   on : {at place : Address} (k : KeptItem) (child : Item) → kept_first states at ≡ Some k

@@ -1,5 +1,5 @@
--- In a solver's model that is read as the leaves of a fresh bridging, of which boxes keep the nodes,
--- the objective is read at the address to which the boxes lead.
+-- In a solver's model that is read as the leaves of a fresh bridging, of which bridges keep the nodes,
+-- the objective is read at the address to which the bridges lead.
 use Rattle.std.specs.Prelude.{◌≡◌, ℕ, zero, suc, Bool, true, false, cond, List, [], ◌∷◌, ◌++◌, All, Contains, IsSome, Option, Some, None, flat_map, map, refl}
 use Rattle.std.specs.BTreeMap.{is_at}
 use Rattle.std.specs.FinMap as finite

@@ -29,8 +29,8 @@ use Rattle.script_core.specs.declared.command.Command.TheVariants as command
 use Rattle.script_core.specs.declared.fault.LineFault.{LineFault}
 use Rattle.script_core.specs.declared.keyword.Keyword.{Keyword}
 use Rattle.script_core.specs.declared.keyword.Keyword.TheVariants as word
-use Rattle.script_core.specs.declared.reading.Reading.{Reading}
-use Rattle.script_core.specs.declared.reading.Reading.TheVariants as reading
+use Rattle.script_core.specs.declared.reading.LineReading.{LineReading}
+use Rattle.script_core.specs.declared.reading.LineReading.TheVariants as reading
 use Rattle.script_tokens.specs.Each.{◌>>=◌}
 use Rattle.script_tokens.specs.Family.{family_of}
 use Rattle.script_tokens.specs.Number.{number_of}
@@ -42,12 +42,12 @@ abbrev pub CostsSome : Result Command LineFault → Type 0
 CostsSome (Ok (command.Cost edge cost)) = 1 ≤ cost
 CostsSome said = Unit {0}
 
-abbrev ReadsSome : Option Reading → Type 0
+abbrev ReadsSome : Option LineReading → Type 0
 ReadsSome (Some (reading.Says (command.Cost edge cost))) = 1 ≤ cost
 ReadsSome read = Unit {0}
 
 -- what follows a part that may be missing
-followed : {A : Type 0} (o : Option A) (f : A → Option Reading) → ((a : A) → ReadsSome (f a))
+followed : {A : Type 0} (o : Option A) (f : A → Option LineReading) → ((a : A) → ReadsSome (f a))
     → ReadsSome (o >>= f)
 followed None f h = tt
 followed (Some a) f h = h a
@@ -254,7 +254,7 @@ unfolding load_form
 load_some tokens = followed (last_name_of tokens) (λ file. says (command.Load file)) (λ file. tt)
 
 -- a cost that is read is at least 1
-within_cost : (cost : ℕ) (f : ℕ → Option Reading) → ((c : ℕ) → 1 ≤ c → ReadsSome (f c))
+within_cost : (cost : ℕ) (f : ℕ → Option LineReading) → ((c : ℕ) → 1 ≤ c → ReadsSome (f c))
     → (test : Bool) → is_edge_cost cost ≡ test
     → ReadsSome ((if test then Some cost else None) >>= f)
 within_cost cost f h false e = tt
@@ -263,7 +263,7 @@ within_cost cost f h true e =
     grind (arith, nat_tests, and_first (nat_le 1 cost) (nat_le cost 1000) e) in
     h cost some
 
-followed_cost : (token : List ℕ) (f : ℕ → Option Reading)
+followed_cost : (token : List ℕ) (f : ℕ → Option LineReading)
     → ((c : ℕ) → 1 ≤ c → ReadsSome (f c)) → ReadsSome (cost_of token >>= f)
 unfolding cost_of
 followed_cost token f h = by (number_of token)
@@ -350,7 +350,7 @@ reading_some line = by (list_all is_line_byte line)
     by true = tokens_some (tokens_of line)
     by false = tt
 
-answer_some : (o : Option Reading) → ReadsSome o → CostsSome (answer_of o)
+answer_some : (o : Option LineReading) → ReadsSome o → CostsSome (answer_of o)
 answer_some None h = tt
 answer_some (Some reading.Overflow) h = tt
 answer_some (Some (reading.Says (command.Cost edge cost))) h = h

@@ -6,9 +6,9 @@ use Rattle.std.proofs.Common.{sym, ap, subst, ◌∙◌}
 use Rattle.std.proofs.lemmas.List.Elements.{All-cons, All-nil}
 use Rattle.aff_core.specs.Address.{Address}
 use Rattle.address_map.specs.AddressMap.{AddressMap}
-use Rattle.box_laws.specs.BoxesLaws.{boxes_changed, few_turns}
+use Rattle.bridge_set_laws.specs.BridgeSetLaws.{bridges_changed, few_turns}
 use Rattle.bridge_set.specs.Adding.{AreFree, with_each}
-use Rattle.bridge_set.specs.Boxed.{AreKeepable, families_of, kept_by}
+use Rattle.bridge_set.specs.Bridges.{AreKeepable, families_of, kept_by}
 use Rattle.bridge_set.specs.Letting.{without_each}
 use Rattle.bridge_set.specs.Nodes.{HoldNodes, nodes_by}
 use Rattle.bridge_set.specs.Walk.{nodes_below}
@@ -35,7 +35,7 @@ use Rattle.map_laws.specs.EachLaws.{all_from_map}
 use Rattle.model_bridging.specs.Found.{found_others}
 use Rattle.model_bridging.specs.ModelHeld.{unfit_put}
 use Rattle.model_bridging.specs.Outcome.{IsFirstAt}
-use Rattle.push_laws.specs.Edits.{AreChanging, Edit, IsMappedAnew, IsSearch, IsStandingFor, Step, choice_here, missing_others, old_here, setting_here, sound_before, sound_behind, HoldsBridging, contents_name}
+use Rattle.push_laws.specs.Edits.{AreChanging, AttachedEdit, IsMappedAnew, IsSearch, IsStandingFor, PlannedEdit, choice_here, missing_others, old_here, setting_here, sound_before, sound_behind, HoldsBridging, contents_name}
 use Rattle.push_laws.specs.FreeLaws.{free_after, to_be_kept}
 use Rattle.push_laws.specs.FurtherLaws.{agree_here}
 use Rattle.push_laws.specs.GroupsHad.{all_roots, had_here}
@@ -51,10 +51,11 @@ use Rattle.solver_store.specs.SolverModel.{Leaves}
 use Rattle.touched_items.specs.Differences.{groups_in}
 use Rattle.user_model.specs.declared.objective.Objective.{Objective}
 use Rattle.user_model.specs.declared.row.Row.{Row}
+use Rattle.item_core.specs.Kind.{kind_count}
 
 -- ---- what is found may be planned
 
-module _ (e : Edit) (changed addresses : List Address) (rows : List Row)
+module _ (e : AttachedEdit) (changed addresses : List Address) (rows : List Row)
     (objective : Option Objective) (search : IsSearch e changed addresses rows objective)
     (standing : List Entry) (changing : AreChanging e standing changed)
     (trees : missing_others e rows objective ≡ None) (further : List Entry)
@@ -63,7 +64,7 @@ module _ (e : Edit) (changed addresses : List Address) (rows : List Row)
   new_found = bridged e changed addresses rows objective search standing changing trees
 
   pub others_within :
-      All (λ item. IsWithin (choice_here e) 35 (put_in further item)) (found_others rows objective)
+      All (λ item. IsWithin (choice_here e) kind_count (put_in further item)) (found_others rows objective)
   others_within =
       within_here e new_found standing changed addresses rows objective search changing further
       stands
@@ -72,7 +73,7 @@ module _ (e : Edit) (changed addresses : List Address) (rows : List Row)
 
   -- `Overflow` of `plan_found_others`
   pub overflow_others : (at : Address)
-      → IsFirstAt (unfit_put (choice_here e) 35 further (found_others rows objective)) at
+      → IsFirstAt (unfit_put (choice_here e) kind_count further (found_others rows objective)) at
       → (bridging : FreshBridging (setting_here e) e.after) × (unfit_at bridging ≡ Some at)
   overflow_others at first = (
     new_found,
@@ -82,7 +83,7 @@ module _ (e : Edit) (changed addresses : List Address) (rows : List Row)
 
 -- ---- the change
 
-module _ (e : Edit) (s : Step e) where
+module _ (e : AttachedEdit) (s : PlannedEdit e) where
   -- the fresh bridging of the model after
   pub new_here : FreshBridging (setting_here e) e.after
   new_here =
@@ -141,14 +142,14 @@ module _ (e : Edit) (s : Step e) where
 
   -- ---- and the nodes kept that are planned
 
-  pub keepable_here : AreKeepable (families_of e.boxes.states) s.nodes
+  pub keepable_here : AreKeepable (families_of e.bridges.states) s.nodes
   keepable_here =
-      subst (AreKeepable (families_of e.boxes.states)) (sym nodes_here)
+      subst (AreKeepable (families_of e.bridges.states)) (sym nodes_here)
       (to_be_kept (sound_before e) (sound_behind e) (old_here e) new_here s.addresses apart_here
-      stay_here (families_of e.boxes.states)
+      stay_here (families_of e.bridges.states)
       (nodes_are (setting_here e) e.sound.costly e.sound.lawful e.native e.after e.valid new_here))
 
-  module _ (states between : List State) (same : kept_by states ≡ kept_by e.boxes.states)
+  module _ (states between : List State) (same : kept_by states ≡ kept_by e.bridges.states)
       (gone : kept_by between
       ≡ map (without_each (flat_map (nodes_below states) s.addresses)) (kept_by states)) where
     listed : flat_map (nodes_below states) s.addresses
@@ -178,10 +179,10 @@ module _ (e : Edit) (s : Step e) where
     -- and turns rise by twice the inner items at most
     pub inner : (n : ℕ) × IsInner (old_here e) holds.bridging n × (turns_after ≤ turns + 2 * n)
 
-  -- by the table and the boxes that were
+  -- by the table and the bridges that were
   module _ (states between behind : List State) (solver : Leaves) (places : AddressMap)
       (objective_at : Address) (t0 t1 t2 t3 : ℕ)
-      (same : kept_by states ≡ kept_by e.boxes.states)
+      (same : kept_by states ≡ kept_by e.bridges.states)
       (gone : kept_by between
       ≡ map (without_each (flat_map (nodes_below states) s.addresses)) (kept_by states))
       (kept : kept_by behind ≡ map (with_each s.nodes) (kept_by between))
@@ -217,7 +218,7 @@ module _ (e : Edit) (s : Step e) where
         all_from_map (λ (k : Family × Kept). k.1 ≡ nodes_by new_here k.0)
         (λ (s : State). (s.family, s.kept)) behind
         (subst (All (λ (k : Family × Kept). k.1 ≡ nodes_by new_here k.0))
-        (sym (boxes_changed (sound_before e) (sound_behind e) (old_here e) new_here s.addresses
+        (sym (bridges_changed (sound_before e) (sound_behind e) (old_here e) new_here s.addresses
         apart_here stay_here states between behind (hold_nodes e states same)
         (gone_is states between same gone)
         (kept ∙ ap (λ ns. map (with_each ns) (kept_by between)) nodes_here)))

@@ -2,12 +2,12 @@
 -- the search for what that touches, and what is planned of it.
 --     KeepsAt           the choices at and below the item at an address are others nowhere
 --     Separates         two models are the same but for some items
---     Edit              the fresh bridging is held of the model before by the table before; which items
+--     AttachedEdit              the fresh bridging is held of the model before by the table before; which items
 --                       are to be bridged anew
 --     IsSearch          the rows and the objective that are found by variables that change
 --     AreChanging AreAllOwn     these are those that change, or all of the groups to be bridged anew
 --     IsPlanned         what is planned of all that is found
---     Step              all that precedes the change of what is held
+--     PlannedEdit              all that precedes the change of what is held
 use Rattle.std.specs.FinMap as finite
 use Rattle.std.specs.Prelude.{◌≡◌, ◌++◌, ◌&&◌, ◌||◌, ℕ, Bool, true, false, cond, not, List, Option, Some, None, filter, flat_map, is_some, map, All, Contains}
 use Rattle.std.specs.List.{filter_map, list_any}
@@ -22,7 +22,7 @@ use Rattle.bridge_graph.specs.declared.Choice.{Choice}
 use Rattle.bridge_plan.specs.Adds.{kept_of}
 use Rattle.bridge_plan.specs.Means.{AreSound}
 use Rattle.bridge_plan.specs.Worked.{worked, worked_each, worked_in}
-use Rattle.bridge_set.specs.Boxed.{Boxed, families_of, means_of, occur_once, setting_by, setting_of}
+use Rattle.bridge_set.specs.Bridges.{Bridges, families_of, means_of, occur_once, setting_by, setting_of}
 use Rattle.bridge_set.specs.Nodes.{HoldNodes}
 use Rattle.expansion.specs.Grown.{Held}
 use Rattle.found_plan.specs.Read.{is_marked, named_by, own_entries, read_entries}
@@ -59,6 +59,7 @@ use Rattle.user_model.specs.Valid.{IsValid}
 use Rattle.user_model.specs.declared.group.Group.{Group}
 use Rattle.user_model.specs.declared.objective.Objective.{Objective}
 use Rattle.user_model.specs.declared.row.Row.{Row}
+use Rattle.item_core.specs.Kind.{kind_count}
 
 -- the fresh bridging of the model, which is valid, and in which each number fits
 pub record HoldsBridging (setting : Setting) (states : List State) (solver : Leaves)
@@ -109,56 +110,56 @@ pub record Separates (model after : ModelValue) (d : Differing) : Type 0 where
       || contents_name d.after var at)
       ≡ other_names after var at
 
-pub record Edit : Type 0 where
+pub record AttachedEdit : Type 0 where
   -- by the table to be chosen by, keeping what was kept by the one before
-  pub boxes : Boxed
+  pub bridges : Bridges
   pub table : Table
   pub solver : Leaves
   pub places : AddressMap
   pub objective_at : Address
   pub model : ModelValue
   pub after : ModelValue
-  pub sound : AreSound (means_of boxes)
-  pub native : SupportsNativeKinds (setting_of boxes)
-  pub once : occur_once (families_of boxes.states) ≡ true
-  pub costly : IsCostly (graph_of (setting_by table boxes.states))
-  pub lawful : AreLawful (setting_by table boxes.states)
-  pub native_before : SupportsNativeKinds (setting_by table boxes.states)
+  pub sound : AreSound (means_of bridges)
+  pub native : SupportsNativeKinds (setting_of bridges)
+  pub once : occur_once (families_of bridges.states) ≡ true
+  pub costly : IsCostly (graph_of (setting_by table bridges.states))
+  pub lawful : AreLawful (setting_by table bridges.states)
+  pub native_before : SupportsNativeKinds (setting_by table bridges.states)
   pub held :
-      HoldsBridging (setting_by table boxes.states) boxes.states solver places objective_at model
+      HoldsBridging (setting_by table bridges.states) bridges.states solver places objective_at model
   pub valid : IsValid after
   pub d : Differing
   pub separates : Separates model after d
   -- an item that isn't given is bridged as it was
   pub alike :
       (at : Address) → ¬ (Contains (differing_addresses d) at)
-      → KeepsAt held.bridging (means_of boxes).choice at
+      → KeepsAt held.bridging (means_of bridges).choice at
   -- and each that is given is touched
   pub touched :
-      (new : FreshBridging (setting_of boxes) after)
+      (new : FreshBridging (setting_of bridges) after)
       → All (IsTouched held.bridging new) (differing_addresses d)
 
-module _ (e : Edit) where
+module _ (e : AttachedEdit) where
   abbrev pub setting_here : Setting
-  setting_here = setting_of e.boxes
+  setting_here = setting_of e.bridges
 
   abbrev pub choice_here : ℕ → Choice
-  choice_here = (means_of e.boxes).choice
+  choice_here = (means_of e.bridges).choice
 
   abbrev pub setting_before : Setting
-  setting_before = setting_by e.table e.boxes.states
+  setting_before = setting_by e.table e.bridges.states
 
-  abbrev pub old_here : FreshBridging (setting_by e.table e.boxes.states) e.model
+  abbrev pub old_here : FreshBridging (setting_by e.table e.bridges.states) e.model
   old_here = e.held.bridging
 
-  pub sound_before : IsValidUnder (setting_by e.table e.boxes.states) e.model
+  pub sound_before : IsValidUnder (setting_by e.table e.bridges.states) e.model
   sound_before = record {
     costly = e.costly;
     lawful = e.lawful;
     valid = e.held.valid;
   }
 
-  pub sound_behind : IsValidUnder (setting_of e.boxes) e.after
+  pub sound_behind : IsValidUnder (setting_of e.bridges) e.after
   sound_behind = record {
     costly = e.sound.costly;
     lawful = e.sound.lawful;
@@ -175,10 +176,10 @@ module _ (e : Edit) where
   missing_groups = first_missing choice_here (kinds_as_they_stand groups_now)
 
   abbrev pub unfit_groups : Option Item
-  unfit_groups = unfit choice_here 35 groups_now
+  unfit_groups = unfit choice_here kind_count groups_now
 
   abbrev pub groups_held : Held Item Entry
-  groups_held = worked_each choice_here (worked choice_here 35) groups_now
+  groups_held = worked_each choice_here (worked choice_here kind_count) groups_now
 
   -- ---- the search
 
@@ -225,11 +226,11 @@ module _ (e : Edit) where
 
   abbrev pub others_held : List Entry → List Row → Option Objective → Held Item Entry
   others_held further rows objective =
-      worked_in choice_here (worked choice_here 35) further (found_others rows objective)
+      worked_in choice_here (worked choice_here kind_count) further (found_others rows objective)
 
   pub record IsPlanned (further : List Entry) (rows : List Row) (objective : Option Objective)
       (leaves : List Item) (nodes : List KeptItem) : Type 0 where
-    pub fit : unfit_put choice_here 35 further (found_others rows objective) ≡ None
+    pub fit : unfit_put choice_here kind_count further (found_others rows objective) ≡ None
     pub leaves_are : leaves ≡ groups_held.leaves ++ (others_held further rows objective).leaves
     pub nodes_are :
         nodes
@@ -237,7 +238,7 @@ module _ (e : Edit) where
 
 -- ---- all of an edit that is accepted, before what is held is changed
 
-pub record Step (e : Edit) : Type 0 where
+pub record PlannedEdit (e : AttachedEdit) : Type 0 where
   pub standing : List Entry
   pub changed : List Address
   pub addresses : List Address
@@ -256,7 +257,7 @@ pub record Step (e : Edit) : Type 0 where
 
 -- what the groups to be bridged anew were is gone, and what they are is there; so of the rows and the
 -- objective
-pub record IsMappedAnew (e : Edit) (standing : List Entry) (places : AddressMap) : Type 0 where
+pub record IsMappedAnew (e : AttachedEdit) (standing : List Entry) (places : AddressMap) : Type 0 where
   pub exprs :
       (v : Address)
       → finite.get places.exprs v

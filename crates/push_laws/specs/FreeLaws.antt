@@ -1,4 +1,4 @@
--- Boxes that have let all nodes of found items go are free for those that are planned of them, and
+-- Bridges that have let all nodes of found items go are free for those that are planned of them, and
 -- these can be kept.
 use Rattle.std.specs.Prelude.{◌≡◌, ◌≢◌, ◌⊎◌, ℕ, true, List, [], ◌∷◌, All, AllPairs, Contains, map, None, refl}
 use Rattle.std.specs.FinMap as finite
@@ -8,9 +8,9 @@ use Rattle.std.proofs.Common.{inl, inr, sym, ap, subst, ◌∙◌}
 use Rattle.std.proofs.lemmas.List.Elements.{All-cons, All-contains_itself, All-head, All-map, All-nil, All-tail, All-weaker}
 use Rattle.address_laws.specs.Apart.{Distinct, is_distinct}
 use Rattle.aff_core.specs.Address.{Address, address_eq, address_total}
-use Rattle.box_laws.specs.FamilyLaws.{family_kept, family_part, held_listed}
+use Rattle.bridge_set_laws.specs.FamilyLaws.{family_kept, family_part, held_listed}
 use Rattle.bridge_set.specs.Adding.{AreFree}
-use Rattle.bridge_set.specs.Boxed.{AreKeepable, kept_by}
+use Rattle.bridge_set.specs.Bridges.{AreKeepable, kept_by}
 use Rattle.bridge_set.specs.Letting.{without_each, without_list}
 use Rattle.bridge_set.specs.Nodes.{HoldNodes, nodes_by}
 use Rattle.bridge_face.specs.Law.{IsItemFor}
@@ -88,18 +88,18 @@ module _ {setting next : Setting} {model after : ModelValue} (sound : IsValidUnd
       → planned sound sound_after old new found of_nodes nodes_view v ≢ None
   planned_there v c e = missing v (held_by new of_nodes found) e c
 
-  each_box : (v : Address) → planned sound sound_after old new found of_nodes nodes_view v ≢ None
+  each_bridge : (v : Address) → planned sound sound_after old new found of_nodes nodes_view v ≢ None
       → (states : List State) → HoldNodes old states
       → All (λ (k : Family × Kept). finite.get k.1 v ≡ None)
       (map (without_each had) (kept_by states))
-  each_box v some [] hold = All-nil (λ (k : Family × Kept). finite.get k.1 v ≡ None)
-  each_box v some (s ∷ states) hold =
+  each_bridge v some [] hold = All-nil (λ (k : Family × Kept). finite.get k.1 v ≡ None)
+  each_bridge v some (s ∷ states) hold =
       All-cons (λ (k : Family × Kept). finite.get k.1 v ≡ None)
       (without_each had (s.family, s.kept)) (map (without_each had) (kept_by states))
       (ap (λ m. finite.get (without_list m had) v)
       (All-head (λ (s : State). s.kept ≡ nodes_by old s.family) s states hold)
       ∙ free_there s.family v some)
-      (each_box v some states
+      (each_bridge v some states
       (All-tail (λ (s : State). s.kept ≡ nodes_by old s.family) s states hold))
 
   pub free_after : (before between : List State) → HoldNodes old before
@@ -112,7 +112,7 @@ module _ {setting next : Setting} {model after : ModelValue} (sound : IsValidUnd
       (All-weaker (λ (n : ℕ × Item). Contains (keys_of (by_address (nodes_held new found))) n.1.at)
       (λ (n : ℕ × Item). All (λ (k : Family × Kept). finite.get k.1 n.1.at ≡ None)
       (map (without_each had) (kept_by before)))
-      (λ n c. each_box n.1.at (planned_there n.1.at
+      (λ n c. each_bridge n.1.at (planned_there n.1.at
       (subst (λ es. Contains (keys_of es) n.1.at) (sym (held_listed sound_after new found)) c))
       before hold) (nodes_held new found) (each_key (nodes_held new found))))
     where

@@ -23,7 +23,7 @@ use Rattle.map_laws.specs.EachLaws.{all_both}
 use Rattle.model_bridging.specs.Found.{found_others}
 use Rattle.push_laws.specs.AgreeLaws.{contains_one_of, found_standing, is_one_of, one_of_contained, others_name, own_variables as own_of}
 use Rattle.push_laws.specs.AloneLaws.{groups_found}
-use Rattle.push_laws.specs.Edits.{AreChanging, Edit, IsSearch, IsStandingFor, old_here, setting_here, sound_before, sound_behind}
+use Rattle.push_laws.specs.Edits.{AreChanging, AttachedEdit, IsSearch, IsStandingFor, old_here, setting_here, sound_before, sound_behind}
 use Rattle.push_laws.specs.HandedLaws.{is_found}
 use Rattle.push_laws.specs.ListLaws.{kept_item}
 use Rattle.push_laws.specs.PlannedLaws.{found_groups, found_others_are, others_stay, standing_is}
@@ -34,7 +34,7 @@ use Rattle.user_model.specs.declared.objective.Objective.{Objective}
 use Rattle.user_model.specs.declared.row.Row.{Row}
 use Rattle.push_laws.specs.NamingLaws.{NamesStanding, group_own, numbered_flat, others_stand, own_group}
 
-module _ (e : Edit) (new : FreshBridging (setting_here e) e.after)
+module _ (e : AttachedEdit) (new : FreshBridging (setting_here e) e.after)
     (standing : List Entry) (changed addresses : List Address) (rows : List Row)
     (objective : Option Objective) (search : IsSearch e changed addresses rows objective)
     (changing : AreChanging e standing changed) where

@@ -6,7 +6,7 @@ use Rattle.std.proofs.Common.{ap, sym, subst, ◌∙◌, true≢false}
 use Rattle.std.proofs.lemmas.List.Elements.{All-cons, All-filter, All-head, All-map, All-nil, All-tail, All-weaker, Contains-append_left, Contains-append_right}
 use Rattle.address_map.specs.Noted.{noted_items}
 use Rattle.aff_core.specs.Address.{Address, address_eq-Decides}
-use Rattle.push_laws.specs.Edits.{AreGroupsAt, Edit, IsSearch, old_here}
+use Rattle.push_laws.specs.Edits.{AreGroupsAt, AttachedEdit, IsSearch, old_here}
 use Rattle.fresh_bridging.specs.Entries.{is_kept}
 use Rattle.fresh_bridging.specs.FreshBridging.{expression_of}
 use Rattle.fresh_bridging.specs.ModelImage.{group_item, items_of, model_image}
@@ -131,7 +131,7 @@ found_as_given model ats found given all only are =
 
 -- ---- of an edit
 
-module _ (e : Edit) where
+module _ (e : AttachedEdit) where
   abbrev pub given_here : List Address
   given_here = differing_addresses e.d
 

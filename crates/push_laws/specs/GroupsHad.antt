@@ -10,7 +10,7 @@ use Rattle.aff_core.specs.Address.{Address, address_eq-Decides, root_address}
 use Rattle.aff_core.specs.declared.root.Root.TheVariants as root
 use Rattle.bridge_face.specs.Law.{inner_of}
 use Rattle.bridge_set.specs.Walk.{IsRoot}
-use Rattle.push_laws.specs.Edits.{AreGroupsAt, Edit, IsSearch, old_here, setting_here, sound_before, sound_behind}
+use Rattle.push_laws.specs.Edits.{AreGroupsAt, AttachedEdit, IsSearch, old_here, setting_here, sound_before, sound_behind}
 use Rattle.push_laws.specs.GivenLaws.{IsGivenAt, before_given, given_found, groups_had, index_here}
 use Rattle.found_plan.specs.Stood.{old_leaves}
 use Rattle.fresh_bridging.specs.FreshBridging.{FreshBridging}
@@ -134,7 +134,7 @@ module _ (p : Item → Bool) where
           (distinct-across (variables_of x.body) (inner_of xs) d))
       by false later = later
 
-module _ (e : Edit) (changed addresses : List Address) (rows : List Row)
+module _ (e : AttachedEdit) (changed addresses : List Address) (rows : List Row)
     (objective : Option Objective) (search : IsSearch e changed addresses rows objective) where
   abbrev given : List Address
   given = differing_addresses e.d

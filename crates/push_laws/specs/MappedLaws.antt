@@ -9,7 +9,7 @@ use Rattle.aff_core.specs.Address.{Address, address_cmp, address_eq, address_eq-
 use Rattle.aff_core.specs.Function.{Function}
 use Rattle.bridge_face.specs.Law.{expressed}
 use Rattle.push_laws.specs.StayingLaws.{without}
-use Rattle.push_laws.specs.Edits.{AreChanging, Edit, IsMappedAnew, IsSearch, old_here, setting_here}
+use Rattle.push_laws.specs.Edits.{AreChanging, AttachedEdit, IsMappedAnew, IsSearch, old_here, setting_here}
 use Rattle.push_laws.specs.FurtherLaws.{unchanged}
 use Rattle.push_laws.specs.GivenLaws.{groups_had, unfound}
 use Rattle.push_laws.specs.PlannedLaws.{found_groups, new_choice, others_stay, standing_is}
@@ -97,7 +97,7 @@ among_kept_groups keep all gs v g same c t own =
 pub all_contained : {X : Type 0} (p : X → Bool) (xs : List X) → All (Contains xs) (filter p xs)
 all_contained p xs = All-filter p (Contains xs) xs (All-contains_itself xs)
 
-module _ (e : Edit) (new : FreshBridging (setting_here e) e.after)
+module _ (e : AttachedEdit) (new : FreshBridging (setting_here e) e.after)
     (standing : List Entry) (changed addresses : List Address) (rows : List Row)
     (objective : Option Objective) (search : IsSearch e changed addresses rows objective)
     (changing : AreChanging e standing changed) where

@@ -18,6 +18,7 @@ use Rattle.local_laws.specs.Stays.{AgreeOn}
 use Rattle.model_bridging.specs.ModelHeld.{unfit, unfit_put}
 use Rattle.push_laws.specs.HeldAllLaws.{leaves_held, nodes_held}
 use Rattle.user_model.specs.Model.{ModelValue}
+use Rattle.item_core.specs.Kind.{kind_count}
 
 abbrev pub addresses_of : List Item → List Address
 addresses_of items = map (λ i. i.at) items
@@ -26,33 +27,33 @@ module _ {setting : Setting} {model : ModelValue} (bridging : FreshBridging sett
   -- a group of the model, worked out to its leaves
   pub record IsGroupOf (g : Item) : Type 0 where
     pub stands : find (is_there g.at) (model_image model).groups ≡ Some g
-    pub within : IsWithin bridging.choice 35 g
+    pub within : IsWithin bridging.choice kind_count g
 
   -- a row or the objective, with entries that stand for the variables that it names
   pub record IsOtherOf (es : List Entry) (c : Item) : Type 0 where
     pub no_group : find (is_there c.at) (model_image model).groups ≡ None
     pub stands : find (is_there c.at) (model_image model).others ≡ Some c
     pub agrees : AgreeOn es bridging.made.entries c.body
-    pub within : IsWithin bridging.choice 35 (put_in es c)
+    pub within : IsWithin bridging.choice kind_count (put_in es c)
 
   group_held : (g : Item) → IsGroupOf g
-      → held_of bridging g.at ≡ Some (worked bridging.choice 35 g)
+      → held_of bridging g.at ≡ Some (worked bridging.choice kind_count g)
   group_held g h =
-      group_planned bridging g.at g (worked bridging.choice 35 g) h.stands
-      (within_bridged bridging.choice 35 g h.within)
+      group_planned bridging g.at g (worked bridging.choice kind_count g) h.stands
+      (within_bridged bridging.choice kind_count g h.within)
 
   other_held : (es : List Entry) (c : Item) → IsOtherOf es c
       → held_of bridging c.at
-      ≡ Some (put_held (rules_by bridging.choice) es c (worked bridging.choice 35 (put_in es c)))
+      ≡ Some (put_held (rules_by bridging.choice) es c (worked bridging.choice kind_count (put_in es c)))
   other_held es c h =
-      other_planned bridging c.at c (worked bridging.choice 35 (put_in es c)) h.no_group h.stands
-      es h.agrees (within_bridged bridging.choice 35 (put_in es c) h.within)
+      other_planned bridging c.at c (worked bridging.choice kind_count (put_in es c)) h.no_group h.stands
+      es h.agrees (within_bridged bridging.choice kind_count (put_in es c) h.within)
 
   -- ---- leaves and nodes
 
   pub groups_leaves : (gs : List Item) → All IsGroupOf gs
       → leaves_held bridging (addresses_of gs)
-      ≡ (worked_each bridging.choice (worked bridging.choice 35) gs).leaves
+      ≡ (worked_each bridging.choice (worked bridging.choice kind_count) gs).leaves
   unfolding worked_each
   groups_leaves [] h = refl
   groups_leaves (g ∷ gs) h =
@@ -61,7 +62,7 @@ module _ {setting : Setting} {model : ModelValue} (bridging : FreshBridging sett
 
   pub groups_nodes : (gs : List Item) → All IsGroupOf gs
       → nodes_held bridging (addresses_of gs)
-      ≡ (worked_each bridging.choice (worked bridging.choice 35) gs).nodes
+      ≡ (worked_each bridging.choice (worked bridging.choice kind_count) gs).nodes
   unfolding worked_each
   groups_nodes [] h = refl
   groups_nodes (g ∷ gs) h =
@@ -71,7 +72,7 @@ module _ {setting : Setting} {model : ModelValue} (bridging : FreshBridging sett
   module _ (es : List Entry) where
     pub others_leaves : (cs : List Item) → All (IsOtherOf es) cs
         → leaves_held bridging (addresses_of cs)
-        ≡ (worked_in bridging.choice (worked bridging.choice 35) es cs).leaves
+        ≡ (worked_in bridging.choice (worked bridging.choice kind_count) es cs).leaves
     unfolding worked_in
     others_leaves [] h = refl
     others_leaves (c ∷ cs) h =
@@ -81,7 +82,7 @@ module _ {setting : Setting} {model : ModelValue} (bridging : FreshBridging sett
 
     pub others_nodes : (cs : List Item) → All (IsOtherOf es) cs
         → nodes_held bridging (addresses_of cs)
-        ≡ (worked_in bridging.choice (worked bridging.choice 35) es cs).nodes
+        ≡ (worked_in bridging.choice (worked bridging.choice kind_count) es cs).nodes
     unfolding worked_in
     others_nodes [] h = refl
     others_nodes (c ∷ cs) h =
@@ -92,14 +93,14 @@ module _ {setting : Setting} {model : ModelValue} (bridging : FreshBridging sett
   -- ---- the first that doesn't fit
 
   pub groups_unfit : (gs : List Item) → All IsGroupOf gs
-      → find (λ i. not (fits_at bridging i.at)) gs ≡ unfit bridging.choice 35 gs
+      → find (λ i. not (fits_at bridging i.at)) gs ≡ unfit bridging.choice kind_count gs
   groups_unfit [] h = refl
   groups_unfit (g ∷ gs) h =
       ap₂ (λ (o : Option (Held Item Entry)) r. cond (not (fit o)) (Some g) r)
       (group_held g (All-head IsGroupOf g gs h)) (groups_unfit gs (All-tail IsGroupOf g gs h))
 
   pub others_unfit : (es : List Entry) (cs : List Item) → All (IsOtherOf es) cs
-      → find (λ i. not (fits_at bridging i.at)) cs ≡ unfit_put bridging.choice 35 es cs
+      → find (λ i. not (fits_at bridging i.at)) cs ≡ unfit_put bridging.choice kind_count es cs
   others_unfit es [] h = refl
   others_unfit es (c ∷ cs) h =
       ap₂ (λ (o : Option (Held Item Entry)) r. cond (not (fit o)) (Some c) r)

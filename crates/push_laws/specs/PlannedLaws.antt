@@ -18,7 +18,7 @@ use Rattle.bridge_graph.specs.declared.Choice.{Choice}
 use Rattle.bridge_plan.specs.Adds.{kept_of}
 use Rattle.bridge_plan.specs.Worked.{IsWithin, worked, worked_each, worked_in}
 use Rattle.push_laws.specs.StayingLaws.{alike_by, group_stays_at, own_stands}
-use Rattle.push_laws.specs.Edits.{AreChanging, Edit, IsPlanned, IsSearch, IsStandingFor, choice_here, groups_held, groups_now, old_here, others_held, setting_here, sound_before, sound_behind}
+use Rattle.push_laws.specs.Edits.{AreChanging, AttachedEdit, IsPlanned, IsSearch, IsStandingFor, choice_here, groups_held, groups_now, old_here, others_held, setting_here, sound_before, sound_behind}
 use Rattle.push_laws.specs.GivenLaws.{given_here, groups_handed, index_here, unfound}
 use Rattle.push_laws.specs.RefusedLaws.{all_changed, all_compared}
 use Rattle.expansion.specs.Bridged.{EachBridged}
@@ -55,6 +55,7 @@ use Rattle.touched_items.specs.Differences.{own_variables}
 use Rattle.touched_items.specs.SearchLaws.{in_order_noted}
 use Rattle.user_model.specs.declared.objective.Objective.{Objective}
 use Rattle.user_model.specs.declared.row.Row.{Row}
+use Rattle.item_core.specs.Kind.{kind_count}
 
 -- ---- sorted addresses are apart
 
@@ -69,7 +70,7 @@ sorted_apart (a ∷ ats) h =
 
 -- ---- an edit's search
 
-module _ (e : Edit) (changed addresses : List Address) (rows : List Row)
+module _ (e : AttachedEdit) (changed addresses : List Address) (rows : List Row)
     (objective : Option Objective) (search : IsSearch e changed addresses rows objective) where
   pub found_groups : filter (is_found addresses) (model_image e.after).groups ≡ groups_now e
   found_groups = groups_handed e changed addresses rows objective search
@@ -107,7 +108,7 @@ module _ (e : Edit) (changed addresses : List Address) (rows : List Row)
         subst (All P) found_groups
         (All-filter (is_found addresses) P (model_image e.after).groups all)
 
-    pub all_groups_within : All (IsWithin new.choice 35) (model_image e.after).groups
+    pub all_groups_within : All (IsWithin new.choice kind_count) (model_image e.after).groups
     all_groups_within =
         groups_within (setting_here e) e.sound.costly new.choice new.chosen e.sound.lawful e.after
         e.valid group_trees
@@ -117,10 +118,10 @@ module _ (e : Edit) (changed addresses : List Address) (rows : List Row)
         of_groups (IsGroupOf new)
         (All-weaker
         (λ g. (first_passing (is_there g.at) (model_image e.after).groups ≡ Some g)
-        × IsWithin new.choice 35 g) (IsGroupOf new)
+        × IsWithin new.choice kind_count g) (IsGroupOf new)
         (λ g h. record { stands = h.0; within = h.1 }) (model_image e.after).groups
         (all_both (λ g. first_passing (is_there g.at) (model_image e.after).groups ≡ Some g)
-        (IsWithin new.choice 35) (model_image e.after).groups (groups_found e.after e.valid)
+        (IsWithin new.choice kind_count) (model_image e.after).groups (groups_found e.after e.valid)
         all_groups_within))
 
     -- what is planned of the groups stands for their variables
@@ -128,17 +129,17 @@ module _ (e : Edit) (changed addresses : List Address) (rows : List Row)
         → expression_in (groups_held e).entries v ≡ expression_of new v
     own_is v c =
         ap (λ gs. expression_in
-        (worked_each (choice_here e) (worked (choice_here e) 35) gs).entries v) (sym found_groups)
+        (worked_each (choice_here e) (worked (choice_here e) kind_count) gs).entries v) (sym found_groups)
         ∙ own_stands e new.made.entries
         (subst (λ c. EachBridged (rules_by c) (model_image e.after).groups new.made.entries) new_choice
         new.made.groups) (is_found addresses)
         (λ i out. unfound e changed addresses rows objective search i out)
-        (subst (λ c. All (IsWithin c 35) (filter (is_found addresses) (model_image e.after).groups))
+        (subst (λ c. All (IsWithin c kind_count) (filter (is_found addresses) (model_image e.after).groups))
         new_choice
-        (All-filter (is_found addresses) (IsWithin new.choice 35) (model_image e.after).groups
+        (All-filter (is_found addresses) (IsWithin new.choice kind_count) (model_image e.after).groups
         all_groups_within)) v c
 
-module _ (e : Edit) (new : FreshBridging (setting_here e) e.after)
+module _ (e : AttachedEdit) (new : FreshBridging (setting_here e) e.after)
     (standing : List Entry) (changed addresses : List Address) (rows : List Row)
     (objective : Option Objective) (search : IsSearch e changed addresses rows objective)
     (changing : AreChanging e standing changed) where
@@ -270,19 +271,19 @@ module _ (e : Edit) (new : FreshBridging (setting_here e) e.after)
           (λ c. (first_passing (is_there c.at) (model_image e.after).groups ≡ None)
           × ((first_passing (is_there c.at) others ≡ Some c)
           × (AgreeOn further new.made.entries c.body
-          × IsWithin new.choice 35 (put_in new.made.entries c))))
+          × IsWithin new.choice kind_count (put_in new.made.entries c))))
           (IsOtherOf new further)
           (λ c h. record {
             no_group = h.0;
             stands = h.1.0;
             agrees = h.1.1.0;
-            within = subst (IsWithin new.choice 35)
+            within = subst (IsWithin new.choice kind_count)
                 (sym (put_in_agreeing further new.made.entries c h.1.1.0)) h.1.1.1;
           }) (found_others rows objective)
           (all_both (λ c. first_passing (is_there c.at) (model_image e.after).groups ≡ None)
           (λ c. (first_passing (is_there c.at) others ≡ Some c)
           × (AgreeOn further new.made.entries c.body
-          × IsWithin new.choice 35 (put_in new.made.entries c))) (found_others rows objective)
+          × IsWithin new.choice kind_count (put_in new.made.entries c))) (found_others rows objective)
           (All-weaker
           (λ c. (first_passing (is_there c.at) (model_image e.after).groups ≡ None)
           × (first_passing (is_there c.at) others ≡ Some c))
@@ -290,16 +291,16 @@ module _ (e : Edit) (new : FreshBridging (setting_here e) e.after)
           (found_others rows objective) stand)
           (all_both (λ c. first_passing (is_there c.at) others ≡ Some c)
           (λ c. AgreeOn further new.made.entries c.body
-          × IsWithin new.choice 35 (put_in new.made.entries c)) (found_others rows objective)
+          × IsWithin new.choice kind_count (put_in new.made.entries c)) (found_others rows objective)
           (All-weaker
           (λ c. (first_passing (is_there c.at) (model_image e.after).groups ≡ None)
           × (first_passing (is_there c.at) others ≡ Some c))
           (λ c. first_passing (is_there c.at) others ≡ Some c) (λ c h. h.1)
           (found_others rows objective) stand)
           (all_both (λ c. AgreeOn further new.made.entries c.body)
-          (λ c. IsWithin new.choice 35 (put_in new.made.entries c)) (found_others rows objective)
+          (λ c. IsWithin new.choice kind_count (put_in new.made.entries c)) (found_others rows objective)
           agree
-          (of_found (λ c. IsWithin new.choice 35 (put_in new.made.entries c))
+          (of_found (λ c. IsWithin new.choice kind_count (put_in new.made.entries c))
           (others_within (setting_here e) e.sound.costly new.choice new.chosen e.sound.lawful
           e.after e.valid new.made.entries new.made.groups
           (trees_of_bridged (setting_here e) e.sound.costly new.choice new.chosen e.sound.lawful
@@ -319,12 +320,12 @@ module _ (e : Edit) (new : FreshBridging (setting_here e) e.after)
 
       -- so they may be planned
       pub within_here :
-          All (λ item. IsWithin (choice_here e) 35 (put_in further item))
+          All (λ item. IsWithin (choice_here e) kind_count (put_in further item))
           (found_others rows objective)
       within_here =
-          subst (λ (c : ℕ → Choice). All (λ item. IsWithin c 35 (put_in further item))
+          subst (λ (c : ℕ → Choice). All (λ item. IsWithin c kind_count (put_in further item))
           (found_others rows objective)) (new_choice e changed addresses rows objective search new)
-          (All-weaker (IsOtherOf new further) (λ item. IsWithin new.choice 35 (put_in further item))
+          (All-weaker (IsOtherOf new further) (λ item. IsWithin new.choice kind_count (put_in further item))
           (λ c h. h.within) (found_others rows objective) found_are)
 
       -- ---- what is planned
@@ -353,8 +354,8 @@ module _ (e : Edit) (new : FreshBridging (setting_here e) e.after)
         pub leaves_planned : leaves ≡ leaves_held new addresses
         leaves_planned =
             planned.leaves_are
-            ∙ ap (λ (c : ℕ → Choice). (worked_each c (worked c 35) (groups_now e)).leaves
-            ++ (worked_in c (worked c 35) further (found_others rows objective)).leaves)
+            ∙ ap (λ (c : ℕ → Choice). (worked_each c (worked c kind_count) (groups_now e)).leaves
+            ++ (worked_in c (worked c kind_count) further (found_others rows objective)).leaves)
             (sym (new_choice e changed addresses rows objective search new))
             ∙ ap₂ ◌++◌ (sym (groups_leaves new (groups_now e) (groups_planned e changed addresses rows objective search new)))
             (sym (others_leaves new further (found_others rows objective) found_are))
@@ -367,8 +368,8 @@ module _ (e : Edit) (new : FreshBridging (setting_here e) e.after)
             planned.nodes_are
             ∙ sym (map-append kept_of (groups_held e).nodes (others_held e further rows objective).nodes)
             ∙ ap (λ (c : ℕ → Choice). map kept_of
-            ((worked_each c (worked c 35) (groups_now e)).nodes
-            ++ (worked_in c (worked c 35) further (found_others rows objective)).nodes))
+            ((worked_each c (worked c kind_count) (groups_now e)).nodes
+            ++ (worked_in c (worked c kind_count) further (found_others rows objective)).nodes))
             (sym (new_choice e changed addresses rows objective search new))
             ∙ ap (map kept_of)
             (ap₂ ◌++◌ (sym (groups_nodes new (groups_now e) (groups_planned e changed addresses rows objective search new)))

@@ -9,7 +9,7 @@ use Rattle.aff_core.specs.Address.{Address, address_cmp, address_eq}
 use Rattle.aff_core.specs.Rising.{HasDistinctKeys}
 use Rattle.address_laws.specs.Apart.{is_distinct}
 use Rattle.address_laws.specs.DistinctLaws.{each_apart, rows_distinct, variables_distinct, vars_distinct}
-use Rattle.bridge_set.specs.Boxed.{AreKeepable}
+use Rattle.bridge_set.specs.Bridges.{AreKeepable}
 use Rattle.bridge_face.specs.Law.{IsItemFor, expressed}
 use Rattle.bridge_graph.specs.Hypergraph.{IsCostly}
 use Rattle.bridge_plan.specs.Adds.{kept_of}

@@ -11,7 +11,7 @@ use Rattle.aff_core.specs.Address.{Address}
 use Rattle.bridge_face.specs.Law.{Miss}
 use Rattle.bridge_plan.specs.Worked.{IsWithin, worked, worked_each}
 use Rattle.push_laws.specs.StayingLaws.{AreCompared, alike_by, group_stays_at, groups_stay, others_stay, own_stands}
-use Rattle.push_laws.specs.Edits.{AreAllOwn, AreChanging, Edit, IsSearch, choice_here, groups_held, groups_now, missing_groups, missing_others, old_here, setting_here, sound_before, sound_behind, unfit_groups}
+use Rattle.push_laws.specs.Edits.{AreAllOwn, AreChanging, AttachedEdit, IsSearch, choice_here, groups_held, groups_now, missing_groups, missing_others, old_here, setting_here, sound_before, sound_behind, unfit_groups}
 use Rattle.push_laws.specs.GivenLaws.{beside, given_here, groups_handed, has_here, unfound}
 use Rattle.expansion.specs.Bridged.{EachBridged}
 use Rattle.expansion.specs.Grown.{Held}
@@ -52,10 +52,11 @@ use Rattle.touched_items.specs.ExpressionLaws.{stays_where}
 use Rattle.touched_items.specs.HeldExpressions.{stays_as}
 use Rattle.user_model.specs.declared.objective.Objective.{Objective}
 use Rattle.user_model.specs.declared.row.Row.{Row}
+use Rattle.item_core.specs.Kind.{kind_count}
 
 -- ---- the variables for which something else stands
 
-module _ (e : Edit) (standing : List Entry) (now : Address → Expression)
+module _ (e : AttachedEdit) (standing : List Entry) (now : Address → Expression)
     (stands : (v : Address) → Contains (own_variables e.d) v → expression_in standing v ≡ now v) where
   abbrev changes : Address → Bool
   changes v = not (stays_as e.places v (expression_in standing v))
@@ -99,7 +100,7 @@ module _ (e : Edit) (standing : List Entry) (now : Address → Expression)
       by (inl c) = tested c (changes v) refl
       by (inr n) = inr (beside e v n)
 
-module _ (e : Edit) where
+module _ (e : AttachedEdit) where
   abbrev all_groups : List Item
   all_groups = (model_image e.after).groups
 
@@ -130,9 +131,9 @@ module _ (e : Edit) where
       (ap (λ l. first_missing (choice_here e) (kinds_as_they_stand l)) e.separates.behind ∙ none)
 
   -- they may be planned
-  pub groups_within : missing_groups e ≡ None → All (IsWithin (choice_here e) 35) (groups_now e)
+  pub groups_within : missing_groups e ≡ None → All (IsWithin (choice_here e) kind_count) (groups_now e)
   groups_within none =
-      subst (All (IsWithin (choice_here e) 35)) e.separates.behind
+      subst (All (IsWithin (choice_here e) kind_count)) e.separates.behind
       (found_groups_within (sound_behind e) (is_found (given_here e)) (choice_here e) e.sound.chosen
       (trees_here none))
 
@@ -147,11 +148,11 @@ module _ (e : Edit) where
   standing_stands : (none : missing_groups e ≡ None) (v : Address) → Contains (own_variables e.d) v
       → expression_in (groups_held e).entries v ≡ expression_in (all_bridged none).0 v
   standing_stands none v c =
-      ap (λ l. expression_in (worked_each (choice_here e) (worked (choice_here e) 35) l).entries v)
+      ap (λ l. expression_in (worked_each (choice_here e) (worked (choice_here e) kind_count) l).entries v)
       (sym e.separates.behind)
       ∙ own_stands e (all_bridged none).0 (all_bridged none).1 (is_found (given_here e))
       (left_out (given_here e))
-      (subst (All (IsWithin (choice_here e) 35)) (sym e.separates.behind) (groups_within none)) v c
+      (subst (All (IsWithin (choice_here e) kind_count)) (sym e.separates.behind) (groups_within none)) v c
 
   -- ---- what is found
 
@@ -284,14 +285,14 @@ module _ (e : Edit) where
       groups_of : All (IsGroupOf new) (groups_now e)
       groups_of =
           All-weaker
-          (λ g. (find (is_there g.at) all_groups ≡ Some g) × IsWithin (choice_here e) 35 g)
+          (λ g. (find (is_there g.at) all_groups ≡ Some g) × IsWithin (choice_here e) kind_count g)
           (IsGroupOf new)
           (λ g h. record {
             stands = h.0;
-            within = subst (λ c. IsWithin c 35 g) (sym same_choice) h.1;
+            within = subst (λ c. IsWithin c kind_count g) (sym same_choice) h.1;
           }) (groups_now e)
           (all_both (λ g. find (is_there g.at) all_groups ≡ Some g)
-          (IsWithin (choice_here e) 35) (groups_now e)
+          (IsWithin (choice_here e) kind_count) (groups_now e)
           (subst (All (λ g. find (is_there g.at) all_groups ≡ Some g)) groups_same
           (All-filter keep (λ g. find (is_there g.at) all_groups ≡ Some g) all_groups
           (groups_found e.after e.valid)))
@@ -304,7 +305,7 @@ module _ (e : Edit) where
       first_group =
           ap (find Unfit) groups_same
           ∙ groups_unfit new (groups_now e) groups_of
-          ∙ ap (λ c. unfit c 35 (groups_now e)) same_choice
+          ∙ ap (λ c. unfit c kind_count (groups_now e)) same_choice
 
       pub unfit_first : (at : Address) → IsFirstAt (unfit_groups e) at → unfit_at new ≡ Some at
       unfit_first at first =

@@ -18,6 +18,7 @@ use Rattle.fresh_bridging.specs.OmitLaws.{IsGroup}
 use Rattle.fresh_bridging.specs.TheRules.{AreChoices, Setting, graph_of, rules_by}
 use Rattle.item_core.specs.Item.{variables_of}
 use Rattle.item_core.specs.declared.item.Item.{Item}
+use Rattle.item_core.specs.Kind.{kind_count}
 use Rattle.tree_laws.specs.LookupLaws.{components, found_first, found_second}
 
 module _ (setting : Setting) (costly : IsCostly (graph_of setting)) (choice : ℕ → Choice)
@@ -28,10 +29,10 @@ module _ (setting : Setting) (costly : IsCostly (graph_of setting)) (choice : �
 
   -- what is planned of some groups
   abbrev planned : List Item → List Entry
-  planned gs = (worked_each choice (worked choice 35) gs).entries
+  planned gs = (worked_each choice (worked choice kind_count) gs).entries
 
   planned_first : (g : Item) (gs : List Item)
-      → planned (g ∷ gs) ≡ (worked choice 35 g).entries ++ planned gs
+      → planned (g ∷ gs) ≡ (worked choice kind_count g).entries ++ planned gs
   unfolding worked_each
   planned_first g gs = refl
 
@@ -54,7 +55,7 @@ module _ (setting : Setting) (costly : IsCostly (graph_of setting)) (choice : �
 
   pub standing_is : {gs : List Item} {entries : List Entry}
       → EachBridged (rules_by choice) gs entries → All IsGroupHere gs
-      → All (IsWithin choice 35) (filter keep gs) → All IsWithout gs
+      → All (IsWithin choice kind_count) (filter keep gs) → All IsWithout gs
       → expression_in (planned (filter keep gs)) v ≡ expression_in entries v
   standing_is none here within without = ap (λ l. expression_in l v) planned_none
   standing_is (each {item = g} {items = gs} {entries} {others} first rest) here within without =
@@ -67,19 +68,19 @@ module _ (setting : Setting) (costly : IsCostly (graph_of setting)) (choice : �
           (All-head IsGroupHere g gs here)
 
       by : (b : Bool) → keep g ≡ b
-          → All (IsWithin choice 35) (cond b (g ∷ filter keep gs) (filter keep gs))
-          → (All (IsWithin choice 35) (filter keep gs)
+          → All (IsWithin choice kind_count) (cond b (g ∷ filter keep gs) (filter keep gs))
+          → (All (IsWithin choice kind_count) (filter keep gs)
           → expression_in (planned (filter keep gs)) v ≡ expression_in others v)
           → expression_in (planned (cond b (g ∷ filter keep gs) (filter keep gs))) v
           ≡ expression_in (entries ++ others) v
       by true e w later =
-          let made = within_bridged choice 35 g
-          (All-head (IsWithin choice 35) g (filter keep gs) w) in
+          let made = within_bridged choice kind_count g
+          (All-head (IsWithin choice kind_count) g (filter keep gs) w) in
           ap (λ l. expression_in l v) (planned_first g (filter keep gs))
           ∙ ap (λ l. expression_in (l ++ planned (filter keep gs)) v)
           (sym (ap (λ (h : Held Item Entry). h.entries) (held_once first made.tree ∙ made.holds)))
           ∙ same_behind entries (planned (filter keep gs)) others
-          (later (All-tail (IsWithin choice 35) g (filter keep gs) w))
+          (later (All-tail (IsWithin choice kind_count) g (filter keep gs) w))
       by false e w later =
           later w
           ∙ sym (found_second entries others v

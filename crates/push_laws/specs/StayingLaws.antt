@@ -7,7 +7,7 @@ use Rattle.std.proofs.lemmas.Option.{same_Some}
 use Rattle.address_map.specs.Noted.{noted_items}
 use Rattle.aff_core.specs.Address.{Address}
 use Rattle.bridge_plan.specs.Worked.{IsWithin, worked, worked_each}
-use Rattle.push_laws.specs.Edits.{Edit, KeepsAt, choice_here, old_here, setting_here, sound_before}
+use Rattle.push_laws.specs.Edits.{AttachedEdit, KeepsAt, choice_here, old_here, setting_here, sound_before}
 use Rattle.push_laws.specs.GivenLaws.{IsGivenAt, before_given, given_here, groups_given, index_here}
 use Rattle.expansion.specs.Bridged.{EachBridged}
 use Rattle.fresh_bridging.specs.Entries.{Entry, expression_in}
@@ -37,8 +37,9 @@ use Rattle.touched_items.specs.SearchLaws.{in_order_noted}
 use Rattle.user_model.specs.Model.{ModelValue, variable_address}
 use Rattle.user_model.specs.declared.group.Group.{Group}
 use Rattle.user_model.specs.declared.group.GroupVar.{GroupVar}
+use Rattle.item_core.specs.Kind.{kind_count}
 
-module _ (e : Edit) where
+module _ (e : AttachedEdit) where
   -- what isn't given chooses as it did
   pub alike_by : {m : ModelValue} (new : FreshBridging (setting_here e) m)
       → new.choice ≡ choice_here e → (at : Address) → ¬ (Contains (given_here e) at)
@@ -252,9 +253,9 @@ module _ (e : Edit) where
               (owner_here v g (item_of_group (only_groups e.after) g.at g f) group own)) o.1)
 
       -- so what is planned of the others stands for them
-      pub own_stands : All (IsWithin (choice_here e) 35) (filter keep (model_image e.after).groups)
+      pub own_stands : All (IsWithin (choice_here e) kind_count) (filter keep (model_image e.after).groups)
           → (v : Address) → Contains (own_variables e.d) v
-          → expression_in (worked_each (choice_here e) (worked (choice_here e) 35)
+          → expression_in (worked_each (choice_here e) (worked (choice_here e) kind_count)
           (filter keep (model_image e.after).groups)).entries v
           ≡ expression_in entries v
       own_stands within v c =

@@ -8,7 +8,7 @@ use Rattle.std.proofs.lemmas.List.Elements.{All-contains_itself, All-weaker}
 use Rattle.std.proofs.lemmas.List.Folds.{find-append}
 use Rattle.std.proofs.lemmas.Option.{none-some}
 use Rattle.aff_core.specs.Address.{Address}
-use Rattle.push_laws.specs.Edits.{AreChanging, Edit, IsSearch, IsStandingFor, choice_here, groups_now, old_here, setting_here, sound_before, sound_behind}
+use Rattle.push_laws.specs.Edits.{AreChanging, AttachedEdit, IsSearch, IsStandingFor, choice_here, groups_now, old_here, setting_here, sound_before, sound_behind}
 use Rattle.push_laws.specs.FurtherLaws.{agree_here}
 use Rattle.push_laws.specs.PlannedLaws.{found_are, found_items, groups_planned, new_choice, others_stay}
 use Rattle.fresh_bridging.specs.Entries.{Entry}
@@ -26,6 +26,7 @@ use Rattle.push_laws.specs.HandedLaws.{is_found}
 use Rattle.push_laws.specs.PlanLaws.{groups_unfit, others_unfit}
 use Rattle.user_model.specs.declared.objective.Objective.{Objective}
 use Rattle.user_model.specs.declared.row.Row.{Row}
+use Rattle.item_core.specs.Kind.{kind_count}
 
 -- none of the items fails the test
 pub none_fails : (p : Item → Bool) (items : List Item) → find (λ i. not (p i)) items ≡ None
@@ -43,7 +44,7 @@ pub not_there : (o : Option Item) → option_map (λ (i : Item). i.at) o ≡ Non
 not_there None e = refl
 not_there (Some i) e = absurd (none-some i.at (sym e))
 
-module _ (e : Edit) (new : FreshBridging (setting_here e) e.after)
+module _ (e : AttachedEdit) (new : FreshBridging (setting_here e) e.after)
     (standing : List Entry) (changed addresses : List Address) (rows : List Row)
     (objective : Option Objective) (search : IsSearch e changed addresses rows objective)
     (changing : AreChanging e standing changed)
@@ -52,7 +53,7 @@ module _ (e : Edit) (new : FreshBridging (setting_here e) e.after)
   Unfit i = not (fits_at new i.at)
 
   first_found : unfit_at new
-      ≡ option_map (λ (i : Item). i.at) (unfit_put (choice_here e) 35 further
+      ≡ option_map (λ (i : Item). i.at) (unfit_put (choice_here e) kind_count further
       (found_others rows objective))
   first_found =
       first_of_kept (sound_before e) (sound_behind e) (old_here e) new e.held.made
@@ -67,21 +68,21 @@ module _ (e : Edit) (new : FreshBridging (setting_here e) e.after)
       ∙ ap₂ option_or
       (groups_unfit new (groups_now e)
       (groups_planned e changed addresses rows objective search new)
-      ∙ ap (λ c. unfit c 35 (groups_now e))
+      ∙ ap (λ c. unfit c kind_count (groups_now e))
       (new_choice e changed addresses rows objective search new)
       ∙ changing.fit)
       (others_unfit new further (found_others rows objective)
       (found_are e new standing changed addresses rows objective search changing further stands
       (agree_here e new standing changed addresses rows objective search changing further stands))
-      ∙ ap (λ c. unfit_put c 35 further (found_others rows objective))
+      ∙ ap (λ c. unfit_put c kind_count further (found_others rows objective))
       (new_choice e changed addresses rows objective search new)))
 
   pub unfit_others : (at : Address)
-      → IsFirstAt (unfit_put (choice_here e) 35 further (found_others rows objective)) at
+      → IsFirstAt (unfit_put (choice_here e) kind_count further (found_others rows objective)) at
       → unfit_at new ≡ Some at
   unfit_others at first = first_found ∙ first
 
-  pub made_where_fit : unfit_put (choice_here e) 35 further (found_others rows objective) ≡ None
+  pub made_where_fit : unfit_put (choice_here e) kind_count further (found_others rows objective) ≡ None
       → is_made new ≡ true
   made_where_fit fit =
       made_is (sound_behind e) new

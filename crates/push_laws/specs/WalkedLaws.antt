@@ -1,4 +1,4 @@
--- The walk over the boxes lists exactly the nodes that found items had: what is to be let go.
+-- The walk over the bridges lists exactly the nodes that found items had: what is to be let go.
 use Rattle.std.specs.Prelude.{◌≡◌, ◌⊎◌, ℕ, zero, suc, List, [], ◌∷◌, ◌++◌, All, flat_map, map, Option, Some, None, refl}
 use Rattle.std.specs.Map.{keys_of}
 use Rattle.std.specs.Option.{option_map, option_map_or}
@@ -7,17 +7,17 @@ use Rattle.std.proofs.lemmas.List.{map-append}
 use Rattle.std.proofs.lemmas.List.Elements.{All-cons, All-head, All-map, All-nil, All-tail}
 use Rattle.std.proofs.lemmas.Option.{none-some}
 use Rattle.aff_core.specs.Address.{Address, address_total}
-use Rattle.box_laws.specs.AloneLaws.{all_alone}
-use Rattle.box_laws.specs.BoxWalkLaws.{same_places}
-use Rattle.box_laws.specs.ItemWalkLaws.{item_walked}
-use Rattle.box_laws.specs.NarrowLaws.{all_narrow}
-use Rattle.box_laws.specs.WalkLaws.{node_places}
+use Rattle.bridge_set_laws.specs.AloneLaws.{all_alone}
+use Rattle.bridge_set_laws.specs.SetWalkLaws.{same_places}
+use Rattle.bridge_set_laws.specs.ItemWalkLaws.{item_walked}
+use Rattle.bridge_set_laws.specs.NarrowLaws.{all_narrow}
+use Rattle.bridge_set_laws.specs.WalkLaws.{node_places}
 use Rattle.bridge_face.specs.State.{Kept, State}
-use Rattle.bridge_set.specs.Boxed.{families_of, kept_by, occur_once}
+use Rattle.bridge_set.specs.Bridges.{families_of, kept_by, occur_once}
 use Rattle.bridge_set.specs.Letting.{IsAlone}
 use Rattle.bridge_set.specs.Nodes.{HoldNodes, nodes_by}
-use Rattle.bridge_set.specs.Walk.{from_places, here_and, walk, IsNarrow, IsRoot, box_places, nodes_below}
-use Rattle.push_laws.specs.Edits.{Edit, old_here, setting_before, sound_before}
+use Rattle.bridge_set.specs.Walk.{from_places, here_and, walk, IsNarrow, IsRoot, bridge_places, nodes_below}
+use Rattle.push_laws.specs.Edits.{AttachedEdit, old_here, setting_before, sound_before}
 use Rattle.expansion.specs.Grown.{Held}
 use Rattle.expansion.specs.Read.{model_nodes}
 use Rattle.fresh_bridging.specs.Entries.{Entry}
@@ -33,6 +33,7 @@ use Rattle.local_laws.specs.StaysLaws.{none_held}
 use Rattle.local_laws.specs.Views.{by_address, look, nodes_low, nodes_view, of_nodes}
 use Rattle.map_laws.specs.EachLaws.{all_from_map}
 use Rattle.map_laws.specs.MadeLaws.{get_made}
+use Rattle.item_core.specs.Kind.{kind_count}
 use Rattle.tree_laws.specs.LeafLaws.{IsNode}
 use Rattle.tree_laws.specs.PrimalLaws.{nodes_here}
 
@@ -54,27 +55,27 @@ pub same_families : (one other : List State) → kept_by one ≡ kept_by other
 same_families one other e =
     sym (families_kept one) ∙ ap (map (λ (k : Family × Kept). k.0)) e ∙ families_kept other
 
-module _ (e : Edit) where
+module _ (e : AttachedEdit) where
   pub usable : All (IsNode (setting_before e)) (model_nodes (old_here e).made)
   usable =
       nodes_here (setting_before e) e.costly e.lawful e.native_before e.model e.held.valid
       (old_here e)
 
-  module _ (states : List State) (same : kept_by states ≡ kept_by e.boxes.states) where
-    -- boxes that keep what they kept hold the old nodes
+  module _ (states : List State) (same : kept_by states ≡ kept_by e.bridges.states) where
+    -- bridges that keep what they kept hold the old nodes
     pub hold_nodes : HoldNodes (old_here e) states
     hold_nodes =
         all_from_map (λ (k : Family × Kept). k.1 ≡ nodes_by (old_here e) k.0)
         (λ (s : State). (s.family, s.kept)) states
         (subst (All (λ (k : Family × Kept). k.1 ≡ nodes_by (old_here e) k.0)) (sym same)
         (All-map (λ (k : Family × Kept). k.1 ≡ nodes_by (old_here e) k.0)
-        (λ (s : State). (s.family, s.kept)) e.boxes.states e.held.kept))
+        (λ (s : State). (s.family, s.kept)) e.bridges.states e.held.kept))
 
-    families_here : families_of states ≡ families_of e.boxes.states
-    families_here = same_families states e.boxes.states same
+    families_here : families_of states ≡ families_of e.bridges.states
+    families_here = same_families states e.bridges.states same
 
-    pub narrow_boxes : IsNarrow states
-    narrow_boxes =
+    pub narrow_bridges : IsNarrow states
+    narrow_bridges =
         all_narrow (sound_before e) (old_here e) usable states families_here hold_nodes
 
     pub nodes_alone : (ats : List Address) → All (λ at. IsAlone at (kept_by states)) ats
@@ -92,7 +93,7 @@ module _ (e : Edit) where
 
     -- no node stands at a root without an item
     nothing_there : (at : Address) → IsRoot at → item_at e.model at ≡ None
-        → box_places states at ≡ None
+        → bridge_places states at ≡ None
     nothing_there at top none =
         same_places (sound_before e) (old_here e) usable states families_here hold_nodes at
         ∙ ap (option_map node_places)
@@ -124,13 +125,13 @@ module _ (e : Edit) where
         by : (o : Option Item) → item_at e.model at ≡ o
             → nodes_below states at ≡ keys_held (held_of (old_here e) at)
         by None f =
-            walked_none (box_places states) 35 at (nothing_there at top f)
+            walked_none (bridge_places states) kind_count at (nothing_there at top f)
             ∙ sym (ap keys_held (none_held (old_here e) at f))
         by (Some x) f =
-            ap (λ (p : Address → Option ℕ). walk p 35 at)
+            ap (λ (p : Address → Option ℕ). walk p kind_count at)
             (λ i v. same_places (sound_before e) (old_here e) usable states families_here hold_nodes
             v i)
-            ∙ item_walked (sound_before e) (old_here e) at x f 35 (omega arith)
+            ∙ item_walked (sound_before e) (old_here e) at x f kind_count (omega arith)
 
     pub nodes_listed : (ats : List Address) → All IsRoot ats
         → flat_map (nodes_below states) ats ≡ keys_of (held_by (old_here e) of_nodes ats)

@@ -72,7 +72,7 @@ fault_heading fault.DuplicateName = (6, codes "DuplicateName")
 fault_heading fault.UnknownName = (7, codes "UnknownName")
 fault_heading fault.Dimension = (8, codes "Dimension")
 
--- the most cells of a standard form
+-- the most cells of an equality form
 abbrev pub most_cells : ℕ
 most_cells = 16777216
 

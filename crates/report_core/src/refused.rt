@@ -52,7 +52,7 @@ pub enum Refused {
     NotAttached,
     /// 14: a solver is attached.
     AlreadyAttached,
-    /// 15: the standard form would have more cells than it may.
+    /// 15: the equality form would have more cells than it may.
     TooLarge { cells: u64 },
     /// 16: items of this kind can't be bridged.
     Unsupported { kind: Kind },

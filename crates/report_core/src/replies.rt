@@ -14,7 +14,7 @@ use ratio_core::Memory;
 use std::alloc::Global;
 use user_model::Refusal;
 
-/// The most cells of a standard form.
+/// The most cells of an equality form.
 const MOST_CELLS: u64 = 16_777_216;
 
 /// `ok`, and while a solver is attached at how many addresses its model changed.

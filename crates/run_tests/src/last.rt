@@ -1,7 +1,7 @@
 // What the last line of a script does to the solver's model.
 use address_map::{Address, AddressMap};
 use bridge_face::Bridge;
-use edit_engine::{Answer, SessionOver};
+use edit_engine::{Answer, Session};
 use io_face::Shelf;
 use std::alloc::Global;
 use std::str;
@@ -22,7 +22,7 @@ pub fn run_last<H: Shelf, B: Bridge>(
     script: &[u8],
     last: &[u8],
     shelf: &mut H,
-    session: &mut SessionOver<B>,
+    session: &mut Session<B>,
 ) -> Result<(), Stop> {
     for line in script.split(|byte| *byte == b'\n') {
         drop(session.line(line, shelf));
@@ -46,7 +46,7 @@ fn tell_answer(rt: &HostRuntime, answer: &Answer) -> Result<(), Stop> {
 fn tell_kept<B: Bridge>(
     rt: &HostRuntime,
     before: &Indices,
-    session: &SessionOver<B>,
+    session: &Session<B>,
 ) -> Result<(), Stop> {
     let map = session.cache().lazy().map();
     let vars = before
@@ -63,12 +63,12 @@ fn tell_kept<B: Bridge>(
     Ok(rt.println(format_args!("rows {rows} of {}", before.rows.len()))?)
 }
 
-fn calls_in<B: Bridge>(session: &SessionOver<B>) -> u64 {
+fn calls_in<B: Bridge>(session: &Session<B>) -> u64 {
     session.cache().lazy().solver().calls()
 }
 
 // The turns that all bridges have taken.
-fn turns_in<B: Bridge>(session: &SessionOver<B>) -> u64 {
+fn turns_in<B: Bridge>(session: &Session<B>) -> u64 {
     let mut turns: u64 = 0;
     for bridge in session.cache().lazy().bridges() {
         turns = turns.saturating_add(bridge.turns());
@@ -76,7 +76,7 @@ fn turns_in<B: Bridge>(session: &SessionOver<B>) -> u64 {
     turns
 }
 
-fn indices_in<B: Bridge>(alloc: Global, session: &SessionOver<B>) -> Result<Indices, Stop> {
+fn indices_in<B: Bridge>(alloc: Global, session: &Session<B>) -> Result<Indices, Stop> {
     let map = session.cache().lazy().map();
     Ok(Indices {
         vars: vars_in(alloc, map)?,

@@ -1,7 +1,7 @@
 // A case that is run.
 ghost use Rattle.std.specs.Prelude.{◌≡◌, ◌≤◌, All, IsTrue, false, map};
 ghost use Rattle.std.specs.FinMap as finite;
-ghost use Rattle.bridge_set.specs.Boxed.{families_of, occur_once};
+ghost use Rattle.bridge_set.specs.Bridges.{families_of, occur_once};
 ghost use Rattle.edit_engine.specs.Held.{state_of};
 
 use crate::case::{Call, Case};
@@ -10,7 +10,7 @@ use crate::last::run_last;
 use any_bridge::all_bridges;
 use bridge_face::Bridge;
 use bridges_flip::{GreaterLess, NonposVar};
-use edit_engine::SessionOver;
+use edit_engine::Session;
 use io_face::{Calls, MemShelf, MemSink, MemSource, NamedFile, NamedFiles, Shelf, SureShelf};
 use lazy_bridge::add_bridge;
 use lists::Memory;
@@ -131,7 +131,7 @@ fn run_by<H: Shelf, B: Bridge>(
     requires once { IsTrue (occur_once (families_of (map B.state bridges.items))) }
     requires kept { All (λ s. s.kept ≡ finite.empty) (map B.state bridges.items) }
 {
-    let mut session = SessionOver::new(rt.alloc(), bridges);
+    let mut session = Session::new(rt.alloc(), bridges);
     match &case.last {
         Some(last) => run_last(rt, &case.script, last.as_bytes(), shelf, &mut session),
         None => run_session(rt, case, shelf, input, &mut session),
@@ -144,7 +144,7 @@ fn run_session<H: Shelf, B: Bridge>(
     case: &Case,
     shelf: &mut H,
     input: &mut MemSource,
-    session: &mut SessionOver<B>,
+    session: &mut Session<B>,
 ) -> Result<(), Stop>
     requires piece { 1 ≤ case.now.piece }
     requires detached { (state_of session.old).attached ≡ false }
@@ -169,7 +169,7 @@ fn run_full<H: Shelf, B: Bridge>(
     case: &Case,
     shelf: &mut H,
     input: &mut MemSource,
-    session: &mut SessionOver<B>,
+    session: &mut Session<B>,
 ) -> Result<(), Stop>
     requires { (state_of session.old).attached ≡ false }
 {
@@ -190,7 +190,7 @@ fn tell(rt: &HostRuntime, status: u8, written: &[u8]) -> Result<(), Stop> {
 }
 
 // What the session is left with.
-fn tell_left<B: Bridge>(rt: &HostRuntime, session: &SessionOver<B>) -> Result<(), Stop> {
+fn tell_left<B: Bridge>(rt: &HostRuntime, session: &Session<B>) -> Result<(), Stop> {
     let cache = session.cache();
     let model = written_line(rt.alloc(), cache.model())?;
     rt.println(format_args!("attached {}", cache.attached()))?;

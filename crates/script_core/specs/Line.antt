@@ -9,8 +9,8 @@ use Rattle.script_core.specs.declared.fault.LineFault.{LineFault}
 use Rattle.script_core.specs.declared.fault.LineFault.TheVariants as fault
 use Rattle.script_core.specs.declared.keyword.Keyword.{Keyword}
 use Rattle.script_core.specs.declared.keyword.Keyword.TheVariants as word
-use Rattle.script_core.specs.declared.reading.Reading.{Reading}
-use Rattle.script_core.specs.declared.reading.Reading.TheVariants as reading
+use Rattle.script_core.specs.declared.reading.LineReading.{LineReading}
+use Rattle.script_core.specs.declared.reading.LineReading.TheVariants as reading
 use Rattle.script_core.specs.Changes.{coefficient_form, vector_coefficient_form, constant_form, vector_constant_form, objective_coefficient_form, objective_constant_form, row_set_form, reset_form, free_form, delete_variable_form, delete_row_form, rename_variable_form, rename_row_form}
 use Rattle.script_core.specs.Keyword.{keyword_of}
 use Rattle.script_core.specs.Reading.{Tokens, says, alone}
@@ -22,11 +22,11 @@ use Rattle.script_tokens.specs.Each.{◌>>=◌}
 use Rattle.script_tokens.specs.Tokens.{is_line_byte, tokens_of}
 
 -- a word alone
-abbrev pub word_alone : Command → Tokens → Option Reading
+abbrev pub word_alone : Command → Tokens → Option LineReading
 word_alone command tokens = alone (reading.Says command) tokens
 
 -- the form that a keyword names, of the tokens that follow it
-unfoldable pub form_of : Keyword → Tokens → Option Reading
+unfoldable pub form_of : Keyword → Tokens → Option LineReading
 form_of word.Var tokens = variable_form tokens
 form_of word.Vars tokens = group_form tokens
 form_of word.Bound tokens = bound_form tokens
@@ -70,7 +70,7 @@ form_of word.Load tokens = load_form tokens
 form_of word.Quit tokens = word_alone command.Quit tokens
 
 -- a line without tokens and a remark are silent
-unfoldable pub line_form : Tokens → Option Reading
+unfoldable pub line_form : Tokens → Option LineReading
 line_form [] = says command.Silent
 line_form (first ∷ tokens) =
     if starts_with nat_eq first (codes "#") then says command.Silent
@@ -79,11 +79,11 @@ line_form (first ∷ tokens) =
       form_of keyword tokens)
 
 -- what a line is read as, where it is in the grammar
-unfoldable pub reading_of : List ℕ → Option Reading
+unfoldable pub reading_of : List ℕ → Option LineReading
 reading_of line = if list_all is_line_byte line then line_form (tokens_of line) else None
 
 -- what is answered to a reading
-abbrev pub answer_of : Option Reading → Result Command LineFault
+abbrev pub answer_of : Option LineReading → Result Command LineFault
 answer_of None = Err fault.BadLine
 answer_of (Some reading.Overflow) = Err fault.Overflow
 answer_of (Some (reading.Says command)) = Ok command

@@ -3,7 +3,7 @@ ghost use Rattle.std.specs.Prelude.{◌≡◌, IfOk};
 ghost use Rattle.script_core.specs.Changes.{coefficient_form, constant_form, delete_row_form, delete_variable_form, free_form, objective_coefficient_form, objective_constant_form, rename_row_form, rename_variable_form, reset_form, row_set_form, vector_coefficient_form, vector_constant_form};
 
 use crate::names::{last_name, last_named_number, last_two_names};
-use crate::reading::{Reading, makes};
+use crate::reading::{LineReading, makes};
 use crate::sets::last_named_relation;
 use name_index::Name;
 use ratio_core::{Memory, Ratio};
@@ -13,7 +13,7 @@ use user_model::Edit;
 
 /// `coef R X Q`
 #[tactic(auto, unfolding(crate::specs::Changes::coefficient_form))]
-pub fn coefficient(alloc: Global, mut tokens: Tokens<'_>) -> Result<Option<Reading>, Memory>
+pub fn coefficient(alloc: Global, mut tokens: Tokens<'_>) -> Result<Option<LineReading>, Memory>
     ensures { IfOk result (λ reading. reading ≡ coefficient_form tokens.entry) }
 {
     let Some(row) = tokens.next() else {
@@ -30,7 +30,10 @@ pub fn coefficient(alloc: Global, mut tokens: Tokens<'_>) -> Result<Option<Readi
 
 /// `vcoef R I X Q`
 #[tactic(auto, unfolding(crate::specs::Changes::vector_coefficient_form))]
-pub fn vector_coefficient(alloc: Global, mut tokens: Tokens<'_>) -> Result<Option<Reading>, Memory>
+pub fn vector_coefficient(
+    alloc: Global,
+    mut tokens: Tokens<'_>,
+) -> Result<Option<LineReading>, Memory>
     ensures { IfOk result (λ reading. reading ≡ vector_coefficient_form tokens.entry) }
 {
     let (Some(row), Some(output)) = (tokens.next(), tokens.next()) else {
@@ -55,7 +58,7 @@ pub fn vector_coefficient(alloc: Global, mut tokens: Tokens<'_>) -> Result<Optio
 
 /// `const R Q`
 #[tactic(auto, unfolding(crate::specs::Changes::constant_form))]
-pub fn constant(alloc: Global, tokens: Tokens<'_>) -> Result<Option<Reading>, Memory>
+pub fn constant(alloc: Global, tokens: Tokens<'_>) -> Result<Option<LineReading>, Memory>
     ensures { IfOk result (λ reading. reading ≡ constant_form tokens.entry) }
 {
     let Some((row, value)) = last_named_number(alloc, tokens)? else {
@@ -66,7 +69,7 @@ pub fn constant(alloc: Global, tokens: Tokens<'_>) -> Result<Option<Reading>, Me
 
 /// `vconst R I Q`
 #[tactic(auto, unfolding(crate::specs::Changes::vector_constant_form))]
-pub fn vector_constant(alloc: Global, mut tokens: Tokens<'_>) -> Result<Option<Reading>, Memory>
+pub fn vector_constant(alloc: Global, mut tokens: Tokens<'_>) -> Result<Option<LineReading>, Memory>
     ensures { IfOk result (λ reading. reading ≡ vector_constant_form tokens.entry) }
 {
     let (Some(row), Some(output), Some(value), None) = (
@@ -91,7 +94,10 @@ pub fn vector_constant(alloc: Global, mut tokens: Tokens<'_>) -> Result<Option<R
 
 /// `objcoef X Q`
 #[tactic(auto, unfolding(crate::specs::Changes::objective_coefficient_form))]
-pub fn objective_coefficient(alloc: Global, tokens: Tokens<'_>) -> Result<Option<Reading>, Memory>
+pub fn objective_coefficient(
+    alloc: Global,
+    tokens: Tokens<'_>,
+) -> Result<Option<LineReading>, Memory>
     ensures { IfOk result (λ reading. reading ≡ objective_coefficient_form tokens.entry) }
 {
     let Some((var, value)) = last_named_number(alloc, tokens)? else {
@@ -102,7 +108,7 @@ pub fn objective_coefficient(alloc: Global, tokens: Tokens<'_>) -> Result<Option
 
 /// `objconst Q`
 #[tactic(auto, unfolding(crate::specs::Changes::objective_constant_form))]
-pub fn objective_constant(mut tokens: Tokens<'_>) -> Option<Reading>
+pub fn objective_constant(mut tokens: Tokens<'_>) -> Option<LineReading>
     ensures { result ≡ objective_constant_form tokens.entry }
 {
     let (Some(value), None) = (tokens.next(), tokens.next()) else {
@@ -114,7 +120,7 @@ pub fn objective_constant(mut tokens: Tokens<'_>) -> Option<Reading>
 
 /// `set R REL`
 #[tactic(auto, unfolding(crate::specs::Changes::row_set_form))]
-pub fn row_set(alloc: Global, tokens: Tokens<'_>) -> Result<Option<Reading>, Memory>
+pub fn row_set(alloc: Global, tokens: Tokens<'_>) -> Result<Option<LineReading>, Memory>
     ensures { IfOk result (λ reading. reading ≡ row_set_form tokens.entry) }
 {
     let Some((row, set)) = last_named_relation(alloc, tokens)? else {
@@ -125,7 +131,7 @@ pub fn row_set(alloc: Global, tokens: Tokens<'_>) -> Result<Option<Reading>, Mem
 
 /// `reset X REL`
 #[tactic(auto, unfolding(crate::specs::Changes::reset_form))]
-pub fn reset(alloc: Global, tokens: Tokens<'_>) -> Result<Option<Reading>, Memory>
+pub fn reset(alloc: Global, tokens: Tokens<'_>) -> Result<Option<LineReading>, Memory>
     ensures { IfOk result (λ reading. reading ≡ reset_form tokens.entry) }
 {
     let Some((var, set)) = last_named_relation(alloc, tokens)? else {
@@ -136,7 +142,7 @@ pub fn reset(alloc: Global, tokens: Tokens<'_>) -> Result<Option<Reading>, Memor
 
 /// `free X`
 #[tactic(auto, unfolding(crate::specs::Changes::free_form))]
-pub fn free(alloc: Global, tokens: Tokens<'_>) -> Result<Option<Reading>, Memory>
+pub fn free(alloc: Global, tokens: Tokens<'_>) -> Result<Option<LineReading>, Memory>
     ensures { IfOk result (λ reading. reading ≡ free_form tokens.entry) }
 {
     let Some(var) = last_name(alloc, tokens)? else {
@@ -147,7 +153,7 @@ pub fn free(alloc: Global, tokens: Tokens<'_>) -> Result<Option<Reading>, Memory
 
 /// `delvar X`
 #[tactic(auto, unfolding(crate::specs::Changes::delete_variable_form))]
-pub fn delete_variable(alloc: Global, tokens: Tokens<'_>) -> Result<Option<Reading>, Memory>
+pub fn delete_variable(alloc: Global, tokens: Tokens<'_>) -> Result<Option<LineReading>, Memory>
     ensures { IfOk result (λ reading. reading ≡ delete_variable_form tokens.entry) }
 {
     let Some(var) = last_name(alloc, tokens)? else {
@@ -158,7 +164,7 @@ pub fn delete_variable(alloc: Global, tokens: Tokens<'_>) -> Result<Option<Readi
 
 /// `delrow R`
 #[tactic(auto, unfolding(crate::specs::Changes::delete_row_form))]
-pub fn delete_row(alloc: Global, tokens: Tokens<'_>) -> Result<Option<Reading>, Memory>
+pub fn delete_row(alloc: Global, tokens: Tokens<'_>) -> Result<Option<LineReading>, Memory>
     ensures { IfOk result (λ reading. reading ≡ delete_row_form tokens.entry) }
 {
     let Some(row) = last_name(alloc, tokens)? else {
@@ -169,7 +175,7 @@ pub fn delete_row(alloc: Global, tokens: Tokens<'_>) -> Result<Option<Reading>, 
 
 /// `renvar X Y`
 #[tactic(auto, unfolding(crate::specs::Changes::rename_variable_form))]
-pub fn rename_variable(alloc: Global, tokens: Tokens<'_>) -> Result<Option<Reading>, Memory>
+pub fn rename_variable(alloc: Global, tokens: Tokens<'_>) -> Result<Option<LineReading>, Memory>
     ensures { IfOk result (λ reading. reading ≡ rename_variable_form tokens.entry) }
 {
     let Some((old, new)) = last_two_names(alloc, tokens)? else {
@@ -180,7 +186,7 @@ pub fn rename_variable(alloc: Global, tokens: Tokens<'_>) -> Result<Option<Readi
 
 /// `renrow R S`
 #[tactic(auto, unfolding(crate::specs::Changes::rename_row_form))]
-pub fn rename_row(alloc: Global, tokens: Tokens<'_>) -> Result<Option<Reading>, Memory>
+pub fn rename_row(alloc: Global, tokens: Tokens<'_>) -> Result<Option<LineReading>, Memory>
     ensures { IfOk result (λ reading. reading ≡ rename_row_form tokens.entry) }
 {
     let Some((old, new)) = last_two_names(alloc, tokens)? else {

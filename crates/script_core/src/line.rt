@@ -3,7 +3,7 @@ ghost use Rattle.std.specs.Prelude.{◌≡◌, IfOk};
 ghost use Rattle.script_core.specs.Line.{Answers, form_of, line_form, line_said, reading_of, word_alone};
 
 use crate::keyword::Keyword;
-use crate::reading::{Reading, alone};
+use crate::reading::{LineReading, alone};
 use crate::{Command, LineFault, changes, rows, solver, tables, variables};
 use ratio_core::Memory;
 use script_tokens::{Tokens, are_line_bytes};
@@ -18,14 +18,14 @@ pub fn parse_line(alloc: Global, line: &[u8]) -> Result<Command, LineFault>
 {
     match reading(alloc, line)? {
         None => Err(LineFault::BadLine),
-        Some(Reading::Overflow) => Err(LineFault::Overflow),
-        Some(Reading::Says(command)) => Ok(command),
+        Some(LineReading::Overflow) => Err(LineFault::Overflow),
+        Some(LineReading::Says(command)) => Ok(command),
     }
 }
 
 // What the line is read as, if it is in the grammar.
 #[tactic(auto, unfolding(crate::specs::Line::reading_of))]
-fn reading(alloc: Global, line: &[u8]) -> Result<Option<Reading>, Memory>
+fn reading(alloc: Global, line: &[u8]) -> Result<Option<LineReading>, Memory>
     ensures { IfOk result (λ reading. reading ≡ reading_of line.now) }
 {
     if !are_line_bytes(line) {
@@ -36,14 +36,14 @@ fn reading(alloc: Global, line: &[u8]) -> Result<Option<Reading>, Memory>
 
 // A line without tokens and a remark are silent.
 #[tactic(auto, unfolding(crate::specs::Line::line_form))]
-fn read_tokens(alloc: Global, mut tokens: Tokens<'_>) -> Result<Option<Reading>, Memory>
+fn read_tokens(alloc: Global, mut tokens: Tokens<'_>) -> Result<Option<LineReading>, Memory>
     ensures { IfOk result (λ reading. reading ≡ line_form tokens.entry) }
 {
     let Some(first) = tokens.next() else {
-        return Ok(Some(Reading::Says(Command::Silent)));
+        return Ok(Some(LineReading::Says(Command::Silent)));
     };
     if first.starts_with(b"#") {
-        return Ok(Some(Reading::Says(Command::Silent)));
+        return Ok(Some(LineReading::Says(Command::Silent)));
     }
     let Some(keyword) = Keyword::read(first) else {
         return Ok(None);
@@ -52,15 +52,15 @@ fn read_tokens(alloc: Global, mut tokens: Tokens<'_>) -> Result<Option<Reading>,
 }
 
 // A word alone.
-fn word_alone(command: Command, tokens: Tokens<'_>) -> Option<Reading>
+fn word_alone(command: Command, tokens: Tokens<'_>) -> Option<LineReading>
     ensures { result ≡ word_alone command tokens.entry }
 {
-    alone(Reading::Says(command), tokens)
+    alone(LineReading::Says(command), tokens)
 }
 
 // The form that a keyword names, of the tokens that follow it.
 #[tactic(auto, unfolding(crate::specs::Line::form_of))]
-fn form(alloc: Global, keyword: Keyword, tokens: Tokens<'_>) -> Result<Option<Reading>, Memory>
+fn form(alloc: Global, keyword: Keyword, tokens: Tokens<'_>) -> Result<Option<LineReading>, Memory>
     ensures { IfOk result (λ reading. reading ≡ form_of keyword tokens.entry) }
 {
     match keyword {

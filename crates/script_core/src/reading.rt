@@ -8,18 +8,18 @@ use user_model::Edit;
 
 /// What a line of the grammar says, or that a sum of its terms exceeds 128 bits.
 #[derive(Drop)]
-pub enum Reading {
+pub enum LineReading {
     Says(Command),
     Overflow,
 }
 
-pub fn says(command: Command) -> Option<Reading>
+pub fn says(command: Command) -> Option<LineReading>
     ensures { result ≡ reading.says command }
 {
-    Some(Reading::Says(command))
+    Some(LineReading::Says(command))
 }
 
-pub fn makes(edit: Edit) -> Option<Reading>
+pub fn makes(edit: Edit) -> Option<LineReading>
     ensures { result ≡ reading.makes edit }
 {
     says(Command::Edit(edit))

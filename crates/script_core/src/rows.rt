@@ -4,7 +4,7 @@ ghost use Rattle.script_core.specs.Rows.{bound_form, objective_form, objective_v
 
 use crate::function::{sum_components, sum_terms};
 use crate::names::{last_name, read_names};
-use crate::reading::{Reading, makes};
+use crate::reading::{LineReading, makes};
 use crate::sets::{dimension, last_named_relation, relation, vector_set};
 use crate::terms::{component_terms, function_terms, read_terms};
 use name_index::Name;
@@ -15,7 +15,7 @@ use user_model::{Edit, NamedFunc, Sense};
 
 /// `bound R X REL`
 #[tactic(auto, unfolding(crate::specs::Rows::bound_form))]
-pub fn bound(alloc: Global, mut tokens: Tokens<'_>) -> Result<Option<Reading>, Memory>
+pub fn bound(alloc: Global, mut tokens: Tokens<'_>) -> Result<Option<LineReading>, Memory>
     ensures { IfOk result (λ reading. reading ≡ bound_form tokens.entry) }
 {
     let Some(name) = tokens.next() else {
@@ -33,7 +33,7 @@ pub fn bound(alloc: Global, mut tokens: Tokens<'_>) -> Result<Option<Reading>, M
 
 /// `row R REL : TERMS`
 #[tactic(auto, unfolding(crate::specs::Rows::row_form))]
-pub fn row(alloc: Global, mut tokens: Tokens<'_>) -> Result<Option<Reading>, Memory>
+pub fn row(alloc: Global, mut tokens: Tokens<'_>) -> Result<Option<LineReading>, Memory>
     ensures { IfOk result (λ reading. reading ≡ row_form tokens.entry) }
 {
     let (Some(name), Some(word)) = (tokens.next(), tokens.next()) else {
@@ -49,7 +49,7 @@ pub fn row(alloc: Global, mut tokens: Tokens<'_>) -> Result<Option<Reading>, Mem
         return Ok(None);
     };
     let Some(function) = sum_terms(alloc, terms)? else {
-        return Ok(Some(Reading::Overflow));
+        return Ok(Some(LineReading::Overflow));
     };
     let func = NamedFunc::Affine(function);
     Ok(makes(Edit::AddRow { name, func, set }))
@@ -57,7 +57,7 @@ pub fn row(alloc: Global, mut tokens: Tokens<'_>) -> Result<Option<Reading>, Mem
 
 /// `vbound R SET NAMES`
 #[tactic(auto, unfolding(crate::specs::Rows::vector_bound_form))]
-pub fn vector_bound(alloc: Global, mut tokens: Tokens<'_>) -> Result<Option<Reading>, Memory>
+pub fn vector_bound(alloc: Global, mut tokens: Tokens<'_>) -> Result<Option<LineReading>, Memory>
     ensures { IfOk result (λ reading. reading ≡ vector_bound_form tokens.entry) }
 {
     let (Some(name), Some(word)) = (tokens.next(), tokens.next()) else {
@@ -78,7 +78,7 @@ pub fn vector_bound(alloc: Global, mut tokens: Tokens<'_>) -> Result<Option<Read
 
 /// `vrow R SET : TERMS ; TERMS ..`
 #[tactic(auto, unfolding(crate::specs::Rows::vector_row_form))]
-pub fn vector_row(alloc: Global, mut tokens: Tokens<'_>) -> Result<Option<Reading>, Memory>
+pub fn vector_row(alloc: Global, mut tokens: Tokens<'_>) -> Result<Option<LineReading>, Memory>
     ensures { IfOk result (λ reading. reading ≡ vector_row_form tokens.entry) }
 {
     let (Some(name), Some(word)) = (tokens.next(), tokens.next()) else {
@@ -94,7 +94,7 @@ pub fn vector_row(alloc: Global, mut tokens: Tokens<'_>) -> Result<Option<Readin
         return Ok(None);
     };
     let Some(functions) = sum_components(alloc, components)? else {
-        return Ok(Some(Reading::Overflow));
+        return Ok(Some(LineReading::Overflow));
     };
     let func = NamedFunc::AffineVec(functions);
     Ok(makes(Edit::AddRow { name, func, set }))
@@ -102,14 +102,18 @@ pub fn vector_row(alloc: Global, mut tokens: Tokens<'_>) -> Result<Option<Readin
 
 /// `min TERMS`, `max TERMS`
 #[tactic(auto, unfolding(crate::specs::Rows::objective_form))]
-pub fn objective(alloc: Global, sense: Sense, tokens: Tokens<'_>) -> Result<Option<Reading>, Memory>
+pub fn objective(
+    alloc: Global,
+    sense: Sense,
+    tokens: Tokens<'_>,
+) -> Result<Option<LineReading>, Memory>
     ensures { IfOk result (λ reading. reading ≡ objective_form sense tokens.entry) }
 {
     let Some(terms) = read_terms(alloc, tokens)? else {
         return Ok(None);
     };
     let Some(function) = sum_terms(alloc, terms)? else {
-        return Ok(Some(Reading::Overflow));
+        return Ok(Some(LineReading::Overflow));
     };
     let func = NamedFunc::Affine(function);
     Ok(makes(Edit::Objective { sense, func }))
@@ -121,7 +125,7 @@ pub fn objective_variable(
     alloc: Global,
     sense: Sense,
     tokens: Tokens<'_>,
-) -> Result<Option<Reading>, Memory>
+) -> Result<Option<LineReading>, Memory>
     ensures { IfOk result (λ reading. reading ≡ objective_variable_form sense tokens.entry) }
 {
     let Some(variable) = last_name(alloc, tokens)? else {

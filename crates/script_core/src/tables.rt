@@ -2,7 +2,7 @@
 ghost use Rattle.std.specs.Prelude.{◌≡◌};
 ghost use Rattle.script_core.specs.Tables.{cost_form, cost_of, support_form, switch_form, target_form};
 
-use crate::reading::{Reading, says};
+use crate::reading::{LineReading, says};
 use crate::{Command, EdgeCost};
 use script_tokens::{
     Tokens, edge_numbered, read_family, read_native_kind, read_number, read_target,
@@ -10,7 +10,7 @@ use script_tokens::{
 
 /// `target T`
 #[tactic(auto, unfolding(crate::specs::Tables::target_form))]
-pub fn target(mut tokens: Tokens<'_>) -> Option<Reading>
+pub fn target(mut tokens: Tokens<'_>) -> Option<LineReading>
     ensures { result ≡ target_form tokens.entry }
 {
     let (Some(word), None) = (tokens.next(), tokens.next()) else {
@@ -22,7 +22,7 @@ pub fn target(mut tokens: Tokens<'_>) -> Option<Reading>
 
 /// `support K`, `unsupport K`
 #[tactic(auto, unfolding(crate::specs::Tables::support_form))]
-pub fn support(value: bool, mut tokens: Tokens<'_>) -> Option<Reading>
+pub fn support(value: bool, mut tokens: Tokens<'_>) -> Option<LineReading>
     ensures { result ≡ support_form value tokens.entry }
 {
     let (Some(word), None) = (tokens.next(), tokens.next()) else {
@@ -34,7 +34,7 @@ pub fn support(value: bool, mut tokens: Tokens<'_>) -> Option<Reading>
 
 /// `cost E N`
 #[tactic(auto, unfolding(crate::specs::Tables::cost_form))]
-pub fn cost(mut tokens: Tokens<'_>) -> Option<Reading>
+pub fn cost(mut tokens: Tokens<'_>) -> Option<LineReading>
     ensures { result ≡ cost_form tokens.entry }
 {
     let (Some(edge), Some(cost), None) = (tokens.next(), tokens.next(), tokens.next()) else {
@@ -57,7 +57,7 @@ fn read_cost(token: &[u8]) -> Option<EdgeCost>
 
 /// `on F`, `off F`
 #[tactic(auto, unfolding(crate::specs::Tables::switch_form))]
-pub fn switch(value: bool, mut tokens: Tokens<'_>) -> Option<Reading>
+pub fn switch(value: bool, mut tokens: Tokens<'_>) -> Option<LineReading>
     ensures { result ≡ switch_form value tokens.entry }
 {
     let (Some(word), None) = (tokens.next(), tokens.next()) else {

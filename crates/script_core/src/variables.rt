@@ -3,7 +3,7 @@ ghost use Rattle.std.specs.Prelude.{◌≡◌, IfOk};
 ghost use Rattle.script_core.specs.Variables.{creation_set_of, variable_form, group_form};
 
 use crate::names::read_names;
-use crate::reading::{Reading, alone, makes};
+use crate::reading::{LineReading, alone, makes};
 use crate::sets::{dimension, last_relation, vector_set};
 use name_index::{Name, Names};
 use ratio_core::Memory;
@@ -14,7 +14,7 @@ use user_model::Edit;
 
 /// `var X free`, `var X REL`
 #[tactic(auto, unfolding(crate::specs::Variables::variable_form))]
-pub fn variable(alloc: Global, mut tokens: Tokens<'_>) -> Result<Option<Reading>, Memory>
+pub fn variable(alloc: Global, mut tokens: Tokens<'_>) -> Result<Option<LineReading>, Memory>
     ensures { IfOk result (λ reading. reading ≡ variable_form tokens.entry) }
 {
     let Some(name) = tokens.next() else {
@@ -32,7 +32,7 @@ pub fn variable(alloc: Global, mut tokens: Tokens<'_>) -> Result<Option<Reading>
 
 /// `vars SET NAMES`
 #[tactic(auto, unfolding(crate::specs::Variables::group_form))]
-pub fn group(alloc: Global, mut tokens: Tokens<'_>) -> Result<Option<Reading>, Memory>
+pub fn group(alloc: Global, mut tokens: Tokens<'_>) -> Result<Option<LineReading>, Memory>
     ensures { IfOk result (λ reading. reading ≡ group_form tokens.entry) }
 {
     let Some(word) = tokens.next() else {

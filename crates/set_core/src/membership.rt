@@ -10,7 +10,7 @@ use crate::{Set, SetOverflow};
 use ratio_core::Ratio;
 
 impl Set {
-    /// Whether the set has a vector. `SetOverflow` exactly where the sum of a norm doesn't fit.
+    /// Whether the vector is in the set. `SetOverflow` exactly where the sum of a norm doesn't fit.
     #[tactic(auto, using(rational_laws::specs::Tests::rational_tests))]
     pub fn holds(&self, v: &[Ratio]) -> Result<bool, SetOverflow>
         requires { length v.now ≡ dimension_of self.now }
@@ -30,7 +30,7 @@ impl Set {
         }
     }
 
-    /// Whether the dual set has a vector. `SetOverflow` exactly where the sum of a norm doesn't
+    /// Whether the vector is in the dual set. `SetOverflow` exactly where the sum of a norm doesn't
     /// fit.
     pub fn dual_holds(&self, w: &[Ratio]) -> Result<bool, SetOverflow>
         requires { length w.now ≡ dimension_of self.now }
@@ -48,8 +48,8 @@ impl Set {
         }
     }
 
-    /// Whether the set has all that any of its vectors and a multiple of this one by a number of
-    /// at least 0 make. `SetOverflow` exactly where the sum of a norm doesn't fit.
+    /// Whether the vector is in the recession set: any vector of the set plus any nonnegative
+    /// multiple of it is in the set. `SetOverflow` exactly where the sum of a norm doesn't fit.
     #[tactic(auto, using(rational_laws::specs::Tests::rational_tests))]
     pub fn recession_holds(&self, v: &[Ratio]) -> Result<bool, SetOverflow>
         requires { length v.now ≡ dimension_of self.now }

@@ -1,4 +1,4 @@
-//! The sets of the standard form, with what their types, dimensions and bounds are.
+//! The sets that functions may be in, with what their types, dimensions and bounds are.
 ghost use Rattle.std.specs.Prelude.{◌≡◌, ◌↔◌, IfOk, IsTrue, false};
 ghost use Rattle.set_core.specs.Shapes.{dimension_of, has_bad_dimension, is_crossed, is_norm_cone, is_scalar, lower_bound, resized, same_type, type_of, upper_bound};
 

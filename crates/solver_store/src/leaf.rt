@@ -1,4 +1,4 @@
-//! What a solver of the standard form takes: variables, rows and an objective.
+//! What a solver takes: variables, rows and an objective.
 use crate::{Sense, Set};
 use aff_core::AffineFunction;
 use lists::Sequence;

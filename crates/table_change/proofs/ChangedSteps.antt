@@ -9,7 +9,7 @@ use Rattle.bridge_graph.specs.declared.Choice.{Choice}
 use Rattle.fresh_bridging.specs.TableLaws.{and_first, and_second, kind_stands, same_kind}
 use Rattle.item_core.specs.Edge.{kinds_in}
 use Rattle.item_core.specs.declared.kind.TheConstants.{KINDS}
-use Rattle.item_core.specs.Kind.{kind_number}
+use Rattle.item_core.specs.Kind.{kind_count, kind_number}
 use Rattle.item_core.specs.declared.edge.Children.{Children}
 use Rattle.item_core.specs.declared.edge.Children.TheVariants as kinds
 use Rattle.item_core.specs.declared.kind.Kind.{Kind}
@@ -104,13 +104,13 @@ number_from first (suc n) (k ∷ ks) d h less =
     (and_second (kind_number k == first) (are_numbered (first + 1) ks) h) (omega (arith, less)) in
     omega (arith, later)
 
-pub number_there : (n : ℕ) (d : Kind) → n < 35 → kind_number (slice_index_or KINDS.kinds n d) ≡ n
+pub number_there : (n : ℕ) (d : Kind) → n < kind_count → kind_number (slice_index_or KINDS.kinds n d) ≡ n
 number_there n d less =
     let from = number_from 0 n KINDS.kinds d numbered less in
     let none : 0 + n ≡ n = omega arith in
     from ∙ none
 
-pub few_kinds : (kind : Kind) → kind_number kind < 35
+pub few_kinds : (kind : Kind) → kind_number kind < kind_count
 few_kinds kind = slice_get_within KINDS.kinds (kind_number kind) kind (kind_stands kind)
 
 -- a table that has the first kinds, and the next one put in

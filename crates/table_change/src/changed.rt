@@ -1,8 +1,8 @@
 //! Which kinds other choices bridge otherwise.
 ghost use Rattle.std.specs.Prelude.{◌≡◌, ◌<◌, false, length, slice_index_or};
-ghost use Rattle.bridge_set.specs.Boxed.{choice_in};
+ghost use Rattle.bridge_set.specs.Bridges.{choice_in};
 ghost use Rattle.item_core.specs.Edge.{kinds_in};
-ghost use Rattle.item_core.specs.Kind.{kind_number};
+ghost use Rattle.item_core.specs.Kind.{kind_count, kind_number};
 ghost use Rattle.item_core.specs.declared.kind.Kind.{Kind};
 ghost use Rattle.table_change.specs.ChangedKinds.{is_changed, led_to, same_choice};
 
@@ -20,7 +20,7 @@ const LEVELS: u8 = KIND_COUNT as u8;
 pub fn list_choices<R: Rewriter>(rewriter: &R) -> [Choice; KIND_COUNT]
     ensures each { (kind : Kind) → choice_in result (kind_number kind)
         ≡ (R.means rewriter.now).choice (kind_number kind) }
-    ensures kinds { length result ≡ 35 }
+    ensures kinds { length result ≡ kind_count }
 {
     let mut choices = [Choice::Missing; KIND_COUNT];
     for n in 0..KIND_COUNT {
@@ -36,8 +36,8 @@ pub fn changed_kinds(
     others: &[Choice; KIND_COUNT],
 ) -> [bool; KIND_COUNT]
     ensures each { (kind : Kind) → slice_index_or result (kind_number kind) false
-        ≡ is_changed (choice_in choices.now) (choice_in others.now) 35 kind }
-    ensures kinds { length result ≡ 35 }
+        ≡ is_changed (choice_in choices.now) (choice_in others.now) kind_count kind }
+    ensures kinds { length result ≡ kind_count }
 {
     let mut changed = [false; KIND_COUNT];
     for n in 0..KIND_COUNT {
@@ -85,7 +85,7 @@ fn is_changed(
 
 // The kind of a number.
 fn kind_numbered(n: usize) -> Kind
-    requires { n < 35 }
+    requires { n < kind_count }
     ensures { kind_number result ≡ n }
 {
     KINDS.kinds[n]

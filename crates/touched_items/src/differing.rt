@@ -11,7 +11,7 @@ use crate::Listed;
 use crate::same::same_objective;
 use crate::separating::{separate_groups, separate_rows};
 use lists::Memory;
-use model_store::Reading;
+use model_store::CountedView;
 use std::alloc::Global;
 use user_model::{Group, Objective, Row};
 
@@ -34,7 +34,7 @@ pub struct Differing<'a> {
 /// Which of the listed items differ from what stands now. Each is read once.
 pub fn compare_listed<'a>(
     alloc: Global,
-    reading: &mut Reading<'a>,
+    reading: &mut CountedView<'a>,
     listed: &Listed<'a>,
 ) -> Result<Differing<'a>, Memory>
     requires groups { AreChanges group_number (listed_groups listed.now) }
@@ -62,7 +62,7 @@ pub fn compare_listed<'a>(
 
 // The objective as it was and as it is, where it is listed and differs.
 fn separate_objective<'a>(
-    reading: &mut Reading<'a>,
+    reading: &mut CountedView<'a>,
     listed: Option<&'a Objective>,
 ) -> (Option<&'a Objective>, Option<&'a Objective>)
     ensures separated { let now = reading.old.model.objective in

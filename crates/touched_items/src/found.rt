@@ -11,7 +11,7 @@ use crate::{Contents, Differing};
 use address_map::AddressMap;
 use aff_core::{Address, Root};
 use lists::Memory;
-use model_store::Reading;
+use model_store::CountedView;
 use std::alloc::Global;
 use std::collections::BTreeSet;
 use user_model::{Group, Objective, Row};
@@ -31,7 +31,7 @@ pub struct Found<'a> {
 /// row that is found is read once, and so is the objective.
 pub fn find_items<'a>(
     alloc: Global,
-    reading: &mut Reading<'a>,
+    reading: &mut CountedView<'a>,
     map: &AddressMap,
     differing: &Differing<'a>,
     changed: &[Address],
@@ -136,7 +136,7 @@ fn in_order(alloc: Global, listed: &[Address]) -> Result<Vec<Address>, Memory>
 // The rows at these addresses, each read once.
 fn read_rows<'a>(
     alloc: Global,
-    reading: &mut Reading<'a>,
+    reading: &mut CountedView<'a>,
     addresses: &[Address],
 ) -> Result<Vec<&'a Row>, Memory>
     ensures rows { IfOk result (λ rows. map (λ r. r.now) rows.items
@@ -153,7 +153,7 @@ fn read_rows<'a>(
     Ok(rows)
 }
 
-fn read_row<'a>(reading: &mut Reading<'a>, at: &Address) -> Option<&'a Row>
+fn read_row<'a>(reading: &mut CountedView<'a>, at: &Address) -> Option<&'a Row>
     ensures row { option_copied result ≡ row_at reading.old.model at.now }
     ensures model { reading.new.model ≡ reading.old.model }
     ensures reads { reading.new.reads ≤ reading.old.reads + count_by is_row (at.now ∷ []) }
@@ -164,7 +164,7 @@ fn read_row<'a>(reading: &mut Reading<'a>, at: &Address) -> Option<&'a Row>
     None
 }
 
-fn read_objective<'a>(reading: &mut Reading<'a>, addresses: &[Address]) -> Option<&'a Objective>
+fn read_objective<'a>(reading: &mut CountedView<'a>, addresses: &[Address]) -> Option<&'a Objective>
     ensures objective { option_copied result ≡ objective_among reading.old.model addresses.now }
     ensures model { reading.new.model ≡ reading.old.model }
     ensures reads { reading.new.reads

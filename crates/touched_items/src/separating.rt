@@ -10,7 +10,7 @@ ghost use Rattle.touched_items.specs.Sides.{AreSides};
 
 use crate::same::{same_groups, same_rows};
 use lists::Memory;
-use model_store::Reading;
+use model_store::CountedView;
 use numbered_list::Change;
 use std::alloc::Global;
 use user_model::{Group, Row};
@@ -24,7 +24,7 @@ pub(crate) struct Sides<'a, X> {
 
 pub(crate) fn separate_groups<'a>(
     alloc: Global,
-    reading: &mut Reading<'a>,
+    reading: &mut CountedView<'a>,
     listed: &[&'a Change<Group>],
 ) -> Result<Sides<'a, Group>, Memory>
     requires { AreChanges group_number (map (λ c. c.now) listed.now) }
@@ -47,7 +47,7 @@ pub(crate) fn separate_groups<'a>(
 
 pub(crate) fn separate_rows<'a>(
     alloc: Global,
-    reading: &mut Reading<'a>,
+    reading: &mut CountedView<'a>,
     listed: &[&'a Change<Row>],
 ) -> Result<Sides<'a, Row>, Memory>
     requires { AreChanges row_number (map (λ c. c.now) listed.now) }

@@ -2,7 +2,7 @@ use Rattle.std.proofs.Common.{false, map, arith}
 use Rattle.std.proofs.lemmas.List.{length-map}
 use Rattle.item_core.specs.declared.edge.EdgeEntry.{EdgeEntry}
 use Rattle.fresh_bridging.specs.TheRules.{is_usable}
-use Rattle.bridge_set.specs.Boxed.{setting_by}
+use Rattle.bridge_set.specs.Bridges.{setting_by}
 use Rattle.bridge_set.proofs.Choices.{same_by_place}
 use Rattle.bridge_set.proofs.choosing.write_usable.Goals as goal
 

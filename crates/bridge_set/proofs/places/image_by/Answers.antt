@@ -5,7 +5,7 @@ use Rattle.bridge_face.specs.State.{tried}
 use Rattle.item_core.specs.Edge.{family_eq, family_of}
 use Rattle.item_core.specs.declared.edge.EdgeEntry.{EdgeEntry}
 use Rattle.item_core.specs.declared.family.Family.{Family}
-use Rattle.bridge_set.specs.Boxed.{IsChangedFor, families_of}
+use Rattle.bridge_set.specs.Bridges.{IsChangedFor, families_of}
 use Rattle.bridge_set.proofs.Stands.{changed_for, none_there}
 use Rattle.bridge_set.proofs.places.image_by.Goals as goal
 

@@ -6,7 +6,7 @@ use Rattle.bridge_face.specs.State.{State, found, given, tried}
 use Rattle.item_core.specs.Edge.{family_eq, family_of}
 use Rattle.item_core.specs.declared.edge.EdgeEntry.{EdgeEntry}
 use Rattle.item_core.specs.declared.family.Family.{Family}
-use Rattle.bridge_set.specs.Boxed.{IsChangedFor, IsFree, families_of}
+use Rattle.bridge_set.specs.Bridges.{IsChangedFor, IsFree, families_of}
 use Rattle.std.specs.FinMap as finite
 use Rattle.bridge_set.specs.Turns.{turns_of}
 use Rattle.bridge_set.proofs.TurnSteps.{one_turn, turns_changed}

@@ -3,12 +3,12 @@ use Rattle.cache_layer.proofs.bridging.fill.Goals as goal
 
 pub in_names-requires : goal.in_names-requires
 in_names-requires g c =
-    fault_of c.args.lazy.now c.fill.new.self c.args.lazy.now.boxes.table c.args.model.now.model
+    fault_of c.args.lazy.now c.fill.new.self c.args.lazy.now.bridges.table c.args.model.now.model
     c.in-Err.fault c.in-Err.ensures.bridged
 
 pub returns-in-Err-clause-bridged : goal.returns-in-Err-clause-bridged
 returns-in-Err-clause-bridged g c =
-    told_as c.args.lazy.now c.fill.new.self c.in_names.new.lazy c.args.lazy.now.boxes.table
+    told_as c.args.lazy.now c.fill.new.self c.in_names.new.lazy c.args.lazy.now.bridges.table
     c.args.model.now.model c.in-Err.fault c.in_names.result c.in-Err.ensures.bridged
     c.in_names.ensures
 

@@ -19,21 +19,21 @@ push-requires g c =
 
 pub returns-in-Ok-clause-bridged : goal.returns-in-Ok-clause-bridged
 returns-in-Ok-clause-bridged g c =
-    subst (λ (m : ModelValue). IsBridgedBy c.args.lazy.now c.args.lazy.now.boxes.table m
+    subst (λ (m : ModelValue). IsBridgedBy c.args.lazy.now c.args.lazy.now.bridges.table m
     (Ok c.in-Ok.changed) c.push.new.self) c.new-reading.ensures.model c.in-Ok.ensures.bridged
 
 pub in_names-requires : goal.in_names-requires
 in_names-requires g c =
-    fault_of c.args.lazy.now c.push.new.self c.args.lazy.now.boxes.table c.args.model.now.model
+    fault_of c.args.lazy.now c.push.new.self c.args.lazy.now.bridges.table c.args.model.now.model
     c.in-Err.fault
-    (subst (λ (m : ModelValue). IsBridgedBy c.args.lazy.now c.args.lazy.now.boxes.table m
+    (subst (λ (m : ModelValue). IsBridgedBy c.args.lazy.now c.args.lazy.now.bridges.table m
     (Err c.in-Err.fault) c.push.new.self) c.new-reading.ensures.model c.in-Err.ensures.bridged)
 
 pub returns-in-Err-clause-bridged : goal.returns-in-Err-clause-bridged
 returns-in-Err-clause-bridged g c =
-    told_as c.args.lazy.now c.push.new.self c.in_names.new.lazy c.args.lazy.now.boxes.table
+    told_as c.args.lazy.now c.push.new.self c.in_names.new.lazy c.args.lazy.now.bridges.table
     c.args.model.now.model c.in-Err.fault c.in_names.result
-    (subst (λ (m : ModelValue). IsBridgedBy c.args.lazy.now c.args.lazy.now.boxes.table m
+    (subst (λ (m : ModelValue). IsBridgedBy c.args.lazy.now c.args.lazy.now.bridges.table m
     (Err c.in-Err.fault) c.push.new.self) c.new-reading.ensures.model c.in-Err.ensures.bridged)
     c.in_names.ensures
 

@@ -43,7 +43,7 @@ returns-in-Err-clause-in_step g c =
     c.take_back.ensures c.args.model.now
     (record { edit = was.edit; lists = was.undo; back = was.before; parked = was.parked }) in
     step_answer c.args.model.now c.take_back.new.model c.args.lazy.now c.push.new.lazy
-    c.args.lazy.now.boxes.table c.apply.new.self.model c.in-Err.fault c.from.result c.from.ensures
+    c.args.lazy.now.bridges.table c.apply.new.self.model c.in-Err.fault c.from.result c.from.ensures
     back c.in-Err.ensures.bridged c.requires.stands c.requires.settled
 
 pub returns-in-Err-clause-small : goal.returns-in-Err-clause-small
@@ -53,5 +53,5 @@ returns-in-Err-clause-small g c = λ small.
 
 pub returns-in-Err-clause-few : goal.returns-in-Err-clause-few
 returns-in-Err-clause-few g c =
-    edit_few c.args.lazy.now c.push.new.lazy c.args.lazy.now.boxes.table c.apply.new.self.model
+    edit_few c.args.lazy.now c.push.new.lazy c.args.lazy.now.bridges.table c.apply.new.self.model
     c.in-Err.fault c.from.result c.from.ensures c.in-Err.ensures.bridged

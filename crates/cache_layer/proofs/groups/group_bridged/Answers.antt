@@ -72,6 +72,6 @@ returns-in-Err-clause-small g c = λ made is small.
 
 pub returns-in-Err-clause-few : goal.returns-in-Err-clause-few
 returns-in-Err-clause-few g c =
-    group_few c.args.lazy.now c.push.new.lazy c.args.lazy.now.boxes.table
+    group_few c.args.lazy.now c.push.new.lazy c.args.lazy.now.bridges.table
     c.make_copies.new.model.model c.in-Err.fault c.from.result c.from.ensures
     c.in-Err.ensures.bridged

@@ -12,7 +12,7 @@ returns-in_err-answer-clause-outcome g c =
     let lazy = c.args.lazy.now in
     let model = c.args.model.now.model in
     let fault = c.in_err-answer.field-0.0 in
-    handed_on (IsOptimized (state_by lazy lazy.boxes.table model) c.args.pivots)
+    handed_on (IsOptimized (state_by lazy lazy.bridges.table model) c.args.pivots)
     c.from_residual.result fault c.from_residual.ensures.1
     (is_stopped lazy model c.requires c.args.pivots lazy.map fault
     (told_here lazy c.map.result.now c.solver.result.now c.args.pivots (Err fault)

@@ -10,15 +10,15 @@ use Rattle.user_model.specs.declared.group.Group.{Group}
 use Rattle.certificates.specs.Points.{addresses_of, functions_of_group}
 use Rattle.cert_core.specs.Holding.{FunctionsHold}
 use Rattle.cert_core.specs.Readings.{one_of}
-use Rattle.cert_core.specs.declared.readings.Reading.{Reading}
+use Rattle.cert_core.specs.declared.readings.ValueOrSlope.{ValueOrSlope}
 use Rattle.cert_core.proofs.Evaluated.{variables_in_set, variables_membership}
 use Rattle.cert_core.proofs.GroupSteps.{GroupsTested, groups_end, groups_fit, groups_step}
 use Rattle.cert_core.proofs.points.groups_hold.Goals as goal
 
-abbrev F : Reading → (Address → Rational) → Group → Type 0
+abbrev F : ValueOrSlope → (Address → Rational) → Group → Type 0
 F k x g = MembershipFits g.set (evaluations (one_of k) (functions_of_group g) x)
 
-abbrev P : Reading → (Address → Rational) → Group → Type 0
+abbrev P : ValueOrSlope → (Address → Rational) → Group → Type 0
 P k x g = FunctionsHold (one_of k) g.set (functions_of_group g) x
 
 pub returns-in_err-holds : goal.returns-in_err-holds

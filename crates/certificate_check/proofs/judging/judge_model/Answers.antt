@@ -1,5 +1,4 @@
 -- For which files the shelf is asked.
-use Rattle.std.proofs.Common.{Err, Ok, ap, ◌∙◌}
 use Rattle.file_answers.specs.AskingLaws.{on_fault}
 use Rattle.io_face.specs.Told.{told_by}
 use Rattle.certificate_check.proofs.Asking.{asks_both, asks_one}

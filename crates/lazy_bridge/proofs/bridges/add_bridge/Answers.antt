@@ -1,6 +1,6 @@
 use Rattle.std.proofs.Common.{ap, map, sym, ◌∙◌}
 use Rattle.std.specs.List.{list_any}
-use Rattle.bridge_set.specs.Boxed.{families_of}
+use Rattle.bridge_set.specs.Bridges.{families_of}
 use Rattle.bridge_face.specs.State.{State}
 use Rattle.item_core.specs.Edge.{family_eq}
 use Rattle.lazy_bridge.proofs.Added.{none_kept_more, once_more}

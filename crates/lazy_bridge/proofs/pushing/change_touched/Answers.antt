@@ -11,26 +11,26 @@ use Rattle.lazy_bridge.proofs.pushing.change_touched.Goals as goal
 
 pub let_found_go-requires-clause-narrow : goal.let_found_go-requires-clause-narrow
 let_found_go-requires-clause-narrow g c =
-    narrow c.requires.0 c.args.boxes.now c.args.solver.now c.args.map.now c.args.objective_at.now
+    narrow c.requires.0 c.args.bridges.now c.args.solver.now c.args.map.now c.args.objective_at.now
     c.args.differing.now c.requires.1 c.args.planned.standing c.args.planned.found.items
     c.args.planned.plan c.requires.2
 
 pub let_found_go-requires-clause-roots : goal.let_found_go-requires-clause-roots
 let_found_go-requires-clause-roots g c =
     subst (All IsRoot) (sym c.deref-4.ensures.value)
-    (roots c.requires.0 c.args.boxes.now c.args.solver.now c.args.map.now c.args.objective_at.now
+    (roots c.requires.0 c.args.bridges.now c.args.solver.now c.args.map.now c.args.objective_at.now
     c.args.differing.now c.requires.1 c.args.planned.standing c.args.planned.found.items
     c.args.planned.plan c.requires.2)
 
 pub let_found_go-requires-clause-alone : goal.let_found_go-requires-clause-alone
 let_found_go-requires-clause-alone g c =
-    alone c.requires.0 c.args.boxes.now c.args.solver.now c.args.map.now c.args.objective_at.now
+    alone c.requires.0 c.args.bridges.now c.args.solver.now c.args.map.now c.args.objective_at.now
     c.args.differing.now c.requires.1 c.args.planned.standing c.args.planned.found.items
     c.args.planned.plan c.requires.2
 
 pub change_leaves-requires-clause-named : goal.change_leaves-requires-clause-named
 change_leaves-requires-clause-named g c =
-    named c.requires.0 c.args.boxes.now c.args.solver.now c.args.map.now c.args.objective_at.now
+    named c.requires.0 c.args.bridges.now c.args.solver.now c.args.map.now c.args.objective_at.now
     c.args.differing.now c.requires.1 c.args.planned.standing c.args.planned.found.items
     c.args.planned.plan c.requires.2
 
@@ -38,7 +38,7 @@ pub change_leaves-requires-clause-splice : goal.change_leaves-requires-clause-sp
 change_leaves-requires-clause-splice g c =
     subst (IsSplice (read_through c.args.map.now c.args.solver.now.leaves c.args.objective_at.now)
     (gone_in c.in_ok-gone.gone)) (sym c.deref-5.ensures.value)
-    (splice c.requires.0 c.args.boxes.now c.args.solver.now c.args.map.now c.args.objective_at.now
+    (splice c.requires.0 c.args.bridges.now c.args.solver.now c.args.map.now c.args.objective_at.now
     c.args.differing.now c.requires.1 c.args.planned.standing c.args.planned.found.items
     c.args.planned.plan c.requires.2 (gone_in c.in_ok-gone.gone)
     (c.in_ok-gone.ensures
@@ -49,17 +49,17 @@ change_leaves-requires-clause-splice g c =
 
 pub keep_each-requires-clause-nodes : goal.keep_each-requires-clause-nodes
 keep_each-requires-clause-nodes g c =
-    keepable c.requires.0 c.args.boxes.now c.args.solver.now c.args.map.now
+    keepable c.requires.0 c.args.bridges.now c.args.solver.now c.args.map.now
     c.args.objective_at.now c.args.differing.now c.requires.1 c.args.planned.standing
     c.args.planned.found.items c.args.planned.plan c.requires.2 _ c.let_found_go.ensures.families
 
 pub keep_each-requires-clause-free : goal.keep_each-requires-clause-free
 keep_each-requires-clause-free g c =
-    free c.requires.0 c.args.boxes.now c.args.solver.now c.args.map.now c.args.objective_at.now
+    free c.requires.0 c.args.bridges.now c.args.solver.now c.args.map.now c.args.objective_at.now
     c.args.differing.now c.requires.1 c.args.planned.standing c.args.planned.found.items
-    c.args.planned.plan c.requires.2 c.let_found_go.new.boxes.states
-    (flat_map (nodes_below c.args.boxes.now.states) c.deref-4.result.now)
-    (ap (flat_map (nodes_below c.args.boxes.now.states)) c.deref-4.ensures.value)
+    c.args.planned.plan c.requires.2 c.let_found_go.new.bridges.states
+    (flat_map (nodes_below c.args.bridges.now.states) c.deref-4.result.now)
+    (ap (flat_map (nodes_below c.args.bridges.now.states)) c.deref-4.ensures.value)
     c.in_ok-let_found_go.ensures.gone
 
 pub returns-clause-changed : goal.returns-clause-changed
@@ -69,11 +69,11 @@ returns-clause-changed g c = λ e held made.
     c.change_leaves.new.map c.change_leaves.new.objective_at) c.deref-5.ensures.value
     c.in_ok-changed.ensures.spliced in
     let rest = c.in_ok-changed.ensures.rest in
-    changed e c.args.boxes.now c.args.solver.now c.args.map.now c.args.objective_at.now
+    changed e c.args.bridges.now c.args.solver.now c.args.map.now c.args.objective_at.now
     c.args.differing.now held c.args.planned.standing c.args.planned.found.items
-    c.args.planned.plan made c.let_found_go.new.boxes.states
-    (flat_map (nodes_below c.args.boxes.now.states) c.deref-4.result.now)
-    (ap (flat_map (nodes_below c.args.boxes.now.states)) c.deref-4.ensures.value)
+    c.args.planned.plan made c.let_found_go.new.bridges.states
+    (flat_map (nodes_below c.args.bridges.now.states) c.deref-4.result.now)
+    (ap (flat_map (nodes_below c.args.bridges.now.states)) c.deref-4.ensures.value)
     c.in_ok-let_found_go.ensures.gone c.keep_each.new.self c.change_leaves.new.solver
     c.change_leaves.new.map c.change_entries.new.map c.change_leaves.new.objective_at
     c.in_ok-changed.changed (gone_in c.in_ok-gone.gone)

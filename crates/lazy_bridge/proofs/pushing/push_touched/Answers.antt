@@ -11,9 +11,9 @@ plan_touched-requires g c =
     let start = c.requires.1 in
     let d = c.in_ok-differing.differing in
     let differs = c.in_ok-differing.ensures.differs model start.back in (
-      edit c.args.boxes.now c.args.solver.now c.args.map.now c.args.objective_at.now model
+      edit c.args.bridges.now c.args.solver.now c.args.map.now c.args.objective_at.now model
           c.args.undos.now c.args.after.now.model start d differs,
-      of_edit c.args.boxes.now c.args.solver.now c.args.map.now c.args.objective_at.now model
+      of_edit c.args.bridges.now c.args.solver.now c.args.map.now c.args.objective_at.now model
           c.args.undos.now c.args.after.now.model start d differs c.find_differing.new.reading.model
           c.find_differing.ensures.model,
     )
@@ -23,19 +23,19 @@ returns-in_err-planned-clause-pushed g c = λ model start.
     let d = c.in_ok-differing.differing in
     let differs = c.in_ok-differing.ensures.differs model start.back in
     let f = c.in_err-planned.field-0.0 in
-    handed_on (parts_of c.args.boxes.now c.args.solver.now c.args.map.now c.args.objective_at.now
+    handed_on (parts_of c.args.bridges.now c.args.solver.now c.args.map.now c.args.objective_at.now
     c.args.after.now.reads) model c.args.undos.now c.args.after.now.model start
     c.from_residual-in_err-planned.result f
-    (parts_of c.plan_touched.new.boxes c.args.solver.now c.args.map.now c.args.objective_at.now
+    (parts_of c.plan_touched.new.bridges c.args.solver.now c.args.map.now c.args.objective_at.now
     c.plan_touched.new.reading.reads)
     c.from_residual-in_err-planned.ensures.1
-    (refused c.args.boxes.now c.args.solver.now c.args.map.now c.args.objective_at.now model
+    (refused c.args.bridges.now c.args.solver.now c.args.map.now c.args.objective_at.now model
     c.args.undos.now c.args.after.now.model start d differs c.args.after.now.reads
-    c.plan_touched.new.boxes c.plan_touched.new.reading.reads f c.plan_touched.ensures.means
+    c.plan_touched.new.bridges c.plan_touched.new.reading.reads f c.plan_touched.ensures.means
     (c.in_err-planned.ensures.made
-    (edit c.args.boxes.now c.args.solver.now c.args.map.now c.args.objective_at.now model
+    (edit c.args.bridges.now c.args.solver.now c.args.map.now c.args.objective_at.now model
     c.args.undos.now c.args.after.now.model start d differs)
-    (of_edit c.args.boxes.now c.args.solver.now c.args.map.now c.args.objective_at.now model
+    (of_edit c.args.bridges.now c.args.solver.now c.args.map.now c.args.objective_at.now model
     c.args.undos.now c.args.after.now.model start d differs c.find_differing.new.reading.model
     c.find_differing.ensures.model)))
 
@@ -45,15 +45,15 @@ change_touched-requires g c =
     let start = c.requires.1 in
     let d = c.in_ok-differing.differing in
     let differs = c.in_ok-differing.ensures.differs model start.back in (
-      edit c.args.boxes.now c.args.solver.now c.args.map.now c.args.objective_at.now model
+      edit c.args.bridges.now c.args.solver.now c.args.map.now c.args.objective_at.now model
           c.args.undos.now c.args.after.now.model start d differs,
-      held_by c.args.boxes.now c.args.solver.now c.args.map.now c.args.objective_at.now model
-          c.args.undos.now c.args.after.now.model start d differs c.plan_touched.new.boxes
+      held_by c.args.bridges.now c.args.solver.now c.args.map.now c.args.objective_at.now model
+          c.args.undos.now c.args.after.now.model start d differs c.plan_touched.new.bridges
           c.plan_touched.ensures.means,
       c.in_ok-planned.ensures.made
-          (edit c.args.boxes.now c.args.solver.now c.args.map.now c.args.objective_at.now model
+          (edit c.args.bridges.now c.args.solver.now c.args.map.now c.args.objective_at.now model
           c.args.undos.now c.args.after.now.model start d differs)
-          (of_edit c.args.boxes.now c.args.solver.now c.args.map.now c.args.objective_at.now model
+          (of_edit c.args.bridges.now c.args.solver.now c.args.map.now c.args.objective_at.now model
           c.args.undos.now c.args.after.now.model start d differs c.find_differing.new.reading.model
           c.find_differing.ensures.model),
     )
@@ -63,20 +63,20 @@ returns-clause-pushed g c = λ model start.
     let d = c.in_ok-differing.differing in
     let differs = c.in_ok-differing.ensures.differs model start.back in
     let planned = c.in_ok-planned.planned in
-    let e = edit c.args.boxes.now c.args.solver.now c.args.map.now c.args.objective_at.now model
+    let e = edit c.args.bridges.now c.args.solver.now c.args.map.now c.args.objective_at.now model
     c.args.undos.now c.args.after.now.model start d differs in
     let made = c.in_ok-planned.ensures.made e
-    (of_edit c.args.boxes.now c.args.solver.now c.args.map.now c.args.objective_at.now model
+    (of_edit c.args.bridges.now c.args.solver.now c.args.map.now c.args.objective_at.now model
     c.args.undos.now c.args.after.now.model start d differs c.find_differing.new.reading.model
     c.find_differing.ensures.model) in
-    pushed c.args.boxes.now c.args.solver.now c.args.map.now c.args.objective_at.now model
+    pushed c.args.bridges.now c.args.solver.now c.args.map.now c.args.objective_at.now model
     c.args.undos.now c.args.after.now.model start d differs planned.standing planned.found.items
-    planned.plan made c.plan_touched.new.boxes c.change_touched.new.boxes
+    planned.plan made c.plan_touched.new.bridges c.change_touched.new.bridges
     c.change_touched.new.solver c.change_touched.new.map c.change_touched.new.objective_at
     c.in_ok-changed.changed c.args.after.now.reads c.find_differing.new.reading.reads
     c.plan_touched.new.reading.reads c.plan_touched.ensures.means c.change_touched.ensures.setting
     c.in_ok-planned.ensures.turns c.in_ok-differing.ensures.reads c.in_ok-planned.ensures.reads
     (c.in_ok-changed.ensures.changed e
-    (held_by c.args.boxes.now c.args.solver.now c.args.map.now c.args.objective_at.now model
-    c.args.undos.now c.args.after.now.model start d differs c.plan_touched.new.boxes
+    (held_by c.args.bridges.now c.args.solver.now c.args.map.now c.args.objective_at.now model
+    c.args.undos.now c.args.after.now.model start d differs c.plan_touched.new.bridges
     c.plan_touched.ensures.means) made)

@@ -2,6 +2,7 @@ use Rattle.std.proofs.Common.{◌≡◌, ap₂}
 use Rattle.std.specs.Prelude.{IsTrue}
 use Rattle.ratio_core.specs.AnsweredLaws.{passed_on}
 use Rattle.item_core.specs.declared.item.Item.{Item}
+use Rattle.item_core.specs.Kind.{kind_count}
 use Rattle.fresh_bridging.specs.Entries.{put_in, put_in_fits}
 use Rattle.fresh_bridging.specs.ModelImage.{row_item}
 use Rattle.fresh_bridging.specs.TableLaws.{and_first}
@@ -16,7 +17,7 @@ returns-in_err-body-clause-answer g c =
     let item = row_item c.args.row.now in
     passed_on c.from_residual.result c.in_err-body.field-0.0 (IsTrue (put_in_fits inner item)) _ _ _
     c.from_residual.ensures.1 c.in_err-body.ensures.answer
-    (λ t. and_first (put_in_fits inner item) (worked choice 35 (put_in inner item)).fits t)
+    (λ t. and_first (put_in_fits inner item) (worked choice kind_count (put_in inner item)).fits t)
 
 pub returns-clause-answer : goal.returns-clause-answer
 returns-clause-answer g c =

@@ -1,5 +1,5 @@
 -- Each exit says what the text written so far is of the lines'.
-use Rattle.std.proofs.Common.{◌≡◌, ◌+◌, [], Ok, Err, false, take, drop, refl, sym, ◌∙◌, ap, append-nil, arith}
+use Rattle.std.proofs.Common.{◌≡◌, ◌+◌, [], Ok, Err, false, take, drop, refl, sym, ◌∙◌, ap, append-nil}
 use Rattle.std.specs.Prelude.{map}
 use Rattle.std.proofs.lemmas.List.{take_all}
 use Rattle.std.proofs.lemmas.List.Elements.{All-get_or}

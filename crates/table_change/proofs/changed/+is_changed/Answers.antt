@@ -1,6 +1,6 @@
 use Rattle.std.proofs.Common.{true, ◌||◌, ◌-◌, ap, sym, ◌∙◌}
 use Rattle.std.specs.List.{list_any}
-use Rattle.bridge_set.specs.Boxed.{choice_in}
+use Rattle.bridge_set.specs.Bridges.{choice_in}
 use Rattle.item_core.specs.Edge.{kinds_in}
 use Rattle.item_core.specs.declared.edge.Children.{Children}
 use Rattle.table_change.specs.ChangedKinds.{is_changed}

@@ -1,6 +1,7 @@
 use Rattle.std.proofs.Common.{arith, false, ◌∙◌}
 use Rattle.std.proofs.lemmas.List.{length-set}
-use Rattle.bridge_set.specs.Boxed.{choice_in}
+use Rattle.item_core.specs.Kind.{kind_count}
+use Rattle.bridge_set.specs.Bridges.{choice_in}
 use Rattle.table_change.specs.ChangedKinds.{is_changed}
 use Rattle.table_change.proofs.ChangedSteps.{few_kinds, put_next}
 use Rattle.table_change.proofs.changed.changed_kinds.Goals as goal
@@ -10,7 +11,7 @@ loop-n-preserved c =
     let l = c.loop-n in (
       length-set l.changed l.n c.is_changed.result ∙ l.invariant.0,
       put_next false l.changed l.n c.is_changed.result
-          (is_changed (choice_in c.args.choices.now) (choice_in c.args.others.now) 35)
+          (is_changed (choice_in c.args.choices.now) (choice_in c.args.others.now) kind_count)
           c.kind_numbered.result (omega (arith, l.invariant.0, c.loop-n-test.true))
           c.kind_numbered.ensures c.is_changed.ensures l.invariant.1,
     )
