@@ -1,8 +1,8 @@
 //! Addresses of items.
-ghost use Rattle.std.specs.Prelude.{◌≡◌, ℕ, ◌<◌, ◌≤◌, length, refl, IsTrue, ◌↔◌};
+ghost use Rattle.std.specs.Prelude.{◌≡◌, ℕ, ◌+◌, ◌*◌, ◌<◌, ◌≤◌, length, refl, IsTrue, ◌↔◌};
 ghost use Rattle.std.specs.Cmp.{eq_by_cmp_equiv, partial_equiv_from_equiv, po};
 ghost use Rattle.std.specs.Ordering.{eq_by_cmp, as_partial_cmp};
-ghost use Rattle.aff_core.specs.Address.{root_address, child_of, address_cmp, address_total};
+ghost use Rattle.aff_core.specs.Address.{root_address, child_of, address_cmp, address_total, root_number};
 
 use crate::Root;
 use std::cmp::Ordering;
@@ -83,6 +83,14 @@ impl Address {
         self.number
     }
 
+    // The root and its number, in the order of addresses.
+    fn place(&self) -> u64
+        ensures value { result ≡ root_number self.now.root * 4294967296 + self.now.number }
+        ensures below { self.now.number < 4294967296 }
+    {
+        self.root as u64 * 4_294_967_296 + self.number as u64
+    }
+
     /// The positions of the children chosen on the way down.
     pub fn positions(&self) -> &[u16]
         ensures { result.now ≡ self.now.positions }
@@ -146,8 +154,7 @@ impl Ord for Address {
 
     /// By root, number and positions, the first that differ decide.
     fn cmp(&self, other: &Address) -> Ordering {
-        let first = self.root.cmp(&other.root);
-        match first.then(self.number.cmp(&other.number)) {
+        match self.place().cmp(&other.place()) {
             Ordering::Equal => self.positions().cmp(other.positions()),
             decided => decided,
         }

@@ -1,34 +1,30 @@
 use Rattle.std.specs.Prelude.{refl}
-use Rattle.std.proofs.Common.{◌≡◌, ℕ, ap, sym, ◌∙◌}
-use Rattle.std.specs.Ordering.{nat_cmp, ordering_then}
+use Rattle.std.proofs.Common.{◌≡◌, ◌<◌, ◌+◌, ◌*◌, ℕ, ap, arith, sym, ◌∙◌}
+use Rattle.std.specs.Cmp.{nat_cmp_is, ranked}
+use Rattle.std.specs.Ordering.{MatchOrdering, nat_cmp, ordering_then}
 use Rattle.std.specs.Cmp.Lexicographic.{slice_cmp}
 use Rattle.std.specs.declared.cmp.Ordering.{Ordering}
 use Rattle.std.specs.declared.cmp.Ordering.TheVariants.{Less, Equal, Greater}
 use Rattle.aff_core.specs.Address.{Address, address_cmp, root_number}
-use Rattle.aff_core.specs.declared.root.Root.{Root}
-use Rattle.aff_core.specs.declared.root.Root.TheVariants.{Variable, Group, Row, Objective}
-use Rattle.aff_core.specs.contracts.root.RootOrd.TheImpl as roots
 use Rattle.aff_core.proofs.address.AddressOrd.cmp.Goals as goal
-use Rattle.aff_core.proofs.address.AddressOrd.cmp.Goals.{After-cmp}
 
--- the derived order of the roots is that of their places
-root_cmp-number : (r s : Root) → (roots.ghosts).cmp r s ≡ nat_cmp (root_number r) (root_number s)
-root_cmp-number Variable Variable = refl
-root_cmp-number Variable Group = refl
-root_cmp-number Variable Row = refl
-root_cmp-number Variable Objective = refl
-root_cmp-number Group Variable = refl
-root_cmp-number Group Group = refl
-root_cmp-number Group Row = refl
-root_cmp-number Group Objective = refl
-root_cmp-number Row Variable = refl
-root_cmp-number Row Group = refl
-root_cmp-number Row Row = refl
-root_cmp-number Row Objective = refl
-root_cmp-number Objective Variable = refl
-root_cmp-number Objective Group = refl
-root_cmp-number Objective Row = refl
-root_cmp-number Objective Objective = refl
+-- numbers below 2^32 decide where the numbers before them are equal
+places_cmp : (a b m n : ℕ) → m < 4294967296 → n < 4294967296 → (x y : Ordering)
+    → x ≡ nat_cmp a b → y ≡ nat_cmp m n
+    → ordering_then x y ≡ nat_cmp (a * 4294967296 + m) (b * 4294967296 + n)
+places_cmp a b m n h g x y e f =
+    nat_cmp_is (a * 4294967296 + m) (b * 4294967296 + n) (ordering_then x y)
+    (by x y (ranked a b x e) (ranked m n y f))
+  where
+    by : (x y : Ordering) → MatchOrdering x (a < b) (a ≡ b) (b < a)
+        → MatchOrdering y (m < n) (m ≡ n) (n < m)
+        → MatchOrdering (ordering_then x y) (a * 4294967296 + m < b * 4294967296 + n)
+        (a * 4294967296 + m ≡ b * 4294967296 + n) (b * 4294967296 + n < a * 4294967296 + m)
+    by Less y p q = omega (arith, p, h, g)
+    by Greater y p q = omega (arith, p, h, g)
+    by Equal Less p q = omega (arith, p, q)
+    by Equal Equal p q = omega (arith, p, q)
+    by Equal Greater p q = omega (arith, p, q)
 
 then_assoc : (x y z : Ordering) → ordering_then (ordering_then x y) z
     ≡ ordering_then x (ordering_then y z)
@@ -53,6 +49,15 @@ first-then a b =
     then_assoc (nat_cmp (root_number a.root) (root_number b.root)) (nat_cmp a.number b.number)
     (slice_cmp nat_cmp a.positions b.positions)
 
+-- the order of the places is that of the roots and numbers
+first_is : (a b : Address) (p q : ℕ) (x : Ordering) → x ≡ nat_cmp p q
+    → p ≡ root_number a.root * 4294967296 + a.number
+    → q ≡ root_number b.root * 4294967296 + b.number
+    → a.number < 4294967296 → b.number < 4294967296 → x ≡ first_cmp a b
+first_is a b p q x e f g h k =
+    e ∙ (λ i. nat_cmp (f i) (g i))
+    ∙ sym (places_cmp (root_number a.root) (root_number b.root) a.number b.number h k _ _ refl refl)
+
 by_positions : (a b : Address) → Equal ≡ first_cmp a b → slice_cmp nat_cmp a.positions b.positions
     ≡ address_cmp a b
 by_positions a b e =
@@ -64,28 +69,17 @@ by_first a b x e h =
     sym (then-decided x (slice_cmp nat_cmp a.positions b.positions) h)
     ∙ ap (λ y. ordering_then y (slice_cmp nat_cmp a.positions b.positions)) e ∙ first-then a b
 
-first_is : (a b : Address) (r s : Root) (m n : ℕ) (x y : Ordering) → x ≡ (roots.ghosts).cmp r s
-    → y ≡ nat_cmp m n → r ≡ a.root → s ≡ b.root → m ≡ a.number → n ≡ b.number
-    → ordering_then x y ≡ first_cmp a b
-first_is a b r s m n x y e f p q u v =
-    (λ i. ordering_then (e i) (f i)) ∙ ap (λ o. ordering_then o (nat_cmp m n)) (root_cmp-number r s)
-    ∙ (λ i. ordering_then (nat_cmp (root_number (p i)) (root_number (q i))) (nat_cmp (u i) (v i)))
-
-first : (c : After-cmp) → ordering_then c.cmp-first.result c.cmp.result
-    ≡ first_cmp c.args.self.now c.args.other.now
-first c =
-    first_is c.args.self.now c.args.other.now _ _ _ _ _ _ c.cmp-first.ensures c.cmp.ensures
-    (ap (λ a. a.root) c.self.view_is) (ap (λ a. a.root) c.other.view_is)
-    (ap (λ a. a.number) c.self.view_is) (ap (λ a. a.number) c.other.view_is)
-
 pub returns-in-Equal : goal.returns-in-Equal
 returns-in-Equal c =
     c.cmp-in-Equal.ensures ∙ (λ i. slice_cmp nat_cmp (c.positions.ensures i)
     (c.positions-in-Equal.ensures i))
-    ∙ by_positions c.args.self.now c.args.other.now (c.in-Equal.ensures
-    ∙ first (goal.at.returns-in-Equal c).After-cmp)
+    ∙ by_positions c.args.self.now c.args.other.now
+    (first_is c.args.self.now c.args.other.now _ _ Equal c.in-Equal.ensures c.place.ensures.value
+    c.place-2.ensures.value c.place.ensures.below c.place-2.ensures.below)
 
 pub returns-in_default : goal.returns-in_default
 returns-in_default c =
-    by_first c.args.self.now c.args.other.now c.then.result (c.then.ensures
-    ∙ first (goal.at.returns-in_default c).After-cmp) c.in_default.not-Equal
+    by_first c.args.self.now c.args.other.now c.cmp.result
+    (first_is c.args.self.now c.args.other.now _ _ c.cmp.result c.cmp.ensures c.place.ensures.value
+    c.place-2.ensures.value c.place.ensures.below c.place-2.ensures.below)
+    c.in_default.not-Equal
