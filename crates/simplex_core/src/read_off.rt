@@ -12,7 +12,7 @@ use crate::answer::{Basis, SolverAnswer};
 use lists::{Memory, Sequence};
 use ratio_core::{Ratio, Ratios};
 use std::alloc::Global;
-use tableau_core::Tableau;
+use tableau_core::{CostRow, Tableau};
 
 pub(crate) fn infeasible<T: Tableau>(alloc: Global, board: &T) -> Result<SolverAnswer, Memory>
     requires first { IsTrue (T.contents board.now).in_first }
@@ -100,7 +100,7 @@ fn first_multipliers<T: Tableau>(alloc: Global, board: &T) -> Result<Ratios, Mem
 {
     let mut y = Vec::with_capacity(alloc, board.row_count())?;
     for j in board.real_count()..board.column_count() {
-        y.push(Ratio::one().sub(&board.price(1, j)).unwrap())?;
+        y.push(Ratio::one().sub(&board.price(CostRow::First, j)).unwrap())?;
     }
     Ok(Sequence::from_vec(y))
 }
@@ -112,7 +112,7 @@ fn second_multipliers<T: Tableau>(alloc: Global, board: &T) -> Result<Ratios, Me
 {
     let mut y = Vec::with_capacity(alloc, board.row_count())?;
     for j in board.real_count()..board.column_count() {
-        y.push(board.price(2, j).neg())?;
+        y.push(board.price(CostRow::Second, j).neg())?;
     }
     Ok(Sequence::from_vec(y))
 }

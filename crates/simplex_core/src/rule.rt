@@ -8,7 +8,7 @@ ghost use Rattle.simplex_core.specs.Phases.{IsInPhase, IsWithin};
 
 use ratio_core::Ratio;
 use simplex_form::{Phase, Turn};
-use tableau_core::{Tableau, is_positive};
+use tableau_core::{CostRow, Tableau, is_positive};
 
 // What is done at the board's basis.
 pub(crate) fn turn<T: Tableau>(board: &T, phase: Phase) -> Turn
@@ -29,7 +29,7 @@ fn first_turn<T: Tableau>(board: &T) -> Turn
         result ≡ bland.first_turn R (bland.entering R R.first_price) }
     ensures within { IsWithin (T.contents board.now) result }
 {
-    if let Some(column) = board.entering(1) {
+    if let Some(column) = board.entering(CostRow::First) {
         return enters(board, Phase::First, column);
     }
     if !is_left_above(board) {
@@ -62,7 +62,7 @@ fn second_turn<T: Tableau>(board: &T) -> Turn
         result ≡ bland.second_turn R (bland.entering R R.second_price) }
     ensures within { IsWithin (T.contents board.now) result }
 {
-    match board.entering(2) {
+    match board.entering(CostRow::Second) {
         Some(column) => enters(board, Phase::Second, column),
         None => Turn::Optimal,
     }
@@ -126,7 +126,7 @@ fn multipliers_fit<T: Tableau>(board: &T) -> bool
     ensures { result ≡ bland.multipliers_fit (readings_of (T.contents board.now)) }
 {
     for j in board.real_count()..board.column_count() {
-        if Ratio::one().sub(&board.price(1, j)).is_err() {
+        if Ratio::one().sub(&board.price(CostRow::First, j)).is_err() {
             return false;
         }
     }

@@ -1,5 +1,6 @@
 // Boards of one real column, pivoted twice, on the sparse board and on the dense one.
-ghost use Rattle.std.specs.Prelude.{◌≡◌, ◌⊎◌, ◌<◌, IsTrue, length, IfSome, true};
+ghost use Rattle.std.specs.Prelude.{◌≡◌, ◌<◌, length, IfSome, true};
+ghost use Rattle.tableau_core.specs.Contents.{IsInUse};
 
 use crate::forms::is_nonnegative;
 use crate::models::number;
@@ -7,7 +8,7 @@ use ratio_core::Ratio;
 use sparse_board::Board;
 use sparse_ratios::SparseRatios;
 use std::alloc::Global;
-use tableau_core::{DenseBoard, Tableau};
+use tableau_core::{CostRow, DenseBoard, Tableau};
 use test_support::Page;
 
 /// What both boards answer.
@@ -79,7 +80,7 @@ fn show_first<T: Tableau>(page: &mut Page, board: &T)
     requires in_first { (T.contents board.now).in_first ≡ true }
 {
     show_row(page, board);
-    show_prices(page, board, 1);
+    show_prices(page, board, CostRow::First);
     page.line(format_args!("    swept {:?}", board.swept_column(0)));
 }
 
@@ -89,18 +90,28 @@ fn show_row<T: Tableau>(page: &mut Page, board: &T)
 {
     let (first, second) = (board.entry(0, 0), board.entry(0, 1));
     page.line(format_args!("row {first} {second} = {}", board.right(0)));
-    show_prices(page, board, 2);
+    show_prices(page, board, CostRow::Second);
     page.line(format_args!("    basis {:?}", board.basis()));
 }
 
-fn show_prices<T: Tableau>(page: &mut Page, board: &T, phase: u8)
+fn show_prices<T: Tableau>(page: &mut Page, board: &T, costs: CostRow)
     requires rows { length (T.contents board.now).rows ≡ 1 }
     requires reals { (T.contents board.now).reals ≡ 1 }
-    requires phase { (phase ≡ 2) ⊎ ((phase ≡ 1) × IsTrue (T.contents board.now).in_first) }
+    requires used { IsInUse costs (T.contents board.now) }
 {
-    let (first, second) = (board.price(phase, 0), board.price(phase, 1));
-    page.word(format_args!("    prices of phase {phase}: {first} {second}, "));
-    page.line(format_args!("enters {:?}", board.entering(phase)));
+    let (first, second) = (board.price(costs, 0), board.price(costs, 1));
+    page.word(format_args!(
+        "    prices of phase {}: {first} {second}, ",
+        phase_of(costs)
+    ));
+    page.line(format_args!("enters {:?}", board.entering(costs)));
+}
+
+fn phase_of(costs: CostRow) -> u8 {
+    match costs {
+        CostRow::First => 1,
+        CostRow::Second => 2,
+    }
 }
 
 // A pivot in the first row, where the entry isn't 0.

@@ -1,7 +1,6 @@
 -- What is read of a board as it is kept, before and after a pivot.
-use Rattle.std.specs.Prelude.{◌≡◌, ℕ, zero, suc, ◌+◌, ◌*◌, ◌<◌, ◌^◌, Bool, false, not, nat_eq, nat_lt, IfSome, List, [], ◌∷◌, length, map, Option, Some, None, slice_index_or, slice_set, vec_len, refl}
+use Rattle.std.specs.Prelude.{◌≡◌, ℕ, zero, suc, ◌+◌, ◌*◌, ◌<◌, ◌^◌, Bool, false, not, nat_lt, IfSome, List, [], ◌∷◌, length, map, Option, Some, None, slice_index_or, slice_set, vec_len, refl}
 use Rattle.std.proofs.Common.{sym, ◌∙◌, ap, ap₂, arith, subst}
-use Rattle.std.proofs.lemmas.Bool.{cond-false, ne_eqb}
 use Rattle.std.proofs.lemmas.List.{get_or_default, length-map}
 use Rattle.std.proofs.lemmas.List.FromFn.{get_or-map-range_with_len}
 use Rattle.ratio_core.specs.Rational.{Rational, rational_eq, zero_ℚ, ◌/ℚ◌, ◌‹ℚ◌}
@@ -13,11 +12,12 @@ use Rattle.simplex_form.specs.Turns as bland
 use Rattle.simplex_laws.specs.AgreementLaws.{real_column}
 use Rattle.simplex_laws.specs.SearchLaws.{best_below_same, least_below_same}
 use Rattle.tableau_core.specs.Row.{cell}
-use Rattle.tableau_core.specs.Contents.{Contents, IsPivoted, prices_of, readings_of, width}
+use Rattle.tableau_core.specs.Contents.{Contents, IsPivoted, readings_of, width}
 use Rattle.tableau_core.specs.Leaving.{comes_before}
 use Rattle.tableau_core.specs.KeptLaws.{column_kept, pivoted_read, row_kept, tests_read}
 use Rattle.tableau_core.specs.Numbers.{IsSettled, Numbers, kept_readings, numbers_fit}
 use Rattle.sparse_board.specs.declared.board.Board.TheInside.{Inside}
+use Rattle.sparse_board.specs.declared.cost_rows.CostRows.{CostRows}
 use Rattle.sparse_board.specs.declared.row.Row.{Row}
 use Rattle.sparse_board.specs.declared.mixed_row.MixedRow.{MixedRow}
 use Rattle.sparse_board.specs.declared.step.Step.{Step}
@@ -31,7 +31,7 @@ use Rattle.sparse_board.proofs.RowsSteps.{row_is}
 use Rattle.sparse_board.specs.Kept.{IsKept, columns_of, contents_of, listed}
 
 abbrev pub numbers_of : Inside → Numbers
-numbers_of a = numbers_in a.rows.items a.first.now a.second.now
+numbers_of a = numbers_in a.rows.items a.costs.first.now a.costs.second.now
 
 -- ---- the board's value
 
@@ -67,8 +67,8 @@ value_agrees in_first a = record {
   basis = refl;
   entries = λ i j b c. kept_entry (columns_of a) a.rows.items i j c;
   rights = λ i b. kept_right (columns_of a) a.rows.items i;
-  first = λ u j c. cell-listed (columns_of a) (number_of a.first.now) j c;
-  second = λ j c. cell-listed (columns_of a) (number_of a.second.now) j c;
+  first = λ u j c. cell-listed (columns_of a) (number_of a.costs.first.now) j c;
+  second = λ j c. cell-listed (columns_of a) (number_of a.costs.second.now) j c;
 }
 
 -- a row and a column of the value are within what is kept
@@ -76,20 +76,20 @@ module _ (a : Inside) (t : Contents) where
   pub row_within : (r : ℕ) → contents_of a ≡ t → r < length t.rows → r < length a.rows.items
   row_within r view =
       row_kept a.reals a.basis.items (numbers_of a) (contents_of a) t view
-      (value_agrees a.in_first a) r
+      (value_agrees a.costs.in_first a) r
 
   pub column_within : (q : ℕ) → contents_of a ≡ t → q < width t → q < columns_of a
   column_within q view =
       column_kept a.reals a.basis.items (numbers_of a) (contents_of a) t view
-      (value_agrees a.in_first a) q
+      (value_agrees a.costs.in_first a) q
 
   -- the tests that are made are those of what is read
   pub tests_same : (r q : ℕ) → contents_of a ≡ t → r < length t.rows → q < width t
-      → numbers_fit (columns_of a) r q a.in_first (numbers_of a)
+      → numbers_fit (columns_of a) r q a.costs.in_first (numbers_of a)
       ≡ pivot_fits t.in_first (readings_of t) r q
   tests_same r q view =
       tests_read a.reals a.basis.items (numbers_of a) (contents_of a) t view
-      (value_agrees a.in_first a) r q
+      (value_agrees a.costs.in_first a) r q
 
 -- ---- nothing has changed
 
@@ -107,14 +107,14 @@ standing_same f (x ∷ xs) (y ∷ ys) e h =
     ap₂ (λ a b. a ∷ b) (ap (read_of (f x.now) f) (h 0)) (standing_same f xs ys (omega (arith, e))
     (λ i. h (suc i)))
 
-module _ (a b : Inside) (reals : b.reals ≡ a.reals) (in_first : b.in_first ≡ a.in_first)
+module _ (a b : Inside) (reals : b.reals ≡ a.reals) (in_first : b.costs.in_first ≡ a.costs.in_first)
     (count : length b.rows.items ≡ length a.rows.items)
     (basis : b.basis.items ≡ a.basis.items) where
   columns_is : columns_of b ≡ columns_of a
   columns_is = ap₂ ◌+◌ reals count
 
-  pub view_same : SameNow a.rows.items b.rows.items → b.first.now ≡ a.first.now
-      → b.second.now ≡ a.second.now → contents_of b ≡ contents_of a
+  pub view_same : SameNow a.rows.items b.rows.items → b.costs.first.now ≡ a.costs.first.now
+      → b.costs.second.now ≡ a.costs.second.now → contents_of b ≡ contents_of a
   view_same rows first second = λ k. record {
     reals = reals k;
     rows = (ap (λ w. map (λ row. listed w (number_of row.now)) b.rows.items) columns_is
@@ -136,8 +136,8 @@ wide_after before after n count rows wide i b =
 
 -- the numbers of rows that stand as they did
 pub numbers_same : (a : Inside) (rows : List Row) (first second : MixedRow)
-    → length rows ≡ length a.rows.items → SameNow a.rows.items rows → first ≡ a.first.now
-    → second ≡ a.second.now → numbers_in rows first second ≡ numbers_of a
+    → length rows ≡ length a.rows.items → SameNow a.rows.items rows → first ≡ a.costs.first.now
+    → second ≡ a.costs.second.now → numbers_in rows first second ≡ numbers_of a
 numbers_same a rows first second count same first_is second_is = λ k. record {
   rows = count k;
   number = λ i j. numbers (same i k) j;
@@ -153,7 +153,8 @@ module _ (a b : Inside) (reals : b.reals ≡ a.reals)
   same_width = ap₂ ◌+◌ reals count
 
   pub kept_after : IsKept a → AreWide (columns_of a + 1) b.rows.items
-      → width_of b.first.now ≡ width_of a.first.now → width_of b.second.now ≡ width_of a.second.now
+      → width_of b.costs.first.now ≡ width_of a.costs.first.now
+      → width_of b.costs.second.now ≡ width_of a.costs.second.now
       → b.step.width ≡ a.step.width → length b.basis.items ≡ length a.basis.items
       → length b.marks.items ≡ length a.marks.items
       → AreMarked (columns_of a + 1) b.marks.items b.rows.items → IsKept b
@@ -170,15 +171,16 @@ module _ (a b : Inside) (reals : b.reals ≡ a.reals)
 
   -- `middle` are the rows as they stood, beside which the pivot was worked out
   pub pivoted_all : (r q : ℕ) (t : Contents) → contents_of a ≡ t → r < length t.rows → q < width t
-      → b.in_first ≡ a.in_first → b.basis.items ≡ slice_set a.basis.items r q → (middle : Numbers)
-      → middle ≡ numbers_of a → IsSettled (columns_of a) r q a.in_first middle (numbers_of b)
+      → b.costs.in_first ≡ a.costs.in_first → b.basis.items ≡ slice_set a.basis.items r q
+      → (middle : Numbers) → middle ≡ numbers_of a
+      → IsSettled (columns_of a) r q a.costs.in_first middle (numbers_of b)
       → IsPivoted r q t (contents_of b)
   pivoted_all r q t view row column in_first basis middle same s =
       pivoted_read a.reals a.basis.items (numbers_of a) (contents_of a) t view
-      (value_agrees a.in_first a) r q row column
-      b.reals b.basis.items (numbers_of b) (contents_of b) (value_agrees a.in_first b) reals basis
-      count in_first
-      (subst (λ K. IsSettled (columns_of a) r q a.in_first K (numbers_of b)) same s)
+      (value_agrees a.costs.in_first a) r q row column
+      b.reals b.basis.items (numbers_of b) (contents_of b) (value_agrees a.costs.in_first b)
+      reals basis count in_first
+      (subst (λ K. IsSettled (columns_of a) r q a.costs.in_first K (numbers_of b)) same s)
 
 -- rows that stand are marked as they were
 pub marked_same : (w : ℕ) (marks : List Bool) (before after : List Row)
@@ -222,25 +224,15 @@ module _ (a : Inside) (t : Contents) (view : contents_of a ≡ t) where
       ∙ sym (kept_right (columns_of a) a.rows.items r)
       ∙ ap (λ t. (readings_of t).right r) view
 
-  pub first_is : (q : ℕ) → q < width t → number_of a.first.now q ≡ cell t.first q
+  pub first_is : (q : ℕ) → q < width t → number_of a.costs.first.now q ≡ cell t.first q
   first_is q c =
-      sym (cell-listed (columns_of a) (number_of a.first.now) q (column_within a t q view c))
+      sym (cell-listed (columns_of a) (number_of a.costs.first.now) q (column_within a t q view c))
       ∙ ap (λ t. cell t.first q) view
 
-  pub second_is : (q : ℕ) → q < width t → number_of a.second.now q ≡ cell t.second q
+  pub second_is : (q : ℕ) → q < width t → number_of a.costs.second.now q ≡ cell t.second q
   second_is q c =
-      sym (cell-listed (columns_of a) (number_of a.second.now) q (column_within a t q view c))
+      sym (cell-listed (columns_of a) (number_of a.costs.second.now) q (column_within a t q view c))
       ∙ ap (λ t. cell t.second q) view
-
-  pub first_priced : (phase q : ℕ) → q < width t → phase ≡ 1
-      → number_of a.first.now q ≡ prices_of phase t q
-  first_priced phase q c e = first_is q c ∙ ap (λ p. prices_of p t q) (sym e)
-
-  pub second_priced : (phase q : ℕ) → q < width t → ¬ (phase ≡ 1)
-      → number_of a.second.now q ≡ prices_of phase t q
-  second_priced phase q c n =
-      second_is q c ∙ (λ k. sym (cond-false (nat_eq phase 1) (cell t.first) (cell t.second)
-      (ne_eqb phase 1 n)) k q)
 
   pub nonzero_is : (r : ℕ) (row : Row) → r < length t.rows → row ≡ slice_index_or a.rows.items r row
       → (q : ℕ) → (q < a.reals) × ¬ (number_of row.now q ≡ zero_ℚ)
@@ -258,22 +250,17 @@ module _ (a : Inside) (t : Contents) (view : contents_of a ≡ t) where
       (λ j. is_below (cell (listed (columns_of a) f) j) zero_ℚ) (λ j b. ap (λ x. is_below x zero_ℚ)
       (sym (cell-listed (columns_of a) f j (omega (arith, b)))))
 
-  pub first_entering : (phase : ℕ) → phase ≡ 1
-      → least_below a.reals (λ j. is_below (number_of a.first.now j) zero_ℚ)
-      ≡ entering (readings_of t) (prices_of phase t)
-  first_entering phase e =
-      listed_negative (number_of a.first.now)
+  pub first_entering : least_below a.reals (λ j. is_below (number_of a.costs.first.now j) zero_ℚ)
+      ≡ entering (readings_of t) (cell t.first)
+  first_entering =
+      listed_negative (number_of a.costs.first.now)
       ∙ ap (λ t. entering (readings_of t) (cell t.first)) view
-      ∙ ap (λ p. entering (readings_of t) (prices_of p t)) (sym e)
 
-  pub second_entering : (phase : ℕ) → ¬ (phase ≡ 1)
-      → least_below a.reals (λ j. is_below (number_of a.second.now j) zero_ℚ)
-      ≡ entering (readings_of t) (prices_of phase t)
-  second_entering phase n =
-      listed_negative (number_of a.second.now)
+  pub second_entering : least_below a.reals (λ j. is_below (number_of a.costs.second.now j) zero_ℚ)
+      ≡ entering (readings_of t) (cell t.second)
+  second_entering =
+      listed_negative (number_of a.costs.second.now)
       ∙ ap (λ t. entering (readings_of t) (cell t.second)) view
-      ∙ ap (entering (readings_of t)) (λ k q. sym (cond-false (nat_eq phase 1) (cell t.first)
-      (cell t.second) (ne_eqb phase 1 n)) k q)
 
   pub swept_is : (r : ℕ) (row : Row) → r < length t.rows → row ≡ slice_index_or a.rows.items r row
       → least_below a.reals (λ j. not (rational_eq (number_of row.now j) zero_ℚ))
@@ -304,12 +291,11 @@ marked_read a h r q n item b c e is =
 -- ---- what was worked out, of rows and marks that are the same
 
 pub ready_same : (rows old_rows : List Row) (r q : ℕ) (marks old_marks : List Bool)
-    (in_first : Bool) (first second : Row) (step : Step) → rows ≡ old_rows → marks ≡ old_marks
-    → IsBoardReady old_rows r q old_marks in_first first second step
-    → IsBoardReady rows r q marks in_first first second step
-ready_same rows old_rows r q marks old_marks in_first first second step e f h =
-    subst (λ l. IsBoardReady l r q marks in_first first second step) (sym e)
-    (subst (λ l. IsBoardReady old_rows r q l in_first first second step) (sym f) h)
+    (costs : CostRows) (step : Step) → rows ≡ old_rows → marks ≡ old_marks
+    → IsBoardReady old_rows r q old_marks costs step → IsBoardReady rows r q marks costs step
+ready_same rows old_rows r q marks old_marks costs step e f h =
+    subst (λ l. IsBoardReady l r q marks costs step) (sym e)
+    (subst (λ l. IsBoardReady old_rows r q l costs step) (sym f) h)
 
 -- ---- the row that leaves is that of what is read
 

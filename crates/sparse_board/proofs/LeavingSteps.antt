@@ -1,8 +1,8 @@
 -- Which row leaves: a row that isn't marked doesn't, and whole numbers tell what fractions do.
-use Rattle.std.specs.Prelude.{◌≡◌, ℕ, ◌<◌, Bool, ◌&&◌, ◌||◌, true, false, if◌then◌else◌, List, length, Option, Some, None, slice_index_or, ℤ, pos, ◌<ℤ◌, refl}
+use Rattle.std.specs.Prelude.{◌≡◌, ℕ, ◌<◌, Bool, ◌&&◌, ◌||◌, true, false, if◌then◌else◌, List, length, Option, Some, None, slice_index_or, pos, ◌<ℤ◌, refl}
 use Rattle.std.proofs.Common.{sym, ◌∙◌, ap, subst, is_lt, Ordering}
 use Rattle.std.specs.Ordering.{is_eq}
-use Rattle.ratio_core.specs.Rational.{Rational, rational_cmp, rational_eq, zero_ℚ, ◌/ℚ◌, ◌‹ℚ◌}
+use Rattle.ratio_core.specs.Rational.{Rational, rational_cmp, zero_ℚ, ◌/ℚ◌, ◌‹ℚ◌}
 use Rattle.ratio_core.specs.RationalLaws.{rational_eq-is_eq}
 use Rattle.rational_laws.specs.Order.{not_‹ℚ_from_≤ℚ, ≤ℚ_from_≡}
 use Rattle.rational_laws.specs.Tests.{lt_from_test}

@@ -1,10 +1,11 @@
 -- A pivot put in place, and rows worked out by units that agree.
-use Rattle.std.specs.Prelude.{◌≡◌, ℕ, ◌+◌, ◌<◌, Bool, true, false, IsTrue, List, length, MatchBool, Some, slice_set}
+use Rattle.std.specs.Prelude.{◌≡◌, ℕ, ◌+◌, ◌<◌, Bool, IsTrue, List, length, Some, slice_set}
 use Rattle.std.proofs.Common.{sym, ◌∙◌, ap, subst}
 use Rattle.std.proofs.lemmas.List.{length-set}
 use Rattle.tableau_core.specs.KeptLaws.{settled_by}
 use Rattle.tableau_core.specs.Numbers.{AreLess, IsSettled}
 use Rattle.tableau_core.specs.ItemLaws.{each_written, written_at, written_off}
+use Rattle.sparse_board.specs.declared.cost_rows.CostRows.{CostRows}
 use Rattle.sparse_board.specs.declared.row.Row.{Row}
 use Rattle.sparse_board.specs.declared.mixed_row.MixedRow.{MixedRow}
 use Rattle.sparse_board.specs.declared.step.Step.{Step}
@@ -26,28 +27,28 @@ module _ (before middle : List Row) (r : ℕ) (step : Step) (new : Row)
       (λ _. long) (λ i m b. same i
       ∙ wide i (subst (λ k. i < k) (length-set middle r new ∙ count) b))
 
-  module _ (w q : ℕ) (in_first : Bool) (first second first_next second_next : Row)
+  module _ (w q : ℕ) (costs next : CostRows)
       (wide : AreWide (w + 1) before) (long : step.width ≡ w + 1) (marks : List Bool)
-      (ready : IsBoardReady before r q marks in_first first second step)
+      (ready : IsBoardReady before r q marks costs step)
       (is : (j : ℕ) → j < w + 1 → number_of new.now j ≡ units_of step j)
       (low : AreLowered r q (units_of step) before middle) where
-    lowered_by : (row next : MixedRow) → width_of row ≡ w
-        → IsLowered (number_of row q) (units_of step) row next
-        → AreLess w q (units_of step) (number_of row) (number_of next)
-    lowered_by row next e l j b = l.numbers j (subst (λ n. j < n) (sym e) b)
+    lowered_by : (row after : MixedRow) → width_of row ≡ w
+        → IsLowered (number_of row q) (units_of step) row after
+        → AreLess w q (units_of step) (number_of row) (number_of after)
+    lowered_by row after e l j b = l.numbers j (subst (λ n. j < n) (sym e) b)
 
-    pub settled-all : width_of first.now ≡ w → width_of second.now ≡ w
-        → (IsTrue in_first → IsLowered (number_of first.now q) (units_of step) first.now
-        first_next.now) → IsLowered (number_of second.now q)
-        (units_of step) second.now second_next.now
-        → IsSettled w r q in_first (numbers_in before first.now second.now)
-        (numbers_in (slice_set middle r new) first_next.now second_next.now)
+    pub settled-all : width_of costs.first.now ≡ w → width_of costs.second.now ≡ w
+        → (IsTrue costs.in_first → IsLowered (number_of costs.first.now q) (units_of step)
+        costs.first.now next.first.now)
+        → IsLowered (number_of costs.second.now q) (units_of step) costs.second.now next.second.now
+        → IsSettled w r q costs.in_first (numbers_in before costs.first.now costs.second.now)
+        (numbers_in (slice_set middle r new) next.first.now next.second.now)
     settled-all f s first_low second_low =
-        settled_by w r q in_first (numbers_in before first.now second.now)
-        (numbers_in (slice_set middle r new) first_next.now second_next.now) (units_of step)
+        settled_by w r q costs.in_first (numbers_in before costs.first.now costs.second.now)
+        (numbers_in (slice_set middle r new) next.first.now next.second.now) (units_of step)
         (λ j b. ap (λ o. numbers o j) new_row ∙ is j b)
         (λ j b. ready.divided j (subst (λ n. j < n) (sym long) b))
         (λ i b m j c. ap (λ o. numbers (now_of o) j) (written_off middle r i new m)
         ∙ low i b m j (subst (λ n. j < n) (sym (wide i b)) c))
-        (λ u. lowered_by first.now first_next.now f (first_low u))
-        (lowered_by second.now second_next.now s second_low)
+        (λ u. lowered_by costs.first.now next.first.now f (first_low u))
+        (lowered_by costs.second.now next.second.now s second_low)

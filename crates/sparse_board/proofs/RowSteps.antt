@@ -1,5 +1,5 @@
 -- A row that is searched, and one that gets a number more.
-use Rattle.std.specs.Prelude.{◌≡◌, ℕ, ◌+◌, ◌<◌, ◌≤◌, Bool, true, false, List, [], ◌∷◌, ◌++◌, length, slice_index, slice_index_or, take, MatchBool, ◌⊎◌, Option, Some, None, IfSome, Result, Ok, Err, OnOk, vec_len, refl}
+use Rattle.std.specs.Prelude.{◌≡◌, ℕ, ◌+◌, ◌<◌, ◌≤◌, Bool, true, false, List, [], ◌∷◌, ◌++◌, length, slice_index, slice_index_or, take, ◌⊎◌, Option, Some, None, IfSome, Result, Ok, Err, OnOk, vec_len, refl}
 use Rattle.std.proofs.Common.{sym, ◌∙◌, ap, arith, subst, inl, inr}
 use Rattle.std.proofs.lemmas.Bool.{cases_lt}
 use Rattle.std.proofs.lemmas.List.{get_or-map, get_or_default, length-map, map-append, take-map}

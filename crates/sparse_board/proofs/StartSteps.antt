@@ -16,7 +16,7 @@ use Rattle.sparse_board.specs.declared.board.Board.TheInside.{Inside}
 use Rattle.sparse_board.specs.declared.mixed_row.MixedRow.{MixedRow}
 use Rattle.sparse_board.specs.declared.sparse_row.SparseRow.{SparseRow}
 use Rattle.sparse_board.specs.Mixed as mixed
-use Rattle.sparse_board.specs.Numbers.{Adds, HoldsBelow, number_of, row_columns, width_of}
+use Rattle.sparse_board.specs.Numbers.{Adds, HoldsBelow, number_of, row_columns}
 use Rattle.sparse_board.specs.Sparse.{IsBelow, columns_in}
 use Rattle.sparse_board.specs.Rows.{AreWide}
 use Rattle.sparse_board.specs.Marks.{AreMarked}
@@ -71,8 +71,8 @@ module _ (F : Form) (i : ℕ) (row : i < F.rows) where
       adds.elsewhere j (λ e. omega (arith, b, e)) ∙ held.numbers j b
 
 pub start-kept : (a : Inside) (m : ℕ) → length a.rows.items ≡ m → a.reals + m + 1 < 2 ^ 32
-    → AreWide (a.reals + m + 1) a.rows.items → mixed.width_of a.first.now ≡ a.reals + m
-    → mixed.width_of a.second.now ≡ a.reals + m → a.step.width ≡ a.reals + m + 1
+    → AreWide (a.reals + m + 1) a.rows.items → mixed.width_of a.costs.first.now ≡ a.reals + m
+    → mixed.width_of a.costs.second.now ≡ a.reals + m → a.step.width ≡ a.reals + m + 1
     → length a.basis.items ≡ m → length a.marks.items ≡ (a.reals + m + 1) * length a.rows.items
     → AreMarked (a.reals + m + 1) a.marks.items a.rows.items → IsKept a
 start-kept a m count few wide first second step basis marks marked = record {

@@ -1,5 +1,5 @@
 -- Calls that test, and may run out of memory.
-use Rattle.std.specs.Prelude.{◌≡◌, ◌&&◌, Bool, true, false, IsErrAnd, Result, Ok, Err}
+use Rattle.std.specs.Prelude.{◌≡◌, ◌&&◌, Bool, false, IsErrAnd, Result, Ok, Err}
 use Rattle.std.proofs.Common.{refl, sym, ◌∙◌, subst}
 use Rattle.ratio_core.specs.declared.fault.NumberFault.{NumberFault}
 use Rattle.ratio_core.specs.declared.fault.NumberFault.TheVariants.{Memory, Overflow}

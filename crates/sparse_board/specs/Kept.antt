@@ -22,9 +22,9 @@ contents_of a = record {
   reals = a.reals;
   rows = map (λ row. listed (columns_of a) (number_of row.now)) a.rows.items;
   rights = map (λ row. number_of row.now (columns_of a)) a.rows.items;
-  in_first = a.in_first;
-  first = listed (columns_of a) (number_of a.first.now);
-  second = listed (columns_of a) (number_of a.second.now);
+  in_first = a.costs.in_first;
+  first = listed (columns_of a) (number_of a.costs.first.now);
+  second = listed (columns_of a) (number_of a.costs.second.now);
   basis = a.basis.items;
 }
 
@@ -33,8 +33,8 @@ pub record IsKept (a : Inside) : Type 0 where
   pub few : columns_of a + 1 < 2 ^ 32
   pub wide : AreWide (columns_of a + 1) a.rows.items
   pub spare : a.step.width ≡ columns_of a + 1
-  pub first : width_of a.first.now ≡ columns_of a
-  pub second : width_of a.second.now ≡ columns_of a
+  pub first : width_of a.costs.first.now ≡ columns_of a
+  pub second : width_of a.costs.second.now ≡ columns_of a
   pub basis : length a.basis.items ≡ length a.rows.items
   pub marks : length a.marks.items ≡ (columns_of a + 1) * length a.rows.items
   pub marked : AreMarked (columns_of a + 1) a.marks.items a.rows.items

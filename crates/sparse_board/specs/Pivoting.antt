@@ -1,6 +1,7 @@
 -- A pivot worked out beside what stands.
 use Rattle.std.specs.Prelude.{◌≡◌, ℕ, ◌<◌, Bool, IsTrue, List}
 use Rattle.tableau_core.specs.Numbers.{quotient_at}
+use Rattle.sparse_board.specs.declared.cost_rows.CostRows.{CostRows}
 use Rattle.sparse_board.specs.declared.row.Row.{Row}
 use Rattle.sparse_board.specs.declared.step.Step.{Step}
 use Rattle.sparse_board.specs.Mixed.{IsBoth, units_of}
@@ -9,11 +10,11 @@ use Rattle.sparse_board.specs.Rows.{number_in_row}
 use Rattle.sparse_board.specs.Marks.{ArePrepared}
 
 -- the pivot's new row stands in the room for it, and each other row that changes is worked out
-pub record IsBoardReady (rows : List Row) (r q : ℕ) (marks : List Bool) (in_first : Bool)
-    (first second : Row) (step : Step) : Type 0 where
+pub record IsBoardReady (rows : List Row) (r q : ℕ) (marks : List Bool) (costs : CostRows)
+    (step : Step) : Type 0 where
   pub both : IsBoth step
   pub divided : (j : ℕ) → j < step.width →
       units_of step j ≡ quotient_at (number_in_row rows) r q j
   pub others : ArePrepared r q step marks rows
-  pub first_ready : IsTrue in_first → IsPrepared q step first
-  pub second_ready : IsPrepared q step second
+  pub first_ready : IsTrue costs.in_first → IsPrepared q step costs.first
+  pub second_ready : IsPrepared q step costs.second

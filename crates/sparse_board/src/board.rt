@@ -1,4 +1,5 @@
 //! The sparse board.
+use crate::cost_rows::CostRows;
 use crate::leaving::leaving;
 use crate::marks::marks_of;
 use crate::pivoting::{prepare_pivot, settle_pivot};
@@ -10,7 +11,7 @@ use ratio_core::{NumberFault, Ratio};
 use sparse_ratios::SparseRatios;
 use std::alloc::Global;
 use std::marker::Model;
-use tableau_core::{Tableau, first_prices, second_prices, start_basis};
+use tableau_core::{CostRow, Tableau, first_prices, second_prices, start_basis};
 
 /// A board of rows of whole numbers, each over one denominator, and of fractions where 64 bits are
 /// not enough.
@@ -18,9 +19,7 @@ use tableau_core::{Tableau, first_prices, second_prices, start_basis};
 pub struct Board {
     reals: usize,
     rows: Vec<Row>,
-    in_first: bool,
-    first: Row,
-    second: Row,
+    costs: CostRows,
     // room for a pivot's new row
     step: Step,
     // where a row may have a number other than 0, column by column
@@ -64,9 +63,11 @@ impl Tableau for Board {
         Ok(Board {
             reals: c,
             rows,
-            in_first: true,
-            first,
-            second,
+            costs: CostRows {
+                in_first: true,
+                first,
+                second,
+            },
             step,
             marks,
             basis,
@@ -97,11 +98,10 @@ impl Tableau for Board {
         self.rows[r].now.number(width as u32)
     }
 
-    fn price(&self, phase: u8, q: usize) -> Ratio {
-        if phase == 1 {
-            self.first.now.number(q as u32)
-        } else {
-            self.second.now.number(q as u32)
+    fn price(&self, costs: CostRow, q: usize) -> Ratio {
+        match costs {
+            CostRow::First => self.costs.first.now.number(q as u32),
+            CostRow::Second => self.costs.second.now.number(q as u32),
         }
     }
 
@@ -109,11 +109,10 @@ impl Tableau for Board {
         &self.basis
     }
 
-    fn entering(&self, phase: u8) -> Option<usize> {
-        if phase == 1 {
-            first_negative(&self.first.now, self.reals)
-        } else {
-            first_negative(&self.second.now, self.reals)
+    fn entering(&self, costs: CostRow) -> Option<usize> {
+        match costs {
+            CostRow::First => first_negative(&self.costs.first.now, self.reals),
+            CostRow::Second => first_negative(&self.costs.second.now, self.reals),
         }
     }
 
@@ -127,23 +126,17 @@ impl Tableau for Board {
     }
 
     fn pivot(&mut self, r: usize, q: usize) -> Result<(), NumberFault> {
-        let width = (self.reals + self.rows.len()) as u32;
         prepare_pivot(
             &mut self.rows,
-            self.in_first,
-            &mut self.first,
-            &mut self.second,
+            &mut self.costs,
             &mut self.step,
             &self.marks,
-            width,
             r,
             q as u32,
         )?;
         settle_pivot(
             &mut self.rows,
-            self.in_first,
-            &mut self.first,
-            &mut self.second,
+            &mut self.costs,
             &mut self.step,
             &mut self.marks,
             r,
@@ -154,6 +147,6 @@ impl Tableau for Board {
     }
 
     fn end_phase_one(&mut self) {
-        self.in_first = false;
+        self.costs.in_first = false;
     }
 }

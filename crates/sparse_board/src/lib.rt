@@ -3,8 +3,8 @@
 #![tactic(auto)]
 
 mod board;
+mod cost_rows;
 mod entry;
-mod first_costs;
 mod leaving;
 mod lowering;
 mod marks;

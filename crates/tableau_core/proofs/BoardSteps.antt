@@ -21,7 +21,7 @@ use Rattle.simplex_laws.specs.SearchLaws.{best_below_same, least_below_same}
 use Rattle.tableau_core.specs.Leaving.{IsCandidate, comes_before, leaves_before, may_leave}
 
 abbrev pub numbers_of : Inside → Numbers
-numbers_of a = numbers_in a.rows.items a.first.now.items a.second.now.items
+numbers_of a = numbers_in a.rows.items a.costs.first.now.items a.costs.second.now.items
 
 -- ---- the board's value
 
@@ -110,20 +110,20 @@ module _ (a : Inside) (t : Contents) where
   pub row_within : (r : ℕ) → contents_of a ≡ t → r < length t.rows → r < length a.rows.items
   row_within r view =
       row_kept a.reals a.basis.items (numbers_of a) (contents_of a) t view
-      (value_agrees a.in_first a) r
+      (value_agrees a.costs.in_first a) r
 
   pub column_within : (q : ℕ) → contents_of a ≡ t → q < width t → q < width_of a
   column_within q view =
       column_kept a.reals a.basis.items (numbers_of a) (contents_of a) t view
-      (value_agrees a.in_first a) q
+      (value_agrees a.costs.in_first a) q
 
   -- the tests that are made are those of what is read
   pub tests_same : (r q : ℕ) → contents_of a ≡ t → r < length t.rows → q < width t
-      → numbers_fit (width_of a) r q a.in_first (numbers_of a)
+      → numbers_fit (width_of a) r q a.costs.in_first (numbers_of a)
       ≡ pivot_fits t.in_first (readings_of t) r q
   tests_same r q view =
       tests_read a.reals a.basis.items (numbers_of a) (contents_of a) t view
-      (value_agrees a.in_first a) r q
+      (value_agrees a.costs.in_first a) r q
 
 -- ---- nothing has changed
 
@@ -136,14 +136,15 @@ standing_same f (x ∷ xs) [] e h = absurd (omega (arith, e))
 standing_same f (x ∷ xs) (y ∷ ys) e h =
     ap₂ (λ a b. a ∷ b) (ap f (h 0)) (standing_same f xs ys (omega (arith, e)) (λ i. h (suc i)))
 
-module _ (a b : Inside) (reals : b.reals ≡ a.reals) (in_first : b.in_first ≡ a.in_first)
+module _ (a b : Inside) (reals : b.reals ≡ a.reals) (in_first : b.costs.in_first ≡ a.costs.in_first)
     (count : length b.rows.items ≡ length a.rows.items)
     (basis : b.basis.items ≡ a.basis.items) where
   width_is : width_of b ≡ width_of a
   width_is = ap₂ ◌+◌ reals count
 
   pub view_same : ((i : ℕ) → now_at b.rows.items i ≡ now_at a.rows.items i)
-      → b.first.now.items ≡ a.first.now.items → b.second.now.items ≡ a.second.now.items
+      → b.costs.first.now.items ≡ a.costs.first.now.items
+      → b.costs.second.now.items ≡ a.costs.second.now.items
       → contents_of b ≡ contents_of a
   view_same rows first second = λ k. record {
     reals = reals k;
@@ -165,7 +166,7 @@ wide_after before after n count rows wide i b =
 -- the numbers of rows that stand as they did
 pub numbers_same : (a : Inside) (rows : List Row) (first second : List Rational)
     → length rows ≡ length a.rows.items → ((i : ℕ) → now_at rows i ≡ now_at a.rows.items i)
-    → first ≡ a.first.now.items → second ≡ a.second.now.items
+    → first ≡ a.costs.first.now.items → second ≡ a.costs.second.now.items
     → numbers_in rows first second ≡ numbers_of a
 numbers_same a rows first second count same first_is second_is = λ k. record {
   rows = count k;
@@ -182,8 +183,9 @@ module _ (a b : Inside) (reals : b.reals ≡ a.reals)
   same_width = ap₂ ◌+◌ reals count
 
   pub kept_after : IsKept a → AreWide (width_of a + 1) b.rows.items
-      → length b.first.now.items ≡ length a.first.now.items
-      → length b.second.now.items ≡ length a.second.now.items → length b.step.items ≡ width_of a + 1
+      → length b.costs.first.now.items ≡ length a.costs.first.now.items
+      → length b.costs.second.now.items ≡ length a.costs.second.now.items
+      → length b.step.items ≡ width_of a + 1
       → AllFit b.step.items → length b.places.items ≡ length a.places.items
       → length b.basis.items ≡ length a.basis.items → IsKept b
   kept_after h wide first second step fit places basis = record {
@@ -198,22 +200,22 @@ module _ (a b : Inside) (reals : b.reals ≡ a.reals)
 
   -- `middle` are the rows as they stood, beside which the pivot was worked out
   pub pivoted_all : (r q : ℕ) (t : Contents) → contents_of a ≡ t → r < length t.rows → q < width t
-      → b.in_first ≡ a.in_first → b.basis.items ≡ slice_set a.basis.items r q → (middle : Numbers)
-      → middle ≡ numbers_of a → (w : ℕ) → w ≡ width_of a
-      → IsSettled w r q a.in_first middle (numbers_of b) → IsPivoted r q t (contents_of b)
+      → b.costs.in_first ≡ a.costs.in_first → b.basis.items ≡ slice_set a.basis.items r q
+      → (middle : Numbers) → middle ≡ numbers_of a → (w : ℕ) → w ≡ width_of a
+      → IsSettled w r q a.costs.in_first middle (numbers_of b) → IsPivoted r q t (contents_of b)
   pivoted_all r q t view row column in_first basis middle same w wide s =
       pivoted_read a.reals a.basis.items (numbers_of a) (contents_of a) t view
-      (value_agrees a.in_first a) r q row column
-      b.reals b.basis.items (numbers_of b) (contents_of b) (value_agrees a.in_first b) reals basis
-      count in_first
-      (subst (λ n. IsSettled n r q a.in_first (numbers_of a) (numbers_of b)) wide
-      (subst (λ K. IsSettled w r q a.in_first K (numbers_of b)) same s))
+      (value_agrees a.costs.in_first a) r q row column
+      b.reals b.basis.items (numbers_of b) (contents_of b) (value_agrees a.costs.in_first b)
+      reals basis count in_first
+      (subst (λ n. IsSettled n r q a.costs.in_first (numbers_of a) (numbers_of b)) wide
+      (subst (λ K. IsSettled w r q a.costs.in_first K (numbers_of b)) same s))
 
 -- ---- at the start
 
 pub start-kept : (a : Inside) (m : ℕ) → length a.rows.items ≡ m
-    → AreWide (a.reals + m + 1) a.rows.items → length a.first.now.items ≡ a.reals + m
-    → length a.second.now.items ≡ a.reals + m → length a.step.items ≡ a.reals + m + 1
+    → AreWide (a.reals + m + 1) a.rows.items → length a.costs.first.now.items ≡ a.reals + m
+    → length a.costs.second.now.items ≡ a.reals + m → length a.step.items ≡ a.reals + m + 1
     → AllFit a.step.items → length a.places.items ≡ a.reals + m + 1
     → length a.basis.items ≡ m → IsKept a
 start-kept a m count wide first second step fit places basis = record {

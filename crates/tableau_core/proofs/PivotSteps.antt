@@ -1,5 +1,5 @@
 -- The tests of a pivot, in the order in which the code makes them.
-use Rattle.std.specs.Prelude.{◌≡◌, ℕ, ◌+◌, ◌<◌, Bool, true, false, ◌||◌, not, nat_eq, List, length, refl}
+use Rattle.std.specs.Prelude.{◌≡◌, ℕ, ◌+◌, ◌<◌, Bool, true, false, ◌||◌, nat_eq, List, length}
 use Rattle.std.proofs.Common.{sym, ◌∙◌, ap, subst}
 use Rattle.ratio_core.specs.Rational.{Rational}
 use Rattle.tableau_core.specs.declared.kept.Row.{Row}
@@ -35,22 +35,9 @@ module _ (w : ℕ) (rows : List Row) (r q : ℕ) (in_first : Bool) (first second
   -- the quotients fit, and so do the other rows
   module _ (quotients : quotients_fit (length (now_at rows r)) (cell (now_at rows r))
       (cell (now_at rows r) q) ≡ true) (others : rows_fit r q step rows ≡ true) where
-    costs-decide : costs_fit w q in_first (cell first) (cell second) (cell step)
+    pub costs-decide : costs_fit w q in_first (cell first) (cell second) (cell step)
         ≡ numbers_fit w r q in_first K
     costs-decide =
         tests.costs-decide w r q in_first K (cell step) divided_is
         (subst (λ n. quotients_fit n (cell (now_at rows r)) (cell (now_at rows r) q) ≡ true)
         (wide r row) quotients) (sym rows-wide ∙ others)
-
-    pub first-refused : length first ≡ w → false ≡ (not in_first || lowering_fits q step first)
-        → numbers_fit w r q in_first K ≡ false
-    first-refused long e =
-        sym costs-decide ∙ tests.first-refused w q in_first (cell first) (cell second) (cell step)
-        (cell step) (λ j b. refl) (length first) long e
-
-    pub second-decides : length first ≡ w → length second ≡ w
-        → true ≡ (not in_first || lowering_fits q step first)
-        → lowering_fits q step second ≡ numbers_fit w r q in_first K
-    second-decides long second_long e =
-        tests.second-decides w q in_first (cell first) (cell second) (cell step) (cell step)
-        (λ j b. refl) (length first) (length second) long second_long e ∙ costs-decide

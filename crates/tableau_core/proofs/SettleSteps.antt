@@ -1,8 +1,9 @@
 -- A pivot put in place: the other rows first, and then the pivot's.
-use Rattle.std.specs.Prelude.{◌≡◌, ℕ, ◌+◌, ◌<◌, Bool, List, length, slice_index_or, slice_set, IsTrue}
+use Rattle.std.specs.Prelude.{◌≡◌, ℕ, ◌+◌, ◌<◌, List, length, slice_index_or, slice_set, IsTrue}
 use Rattle.std.proofs.Common.{sym, ◌∙◌, ap, subst}
 use Rattle.std.proofs.lemmas.List.{length-set}
 use Rattle.ratio_core.specs.Rational.{Rational}
+use Rattle.tableau_core.specs.declared.cost_rows.CostRows.{CostRows}
 use Rattle.tableau_core.specs.declared.kept.Row.{Row}
 use Rattle.tableau_core.specs.KeptLaws.{settled_by}
 use Rattle.tableau_core.specs.Numbers.{AreLess, IsSettled}
@@ -18,25 +19,27 @@ module _ (before middle : List Row) (r q : ℕ) (step : List Rational) (new : Ro
   new_row = ap numbers (written_at middle r new (subst (λ n. r < n) (sym count) row)) ∙ is
 
   -- the cost rows have w numbers
-  pub settled-all : (w : ℕ) (in_first : Bool) (first second : Row)
+  pub settled-all : (w : ℕ) (costs : CostRows)
       (first_after second_after : List Rational) → AreWide (w + 1) before
-      → length first.now.items ≡ w → length second.now.items ≡ w
-      → IsReady before r q in_first first second step → AreLowered r q step before middle
-      → (IsTrue in_first → IsLowered (cell first.now.items q) step first.now.items first_after)
-      → IsLowered (cell second.now.items q) step second.now.items second_after
-      → IsSettled w r q in_first (numbers_in before first.now.items second.now.items)
+      → length costs.first.now.items ≡ w → length costs.second.now.items ≡ w
+      → IsReady before r q costs step → AreLowered r q step before middle
+      → (IsTrue costs.in_first
+      → IsLowered (cell costs.first.now.items q) step costs.first.now.items first_after)
+      → IsLowered (cell costs.second.now.items q) step costs.second.now.items second_after
+      → IsSettled w r q costs.in_first
+      (numbers_in before costs.first.now.items costs.second.now.items)
       (numbers_in (slice_set middle r new) first_after second_after)
-  settled-all w in_first first second first_after second_after wide f s ready low
-      first_low second_low =
-      settled_by w r q in_first (numbers_in before first.now.items second.now.items)
+  settled-all w costs first_after second_after wide f s ready low first_low second_low =
+      settled_by w r q costs.in_first
+      (numbers_in before costs.first.now.items costs.second.now.items)
       (numbers_in (slice_set middle r new) first_after second_after) (cell step)
       (λ j b. ap (λ l. cell l j) new_row)
       (λ j b. ready.divided.cells j (subst (λ n. j < n) (sym (wide r row)) b))
       (λ i b m. less (w + 1) (now_at before i) (now_at (slice_set middle r new) i) (wide i b)
       (subst (λ o. IsLowered (cell (now_at before i) q) step (now_at before i) (numbers o))
       (sym (written_off middle r i new m)) (low i b m)))
-      (λ u. less w first.now.items first_after f (first_low u))
-      (less w second.now.items second_after s second_low)
+      (λ u. less w costs.first.now.items first_after f (first_low u))
+      (less w costs.second.now.items second_after s second_low)
     where
       less : (n : ℕ) (old next : List Rational) → length old ≡ n
           → IsLowered (cell old q) step old next → AreLess n q (cell step) (cell old) (cell next)

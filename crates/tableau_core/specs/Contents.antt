@@ -1,6 +1,8 @@
 -- What a board keeps, what is read of it, and what a pivot makes of it.
-use Rattle.std.specs.Prelude.{◌≡◌, ℕ, Bool, nat_eq, List, [], length, slice_index_or, if◌then◌else◌}
+use Rattle.std.specs.Prelude.{◌≡◌, ℕ, Bool, IsTrue, List, [], length, slice_index_or}
 use Rattle.ratio_core.specs.Rational.{Rational}
+use Rattle.tableau_core.specs.declared.cost_row.CostRow.{CostRow}
+use Rattle.tableau_core.specs.declared.cost_row.CostRow.TheVariants.{First, Second}
 use Rattle.tableau_core.specs.Row.{cell}
 use Rattle.simplex_form.specs.Basis.{State}
 use Rattle.simplex_form.specs.Form.{Form}
@@ -35,9 +37,15 @@ readings_of t = record {
 abbrev pub width : Contents → ℕ
 width t = columns (readings_of t)
 
--- the prices of a phase, 1 or 2
-abbrev pub prices_of : ℕ → Contents → ℕ → Rational
-prices_of phase t = if nat_eq phase 1 then cell t.first else cell t.second
+-- the first cost row is in use until the first phase ends
+abbrev pub IsInUse : CostRow → Contents → Type 0
+IsInUse First t = IsTrue t.in_first
+IsInUse Second t = Unit {0}
+
+-- the prices of a cost row
+abbrev pub prices_of : CostRow → Contents → ℕ → Rational
+prices_of First t = cell t.first
+prices_of Second t = cell t.second
 
 -- a pivot divides row r by its entry of column q, and subtracts from every other row, and from each
 -- cost row in use, its entry times the new row r

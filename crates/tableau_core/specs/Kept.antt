@@ -15,9 +15,9 @@ contents_of a = record {
   reals = a.reals;
   rows = map (λ row. take (width_of a) row.now.items) a.rows.items;
   rights = map (λ row. cell row.now.items (width_of a)) a.rows.items;
-  in_first = a.in_first;
-  first = a.first.now.items;
-  second = a.second.now.items;
+  in_first = a.costs.in_first;
+  first = a.costs.first.now.items;
+  second = a.costs.second.now.items;
   basis = a.basis.items;
 }
 
@@ -27,6 +27,6 @@ pub record IsKept (a : Inside) : Type 0 where
   pub spare : length a.step.items ≡ width_of a + 1
   pub spare_fits : AllFit a.step.items
   pub places : length a.places.items ≡ width_of a + 1
-  pub first : length a.first.now.items ≡ width_of a
-  pub second : length a.second.now.items ≡ width_of a
+  pub first : length a.costs.first.now.items ≡ width_of a
+  pub second : length a.costs.second.now.items ≡ width_of a
   pub basis : length a.basis.items ≡ length a.rows.items

@@ -1,5 +1,7 @@
 //! The dense board: each row is kept whole.
 
+use crate::cost_row::CostRow;
+use crate::cost_rows::CostRows;
 use crate::kept::{Row, zeros};
 use crate::pivoting::{prepare_pivot, settle_pivot};
 use crate::places::room_for_places;
@@ -17,9 +19,7 @@ use std::marker::Model;
 pub struct DenseBoard {
     reals: usize,
     rows: Vec<Row>,
-    in_first: bool,
-    first: Row,
-    second: Row,
+    costs: CostRows,
     // room for a pivot's new row
     step: Vec<Ratio>,
     // and for the places where it isn't 0
@@ -59,9 +59,11 @@ impl Tableau for DenseBoard {
         Ok(DenseBoard {
             reals: c,
             rows,
-            in_first: true,
-            first,
-            second,
+            costs: CostRows {
+                in_first: true,
+                first,
+                second,
+            },
             step,
             places,
             basis,
@@ -77,7 +79,7 @@ impl Tableau for DenseBoard {
     }
 
     fn column_count(&self) -> usize {
-        self.second.now.len()
+        self.costs.second.now.len()
     }
 
     fn entry(&self, r: usize, q: usize) -> Ratio {
@@ -89,11 +91,10 @@ impl Tableau for DenseBoard {
         row[row.len() - 1]
     }
 
-    fn price(&self, phase: u8, q: usize) -> Ratio {
-        if phase == 1 {
-            self.first.now[q]
-        } else {
-            self.second.now[q]
+    fn price(&self, costs: CostRow, q: usize) -> Ratio {
+        match costs {
+            CostRow::First => self.costs.first.now[q],
+            CostRow::Second => self.costs.second.now[q],
         }
     }
 
@@ -101,16 +102,15 @@ impl Tableau for DenseBoard {
         &self.basis
     }
 
-    fn entering(&self, phase: u8) -> Option<usize> {
-        if phase == 1 {
-            first_negative(&self.first.now, self.reals)
-        } else {
-            first_negative(&self.second.now, self.reals)
+    fn entering(&self, costs: CostRow) -> Option<usize> {
+        match costs {
+            CostRow::First => first_negative(&self.costs.first.now, self.reals),
+            CostRow::Second => first_negative(&self.costs.second.now, self.reals),
         }
     }
 
     fn leaving(&self, q: usize) -> Option<usize> {
-        let side = self.second.now.len();
+        let side = self.costs.second.now.len();
         leaving(&self.rows, &self.basis, side, q)
     }
 
@@ -121,9 +121,7 @@ impl Tableau for DenseBoard {
     fn pivot(&mut self, r: usize, q: usize) -> Result<(), NumberFault> {
         let used = prepare_pivot(
             &mut self.rows,
-            self.in_first,
-            &mut self.first,
-            &mut self.second,
+            &mut self.costs,
             &mut self.step,
             &mut self.places,
             r,
@@ -131,9 +129,7 @@ impl Tableau for DenseBoard {
         )?;
         settle_pivot(
             &mut self.rows,
-            self.in_first,
-            &mut self.first,
-            &mut self.second,
+            &mut self.costs,
             &mut self.step,
             &self.places[..used],
             r,
@@ -144,6 +140,6 @@ impl Tableau for DenseBoard {
     }
 
     fn end_phase_one(&mut self) {
-        self.in_first = false;
+        self.costs.in_first = false;
     }
 }

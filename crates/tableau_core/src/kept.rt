@@ -1,5 +1,5 @@
 //! A row of the board, with room for the row that comes after it.
-ghost use Rattle.std.specs.Prelude.{◌≡◌, ℕ, ◌<◌, ◌≤◌, List, ◌||◌, not, IsTrue, length, is_ok, IfOk, OnOk};
+ghost use Rattle.std.specs.Prelude.{◌≡◌, ℕ, ◌<◌, ◌≤◌, List, length, is_ok, IfOk, OnOk};
 ghost use Rattle.ratio_core.specs.Rational.{Rational, zero_ℚ};
 ghost use Rattle.tableau_core.specs.Places.{Covers};
 ghost use Rattle.tableau_core.specs.Row.{AllFit, IsLowered, IsPrepared, cell, lowering_fits};
@@ -83,41 +83,5 @@ impl Row {
         ensures step_fits { AllFit step.new.items }
     {
         mem::swap(&mut self.now, step);
-    }
-}
-
-// The same of a row that is in use.
-pub(crate) fn prepare_if(
-    used: bool,
-    row: &mut Row,
-    q: usize,
-    step: &[Ratio],
-    places: &[usize],
-) -> Result<(), BoardOverflow>
-    requires within { q < length row.old.now.items }
-    requires step_long { length row.old.now.items ≤ length step.now }
-    requires covers { Covers places.now step.now }
-    ensures stays { row.new.now.items ≡ row.old.now.items }
-    ensures fits { is_ok result ≡ (not used || lowering_fits q step.now row.old.now.items) }
-    ensures ok { OnOk result
-        (IsTrue used → IsPrepared q step.now row.old.now.items row.new.next.items) }
-{
-    if used {
-        row.prepare(q, step, places)
-    } else {
-        Ok(())
-    }
-}
-
-pub(crate) fn settle_if(used: bool, row: &mut Row, q: usize, places: &[usize])
-    requires { q < length row.old.now.items }
-    ensures lowered { IsTrue used → (step : List Rational)
-        → length row.old.now.items ≤ length step → Covers places.now step
-        → IsPrepared q step row.old.now.items row.old.next.items
-        → IsLowered (cell row.old.now.items q) step row.old.now.items row.new.now.items }
-    ensures long { length row.new.now.items ≡ length row.old.now.items }
-{
-    if used {
-        row.settle(q, places);
     }
 }

@@ -2,6 +2,8 @@
 //! operations.
 #![tactic(auto)]
 
+mod cost_row;
+mod cost_rows;
 mod dense_board;
 mod fault;
 mod kept;
@@ -15,6 +17,7 @@ mod sign;
 mod start;
 mod tableau;
 
+pub use cost_row::CostRow;
 pub use dense_board::DenseBoard;
 pub use fault::BoardOverflow;
 pub use row::lowered;

@@ -7,8 +7,9 @@ ghost use Rattle.tableau_core.specs.Row.{AllFit, IsDivided, cell};
 ghost use Rattle.tableau_core.specs.Rows.{AreWide, now_at, numbers_in};
 ghost use Rattle.tableau_core.specs.Pivoting.{IsReady};
 
+use crate::cost_rows::CostRows;
 use crate::fault::BoardOverflow;
-use crate::kept::{Row, prepare_if, settle_if};
+use crate::kept::Row;
 use crate::places::note_places;
 use crate::row::divide;
 use crate::rows::{prepare_rows, settle_rows};
@@ -19,9 +20,7 @@ use ratio_core::Ratio;
 // places there are.
 pub(crate) fn prepare_pivot(
     rows: &mut [Row],
-    in_first: bool,
-    first: &mut Row,
-    second: &mut Row,
+    costs: &mut CostRows,
     step: &mut [Ratio],
     places: &mut [usize],
     r: usize,
@@ -30,27 +29,28 @@ pub(crate) fn prepare_pivot(
     requires places_long { length step.old ≤ length places.old }
     requires row { r < length rows.old }
     requires wide { AreWide (length step.old) rows.old }
-    requires column { q < length second.old.now.items }
-    requires first_long { length first.old.now.items ≡ length second.old.now.items }
-    requires step_long { length step.old ≡ length second.old.now.items + 1 }
+    requires column { q < length costs.old.second.now.items }
+    requires first_long { length costs.old.first.now.items ≡ length costs.old.second.now.items }
+    requires step_long { length step.old ≡ length costs.old.second.now.items + 1 }
     requires step_fits { AllFit step.old }
     requires nonzero { cell (now_at rows.old r) q ≢ zero_ℚ }
     ensures rows_stay { (i : ℕ) → now_at rows.new i ≡ now_at rows.old i }
-    ensures first_stays { first.new.now.items ≡ first.old.now.items }
-    ensures second_stays { second.new.now.items ≡ second.old.now.items }
+    ensures use_stays { costs.new.in_first ≡ costs.old.in_first }
+    ensures first_stays { costs.new.first.now.items ≡ costs.old.first.now.items }
+    ensures second_stays { costs.new.second.now.items ≡ costs.old.second.now.items }
     ensures step_fits { AllFit step.new }
-    ensures fits { is_ok result ≡ numbers_fit (length second.old.now.items) r q in_first
-        (numbers_in rows.old first.old.now.items second.old.now.items) }
+    ensures fits { is_ok result ≡ numbers_fit (length costs.old.second.now.items) r q
+        costs.old.in_first
+        (numbers_in rows.old costs.old.first.now.items costs.old.second.now.items) }
     ensures used { IfOk result (λ used. used ≤ length places.new) }
     ensures covers { IfOk result (λ used. Covers (take used places.new) step.new) }
-    ensures ok { OnOk result (IsReady rows.new r q in_first first.new second.new step.new) }
+    ensures ok { OnOk result (IsReady rows.new r q costs.new step.new) }
 {
     divide_row(rows, r, q, step)?;
     let used = note_places(step, places);
     let places = &places[..used];
     prepare_rows(rows, r, q, step, places)?;
-    prepare_if(in_first, first, q, step, places)?;
-    second.prepare(q, step, places)?;
+    costs.prepare(q, step, places)?;
     Ok(used)
 }
 
@@ -74,9 +74,7 @@ fn divide_row(rows: &[Row], r: usize, q: usize, step: &mut [Ratio]) -> Result<()
 // Puts a pivot that was worked out in place.
 pub(crate) fn settle_pivot(
     rows: &mut [Row],
-    in_first: bool,
-    first: &mut Row,
-    second: &mut Row,
+    costs: &mut CostRows,
     step: &mut Vec<Ratio>,
     places: &[usize],
     r: usize,
@@ -84,24 +82,24 @@ pub(crate) fn settle_pivot(
 )
     requires row { r < length rows.old }
     requires wide { AreWide (length step.old.items) rows.old }
-    requires column { q < length second.old.now.items }
-    requires first_long { length first.old.now.items ≡ length second.old.now.items }
-    requires step_long { length step.old.items ≡ length second.old.now.items + 1 }
+    requires column { q < length costs.old.second.now.items }
+    requires first_long { length costs.old.first.now.items ≡ length costs.old.second.now.items }
+    requires step_long { length step.old.items ≡ length costs.old.second.now.items + 1 }
     requires step_fits { AllFit step.old.items }
     requires covers { Covers places.now step.old.items }
-    requires ready { IsReady rows.old r q in_first first.old second.old step.old.items }
-    ensures settled { IsSettled (length second.old.now.items) r q in_first
-        (numbers_in rows.old first.old.now.items second.old.now.items)
-        (numbers_in rows.new first.new.now.items second.new.now.items) }
+    requires ready { IsReady rows.old r q costs.old step.old.items }
+    ensures settled { IsSettled (length costs.old.second.now.items) r q costs.old.in_first
+        (numbers_in rows.old costs.old.first.now.items costs.old.second.now.items)
+        (numbers_in rows.new costs.new.first.now.items costs.new.second.now.items) }
     ensures wide { AreWide (length step.old.items) rows.new }
-    ensures first_long { length first.new.now.items ≡ length first.old.now.items }
-    ensures second_long { length second.new.now.items ≡ length second.old.now.items }
+    ensures use_stays { costs.new.in_first ≡ costs.old.in_first }
+    ensures first_long { length costs.new.first.now.items ≡ length costs.old.first.now.items }
+    ensures second_long { length costs.new.second.now.items ≡ length costs.old.second.now.items }
     ensures step_long { length step.new.items ≡ length step.old.items }
     ensures step_fits { AllFit step.new.items }
 {
     settle_rows(rows, r, q, places);
     let row = &mut rows[r];
     row.exchange(step);
-    settle_if(in_first, first, q, places);
-    second.settle(q, places);
+    costs.settle(q, places);
 }

@@ -1,12 +1,13 @@
 //! What the simplex asks of a board.
-ghost use Rattle.std.specs.Prelude.{◌≡◌, ◌≢◌, ◌*◌, ◌<◌, ◌⊎◌, IsTrue, All, false, true, length, IfOk, IfSome, IsErrOf, MatchResult, OnOk};
+ghost use Rattle.std.specs.Prelude.{◌≡◌, ◌≢◌, ◌*◌, ◌<◌, All, false, true, length, IfOk, IfSome, IsErrOf, MatchResult, OnOk};
 ghost use Rattle.ratio_core.specs.Rational.{zero_ℚ, ◌≤ℚ◌, ◌‹ℚ◌};
 ghost use Rattle.simplex_form.specs.Basis.{start};
 ghost use Rattle.simplex_form.specs.Fit.{pivot_fits, start_fits};
 ghost use Rattle.simplex_form.specs.Turns as bland;
-ghost use Rattle.tableau_core.specs.Contents.{Contents, IsBoardOf, IsPivoted, prices_of, readings_of, width};
+ghost use Rattle.tableau_core.specs.Contents.{Contents, IsBoardOf, IsInUse, IsPivoted, prices_of, readings_of, width};
 ghost use Rattle.tableau_core.specs.Start.{form_of};
 
+use crate::cost_row::CostRow;
 use ratio_core::{NumberFault, Ratio};
 use sparse_ratios::SparseRatios;
 use std::alloc::Global;
@@ -62,22 +63,22 @@ pub trait Tableau: Sized {
         requires { r < length (contents self.now).rows }
         ensures { result ≡ (readings_of (contents self.now)).right r };
 
-    /// The price of column `q` by the costs of the first phase, 1, or of the second, 2.
-    fn price(&self, phase: u8, q: usize) -> Ratio
-        requires phase { (phase ≡ 2) ⊎ ((phase ≡ 1) × IsTrue (contents self.now).in_first) }
+    /// The price of column `q` in a cost row that is in use.
+    fn price(&self, costs: CostRow, q: usize) -> Ratio
+        requires used { IsInUse costs (contents self.now) }
         requires column { q < width (contents self.now) }
-        ensures { result ≡ prices_of phase (contents self.now) q };
+        ensures { result ≡ prices_of costs (contents self.now) q };
 
     /// The basic column of each row.
     fn basis(&self) -> &[usize]
         ensures columns { result.now ≡ (contents self.now).basis }
         ensures long { length (contents self.now).basis ≡ length (contents self.now).rows };
 
-    /// The least real column of negative price by the costs of the phase, 1 or 2.
-    fn entering(&self, phase: u8) -> Option<usize>
-        requires phase { (phase ≡ 2) ⊎ ((phase ≡ 1) × IsTrue (contents self.now).in_first) }
+    /// The least real column of negative price in a cost row that is in use.
+    fn entering(&self, costs: CostRow) -> Option<usize>
+        requires used { IsInUse costs (contents self.now) }
         ensures value { let t = contents self.now in
-            result ≡ bland.entering (readings_of t) (prices_of phase t) }
+            result ≡ bland.entering (readings_of t) (prices_of costs t) }
         ensures real { IfSome result (λ q. q < (contents self.now).reals) };
 
     /// The row of least ratio of its right side to its positive entry of column `q`, and of these

@@ -29,13 +29,12 @@ returns-clause-settled c = λ w long first second.
     let step = c.args.step.now in
     settled-all c.args.rows.now c.settle_rows.new.rows c.args.r step c.exchange.new.self
     c.settle_rows.auto.rows c.requires.row
-    w c.args.q c.args.in_first c.args.first.now c.args.second.now c.settle_if.new.row
-    c.settle.new.self
+    w c.args.q c.args.costs.now c.settle.new.self
     (subst (λ n. AreWide n c.args.rows.now) long c.requires.wide) long c.args.marks.now
     c.requires.ready
     (λ j b. c.exchange.ensures.now j (subst (λ n. j < n) (sym (row_width c ∙ long)) b))
     c.settle_rows.ensures.lowered first second
-    c.settle_if.ensures.lowered c.settle.ensures
+    c.settle.ensures.first_lowered c.settle.ensures.second_lowered
 
 pub returns-clause-marked : goal.returns-clause-marked
 returns-clause-marked c =

@@ -6,20 +6,22 @@ use Rattle.tableau_core.proofs.pivoting.settle_pivot.Goals as goal
 pub returns-clause-settled : goal.returns-clause-settled
 returns-clause-settled c =
     let step = c.args.step.now.items in
-    let first_long : length c.args.first.now.now.items ≤ length step =
+    let costs = c.args.costs.now in
+    let first_long : length costs.first.now.items ≤ length step =
     omega (arith, c.requires.first_long, c.requires.step_long) in
-    let second_long : length c.args.second.now.now.items ≤ length step =
+    let second_long : length costs.second.now.items ≤ length step =
     omega (arith, c.requires.step_long) in
     settled-all c.args.rows.now c.settle_rows.new.rows c.args.r c.args.q step c.exchange.new.self
     c.settle_rows.auto.rows c.requires.row c.exchange.ensures.now
-    (length c.args.second.now.now.items) c.args.in_first c.args.first.now c.args.second.now
-    c.settle_if.new.row.now.items c.settle.new.self.now.items
+    (length costs.second.now.items) costs
+    c.settle.new.self.first.now.items c.settle.new.self.second.now.items
     (subst (λ n. AreWide n c.args.rows.now) c.requires.step_long c.requires.wide)
     c.requires.first_long refl c.requires.ready
     (c.settle_rows.ensures.lowered step c.requires.wide c.requires.covers c.requires.ready.others)
-    (λ u. c.settle_if.ensures.lowered u step first_long c.requires.covers
+    (λ u. c.settle.ensures.first_lowered u step first_long c.requires.covers
     (c.requires.ready.first_ready u))
-    (c.settle.ensures.lowered step second_long c.requires.covers c.requires.ready.second_ready)
+    (c.settle.ensures.second_lowered step second_long c.requires.covers
+    c.requires.ready.second_ready)
 
 pub returns-clause-wide : goal.returns-clause-wide
 returns-clause-wide c =

@@ -1,4 +1,4 @@
-use Rattle.std.proofs.Common.{arith, drop, refl, sym, ◌+◌, ◌-◌}
+use Rattle.std.proofs.Common.{arith, drop, sym, ◌+◌}
 use Rattle.tableau_core.specs.TermSteps.{at_end, at_term, done_all, done_more, done_none, term_past, term_within}
 use Rattle.tableau_core.proofs.start.put_row.Goals as goal
 

@@ -1,4 +1,4 @@
-use Rattle.std.proofs.Common.{◌+◌, ◌∙◌, ap, length, refl, subst, sym}
+use Rattle.std.proofs.Common.{◌+◌, ◌∙◌, ap, arith, length, refl, subst, sym}
 use Rattle.std.proofs.lemmas.List.{length-set, with_items_is}
 use Rattle.std.specs.Vec.{with_item, with_items}
 use Rattle.sparse_board.proofs.TestSteps.{barred}
@@ -8,7 +8,7 @@ use Rattle.sparse_board.specs.Rows.{AreWide, now_at, number_in_row, numbers_in}
 use Rattle.sparse_board.specs.Marks.{AreMarked}
 use Rattle.sparse_board.specs.Kept.{columns_of}
 use Rattle.tableau_core.specs.KeptLaws.{refused}
-use Rattle.sparse_board.proofs.BoardSteps.{kept_after, marked_same, numbers_same, pivoted_all, read_entry, ready_same, tests_same, vec_count, view_same, wide_after}
+use Rattle.sparse_board.proofs.BoardSteps.{column_within, kept_after, marked_same, numbers_same, pivoted_all, read_entry, ready_same, tests_same, view_same, wide_after}
 use Rattle.sparse_board.proofs.board.BoardTableau.pivot.Goals as goal
 
 pub prepare_pivot-requires-clause-nonzero : goal.prepare_pivot-requires-clause-nonzero
@@ -17,11 +17,32 @@ prepare_pivot-requires-clause-nonzero c = λ e.
     c.args.q c.requires.column) ∙ ap (λ l. number_in_row l c.args.r c.args.q)
     (sym c.deref_mut.ensures.value) ∙ e)
 
+pub prepare_pivot-requires-clause-column : goal.prepare_pivot-requires-clause-column
+prepare_pivot-requires-clause-column c =
+    let within = column_within c.self.inside c.args.self.now c.args.q c.self.view_is
+    c.requires.column in
+    omega (arith, within, c.self.invariant.spare)
+
+pub prepare_pivot-requires-clause-wide : goal.prepare_pivot-requires-clause-wide
+prepare_pivot-requires-clause-wide c =
+    subst (λ n. AreWide n c.deref_mut.result.now) (sym c.self.invariant.spare)
+    (subst (AreWide (columns_of c.self.inside + 1)) (sym c.deref_mut.ensures.value)
+    c.self.invariant.wide)
+
+pub prepare_pivot-requires-clause-marked : goal.prepare_pivot-requires-clause-marked
+prepare_pivot-requires-clause-marked c =
+    let w = columns_of c.self.inside + 1 in
+    subst (λ n. AreMarked n c.deref.result.now c.deref_mut.result.now)
+    (sym c.self.invariant.spare)
+    (subst (λ l. AreMarked w l c.deref_mut.result.now) (sym c.deref.ensures.value)
+    (subst (AreMarked w c.self.inside.marks.items) (sym c.deref_mut.ensures.value)
+    c.self.invariant.marked))
+
 pub returns-in_err-prepare_pivot-clause-overflow : goal.returns-in_err-prepare_pivot-clause-overflow
 returns-in_err-prepare_pivot-clause-overflow c = λ of.
     let a = c.self.inside in
-    sym ((λ k. numbers_fit (a.reals + vec_count a c.len.result c.len.ensures k) c.args.r c.args.q
-    a.in_first (numbers_in (c.deref_mut.ensures.value k) a.first.now a.second.now))
+    sym ((λ k. numbers_fit (c.self.invariant.second k) c.args.r c.args.q a.costs.in_first
+    (numbers_in (c.deref_mut.ensures.value k) a.costs.first.now a.costs.second.now))
     ∙ tests_same a c.args.self.now c.args.r c.args.q c.self.view_is c.requires.row c.requires.column)
     ∙ barred c.from_residual.result _ _ c.from_residual.ensures.1
     c.in_err-prepare_pivot.ensures.fits of
@@ -29,8 +50,8 @@ returns-in_err-prepare_pivot-clause-overflow c = λ of.
 pub returns-clause-fits : goal.returns-clause-fits
 returns-clause-fits c =
     let a = c.self.inside in
-    sym ((λ k. numbers_fit (a.reals + vec_count a c.len.result c.len.ensures k) c.args.r c.args.q
-    a.in_first (numbers_in (c.deref_mut.ensures.value k) a.first.now a.second.now))
+    sym ((λ k. numbers_fit (c.self.invariant.second k) c.args.r c.args.q a.costs.in_first
+    (numbers_in (c.deref_mut.ensures.value k) a.costs.first.now a.costs.second.now))
     ∙ tests_same a c.args.self.now c.args.r c.args.q c.self.view_is c.requires.row c.requires.column)
     ∙ c.in_ok-prepare_pivot.ensures.fits
 
@@ -60,13 +81,11 @@ returns-in_err-prepare_pivot-clause-board c =
     (view_same a (record {
       reals = a.reals;
       rows = with_items a.rows c.prepare_pivot.new.rows;
-      in_first = a.in_first;
-      first = c.prepare_pivot.new.first;
-      second = c.prepare_pivot.new.second;
+      costs = c.prepare_pivot.new.costs;
       step = c.prepare_pivot.new.step;
       marks = a.marks;
       basis = a.basis;
-    }) refl refl (ap length rows ∙ c.prepare_pivot.auto.rows
+    }) refl c.prepare_pivot.ensures.use_stays (ap length rows ∙ c.prepare_pivot.auto.rows
     ∙ ap length c.deref_mut.ensures.value) refl
     (λ i. ap (λ l. now_at l i) rows ∙ c.prepare_pivot.ensures.rows_stay i
     ∙ ap (λ l. now_at l i) c.deref_mut.ensures.value)
@@ -105,7 +124,7 @@ settle_pivot-requires-clause-ready c =
     let rows = c.deref_mut-2.ensures.value ∙ with_items_is a.rows prepared.rows
     (c.prepare_pivot.auto.rows ∙ c.deref_mut.ensures.len) in
     ready_same c.deref_mut-2.result.now prepared.rows c.args.r c.args.q c.deref_mut-3.result.now
-    c.deref.result.now a.in_first prepared.first prepared.second prepared.step rows
+    c.deref.result.now prepared.costs prepared.step rows
     (c.deref_mut-3.ensures.value ∙ sym c.deref.ensures.value)
     c.in_ok-prepare_pivot.ensures.ok
 
@@ -150,24 +169,28 @@ returns-clause-board c =
     (record {
       reals = a.reals;
       rows = with_items (with_items a.rows prepared.rows) settled.rows;
-      in_first = a.in_first;
-      first = settled.first;
-      second = settled.second;
+      costs = settled.costs;
       step = settled.step;
       marks = with_items a.marks settled.marks;
       basis = with_item a.basis c.args.r c.args.q;
     })
     refl (ap length last ∙ c.settle_pivot.auto.rows ∙ count)
-    c.args.r c.args.q c.args.self.now c.self.view_is c.requires.row c.requires.column refl refl
-    (numbers_in c.deref_mut-2.result.now prepared.first.now prepared.second.now)
-    (numbers_same a c.deref_mut-2.result.now prepared.first.now prepared.second.now count
+    c.args.r c.args.q c.args.self.now c.self.view_is c.requires.row c.requires.column
+    (c.settle_pivot.ensures.use_stays ∙ c.prepare_pivot.ensures.use_stays) refl
+    (numbers_in c.deref_mut-2.result.now prepared.costs.first.now prepared.costs.second.now)
+    (numbers_same a c.deref_mut-2.result.now prepared.costs.first.now
+    prepared.costs.second.now count
     (λ i. ap (λ l. now_at l i) rows ∙ c.prepare_pivot.ensures.rows_stay i
     ∙ ap (λ l. now_at l i) c.deref_mut.ensures.value)
     c.prepare_pivot.ensures.first_stays c.prepare_pivot.ensures.second_stays)
-    (subst (λ l. IsSettled (columns_of a) c.args.r c.args.q a.in_first
-    (numbers_in c.deref_mut-2.result.now prepared.first.now prepared.second.now)
-    (numbers_in l settled.first.now settled.second.now)) (sym last)
+    (subst (λ u. IsSettled (columns_of a) c.args.r c.args.q u
+    (numbers_in c.deref_mut-2.result.now prepared.costs.first.now prepared.costs.second.now)
+    (numbers_in (with_items (with_items a.rows prepared.rows) settled.rows).items
+    settled.costs.first.now settled.costs.second.now)) c.prepare_pivot.ensures.use_stays
+    (subst (λ l. IsSettled (columns_of a) c.args.r c.args.q prepared.costs.in_first
+    (numbers_in c.deref_mut-2.result.now prepared.costs.first.now prepared.costs.second.now)
+    (numbers_in l settled.costs.first.now settled.costs.second.now)) (sym last)
     (c.settle_pivot.ensures.settled (columns_of a) (c.prepare_pivot.ensures.step_wide
     ∙ c.self.invariant.spare)
     (ap width_of c.prepare_pivot.ensures.first_stays ∙ c.self.invariant.first)
-    (ap width_of c.prepare_pivot.ensures.second_stays ∙ c.self.invariant.second)))
+    (ap width_of c.prepare_pivot.ensures.second_stays ∙ c.self.invariant.second))))

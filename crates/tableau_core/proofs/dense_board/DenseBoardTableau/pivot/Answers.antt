@@ -17,16 +17,16 @@ pub returns-in_err-used-clause-overflow : goal.returns-in_err-used-clause-overfl
 returns-in_err-used-clause-overflow c =
     let a = c.self.inside in λ _.
     sym (c.in_err-used.ensures.fits
-    ∙ (λ k. numbers_fit (c.self.invariant.second k) c.args.r c.args.q a.in_first
-    (numbers_in (c.deref_mut.ensures.value k) a.first.now.items a.second.now.items))
+    ∙ (λ k. numbers_fit (c.self.invariant.second k) c.args.r c.args.q a.costs.in_first
+    (numbers_in (c.deref_mut.ensures.value k) a.costs.first.now.items a.costs.second.now.items))
     ∙ tests_same a c.args.self.now c.args.r c.args.q c.self.view_is c.requires.row c.requires.column)
 
 pub returns-clause-fits : goal.returns-clause-fits
 returns-clause-fits c =
     let a = c.self.inside in
     sym (c.in_ok-used.ensures.fits
-    ∙ (λ k. numbers_fit (c.self.invariant.second k) c.args.r c.args.q a.in_first
-    (numbers_in (c.deref_mut.ensures.value k) a.first.now.items a.second.now.items))
+    ∙ (λ k. numbers_fit (c.self.invariant.second k) c.args.r c.args.q a.costs.in_first
+    (numbers_in (c.deref_mut.ensures.value k) a.costs.first.now.items a.costs.second.now.items))
     ∙ tests_same a c.args.self.now c.args.r c.args.q c.self.view_is c.requires.row c.requires.column)
 
 pub invariant_of-self : goal.invariant_of-self
@@ -58,15 +58,13 @@ returns-in_err-used-clause-board c =
     (view_same c.self.inside (record {
       reals = c.self.inside.reals;
       rows = with_items c.self.inside.rows c.prepare_pivot.new.rows;
-      in_first = c.self.inside.in_first;
-      first = c.prepare_pivot.new.first;
-      second = c.prepare_pivot.new.second;
+      costs = c.prepare_pivot.new.costs;
       step = with_items c.self.inside.step
           c.prepare_pivot.new.step;
       places = with_items c.self.inside.places
           c.prepare_pivot.new.places;
       basis = c.self.inside.basis;
-    }) refl refl (ap length rows
+    }) refl c.prepare_pivot.ensures.use_stays (ap length rows
     ∙ c.prepare_pivot.auto.rows ∙ ap length c.deref_mut.ensures.value) refl
     (λ i. ap (λ l. now_at l i) rows ∙ c.prepare_pivot.ensures.rows_stay i
     ∙ ap (λ l. now_at l i) c.deref_mut.ensures.value)
@@ -93,11 +91,10 @@ settle_pivot-requires-clause-ready c =
     c.prepare_pivot.new.rows (c.prepare_pivot.auto.rows ∙ c.deref_mut.ensures.len) in
     let step = with_items_is c.self.inside.step c.prepare_pivot.new.step (c.prepare_pivot.auto.step
     ∙ c.deref_mut-2.ensures.len) in
-    subst (λ l. IsReady l c.args.r c.args.q c.self.inside.in_first c.prepare_pivot.new.first
-    c.prepare_pivot.new.second (with_items c.self.inside.step c.prepare_pivot.new.step).items)
-    (sym rows)
-    (subst (λ l. IsReady c.prepare_pivot.new.rows c.args.r c.args.q c.self.inside.in_first
-    c.prepare_pivot.new.first c.prepare_pivot.new.second l) (sym step) c.in_ok-used.ensures.ok)
+    subst (λ l. IsReady l c.args.r c.args.q c.prepare_pivot.new.costs
+    (with_items c.self.inside.step c.prepare_pivot.new.step).items) (sym rows)
+    (subst (IsReady c.prepare_pivot.new.rows c.args.r c.args.q c.prepare_pivot.new.costs)
+    (sym step) c.in_ok-used.ensures.ok)
 
 pub settle_pivot-requires-clause-covers : goal.settle_pivot-requires-clause-covers
 settle_pivot-requires-clause-covers c =
@@ -149,24 +146,32 @@ returns-clause-board c =
     (record {
       reals = a.reals;
       rows = with_items (with_items a.rows prepared.rows) settled.rows;
-      in_first = a.in_first;
-      first = settled.first;
-      second = settled.second;
+      costs = settled.costs;
       step = settled.step;
       places = with_items a.places prepared.places;
       basis = with_item a.basis c.args.r c.args.q;
     })
     refl (ap length last ∙ c.settle_pivot.auto.rows ∙ count)
-    c.args.r c.args.q c.args.self.now c.self.view_is c.requires.row c.requires.column refl refl
-    (numbers_in c.deref_mut-4.result.now prepared.first.now.items prepared.second.now.items)
-    (numbers_same a c.deref_mut-4.result.now prepared.first.now.items
-    prepared.second.now.items count
+    c.args.r c.args.q c.args.self.now c.self.view_is c.requires.row c.requires.column
+    (c.settle_pivot.ensures.use_stays ∙ c.prepare_pivot.ensures.use_stays) refl
+    (numbers_in c.deref_mut-4.result.now prepared.costs.first.now.items
+    prepared.costs.second.now.items)
+    (numbers_same a c.deref_mut-4.result.now prepared.costs.first.now.items
+    prepared.costs.second.now.items count
     (λ i. ap (λ l. now_at l i) rows ∙ c.prepare_pivot.ensures.rows_stay i
     ∙ ap (λ l. now_at l i) c.deref_mut.ensures.value)
     c.prepare_pivot.ensures.first_stays c.prepare_pivot.ensures.second_stays)
-    (length prepared.second.now.items) (ap length c.prepare_pivot.ensures.second_stays
+    (length prepared.costs.second.now.items) (ap length c.prepare_pivot.ensures.second_stays
     ∙ c.self.invariant.second)
-    (subst (λ l. IsSettled (length prepared.second.now.items) c.args.r c.args.q a.in_first
-    (numbers_in c.deref_mut-4.result.now prepared.first.now.items prepared.second.now.items)
-    (numbers_in l settled.first.now.items settled.second.now.items))
-    (sym last) c.settle_pivot.ensures.settled)
+    (subst (λ u. IsSettled (length prepared.costs.second.now.items) c.args.r c.args.q u
+    (numbers_in c.deref_mut-4.result.now prepared.costs.first.now.items
+    prepared.costs.second.now.items)
+    (numbers_in (with_items (with_items a.rows prepared.rows) settled.rows).items
+    settled.costs.first.now.items settled.costs.second.now.items))
+    c.prepare_pivot.ensures.use_stays
+    (subst (λ l. IsSettled (length prepared.costs.second.now.items) c.args.r c.args.q
+    prepared.costs.in_first
+    (numbers_in c.deref_mut-4.result.now prepared.costs.first.now.items
+    prepared.costs.second.now.items)
+    (numbers_in l settled.costs.first.now.items settled.costs.second.now.items))
+    (sym last) c.settle_pivot.ensures.settled))

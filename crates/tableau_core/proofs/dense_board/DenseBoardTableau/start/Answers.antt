@@ -17,9 +17,11 @@ abbrev made : goal.In_ok-basis → Inside
 made c = record {
   reals = c.args.c;
   rows = c.in_ok-rows.rows;
-  in_first = true;
-  first = c.in_ok-first.first;
-  second = c.in_ok-second.second;
+  costs = record {
+    in_first = true;
+    first = c.in_ok-first.first;
+    second = c.in_ok-second.second;
+  };
   step = c.in_ok-step.step;
   places = c.in_ok-places.places;
   basis = c.in_ok-basis.basis;
