@@ -1,5 +1,3 @@
-mod Cuts
-mod Digits
 mod Ends
 mod Replies
 mod Shapes

@@ -1,7 +1,6 @@
 -- What the contracts cite: the end of a trail, the form that a text writes, what is printed, and how
 -- a run ends.
 pub mod Small
-pub mod Left
 pub mod Sizes
 pub mod Forms
 pub mod Reading

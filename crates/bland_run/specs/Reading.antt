@@ -20,7 +20,7 @@ unended text =
 abbrev pub numbers_in : List ℕ → Option (List Rational)
 numbers_in line = each rational_of (slice_split (λ b. b == 32) line)
 
--- the form of lines, of which the first has the size
+-- the form of lines; the first line has the size
 unfoldable pub form_in_lines : List (List ℕ) → Option StdForm
 form_in_lines [] = None
 form_in_lines (first ∷ others) =

@@ -7,7 +7,6 @@ mod fault;
 mod form;
 mod input;
 mod numbers;
-mod pieces;
 mod printing;
 mod reading;
 mod running;

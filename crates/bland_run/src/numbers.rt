@@ -5,9 +5,9 @@ ghost use Rattle.ratio_core.specs.Text.{rational_of};
 ghost use Rattle.script_tokens.specs.Each.{each};
 ghost use Rattle.bland_run.specs.Reading.{numbers_in};
 
-use crate::pieces::Pieces;
 use lists::{Memory, Sequence};
 use ratio_core::{Ratio, Ratios};
+use script_tokens::Pieces;
 use std::alloc::Global;
 
 // The numbers of each line.

@@ -5,9 +5,9 @@ ghost use Rattle.bland_run.specs.Reading.{IsSmall, form_in, form_in_lines, unend
 
 use crate::form::form_of;
 use crate::numbers::read_rows;
-use crate::pieces::Pieces;
 use crate::size::read_size;
 use lists::Memory;
+use script_tokens::Pieces;
 use simplex_core::StdForm;
 use std::alloc::Global;
 

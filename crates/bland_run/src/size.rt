@@ -1,11 +1,10 @@
 //! The first line of a form: how many rows and columns it has.
 ghost use Rattle.std.specs.Prelude.{◌≡◌, ◌+◌, ◌≤◌, IfSome, true};
-ghost use Rattle.std.specs.Char.{is_ascii_digit};
-ghost use Rattle.std.specs.List.{list_all};
 ghost use Rattle.std.specs.Str.Parse.{digits_value};
-ghost use Rattle.bland_run.specs.Sizes.{count_in, in_8_bits, is_digits, size_in, size_of};
+ghost use Rattle.script_tokens.specs.Number.{in_bits, is_digits};
+ghost use Rattle.bland_run.specs.Sizes.{count_in, size_in, size_of};
 
-use crate::pieces::Pieces;
+use script_tokens::{Pieces, is_digits};
 use std::str;
 
 /// How many rows and real columns a form has. The columns with an artificial one a row are few
@@ -58,22 +57,10 @@ fn read_count(word: &[u8]) -> Option<usize>
     }
 }
 
-fn is_digits(word: &[u8]) -> bool
-    ensures { result ≡ is_digits word.now }
-{
-    !word.is_empty() && are_digits(word)
-}
-
-fn are_digits(word: &[u8]) -> bool
-    ensures { result ≡ list_all is_ascii_digit word.now }
-{
-    word.iter().all(|b| b.is_ascii_digit())
-}
-
 // The number that digits write, if 8 bits hold it.
 fn value(digits: &[u8]) -> Option<u8>
     requires { is_digits digits.now ≡ true }
-    ensures { result ≡ in_8_bits (digits_value 10 digits.now) }
+    ensures { result ≡ in_bits 8 (digits_value 10 digits.now) }
 {
     match str::from_utf8(digits) {
         Ok(text) => text.parse().ok(),

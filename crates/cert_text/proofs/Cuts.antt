@@ -1,48 +1,12 @@
--- Text and its pieces.
-use Rattle.std.proofs.Common.{◌≡◌, ℕ, ◌<◌, ◌≤◌, Bool, false, not, inl, inr, List, [], ◌∷◌, ◌++◌, length, map, refl, sym, ap, ap₂, ◌∙◌, append_assoc, append-nil, arith}
-use Rattle.std.specs.List.{All, after_first, before_first, onto_first, position_or_len, slice_split}
-use Rattle.std.proofs.lemmas.Bool.{cases_lt, not-true}
-use Rattle.std.proofs.lemmas.List.{length-take-le, take_all}
+-- What is printed, cut into its pieces.
+use Rattle.std.proofs.Common.{◌≡◌, ℕ, Bool, false, List, [], ◌∷◌, ◌++◌, map, refl, ap, ◌∙◌, append_assoc, append-nil}
+use Rattle.std.specs.List.{All, onto_first, slice_split}
 use Rattle.std.proofs.lemmas.List.Elements.{All-head, All-tail}
-use Rattle.std.proofs.lemmas.List.Splits.{slice_split-cons_no, slice_split_at, slice_split_first, slice_split_none}
-use Rattle.std.proofs.lemmas.List.Sums.{prefix_len_passes}
+use Rattle.std.proofs.lemmas.List.Splits.{slice_split-cons_no, slice_split_at}
 use Rattle.ratio_core.specs.Rational.{Rational}
 use Rattle.ratio_core.specs.Text.{text_of}
 use Rattle.cert_text.specs.Text.{Line, numbers_text, text_of_lines}
 use Rattle.cert_text.proofs.Bytes.{OnLine, is_newline, is_space, no_newlines, no_spaces, number_above}
-
--- ---- the first piece
-
-none_passes : (p : ℕ → Bool) (bs : List ℕ) → length bs ≤ position_or_len p bs
-    → All (λ b. p b ≡ false) bs
-none_passes p bs h k d lt = not-true _ (prefix_len_passes (λ b. not (p b)) bs k d (omega arith))
-
-module _ (p : ℕ → Bool) (bs before after : List ℕ) (b : before ≡ before_first p bs)
-    (a : after ≡ after_first p bs) where
-  -- a piece with a separator after it
-  pub cut_more : length before < length bs → slice_split p bs ≡ before ∷ slice_split p after
-  cut_more h =
-      elim (cases_lt (position_or_len p bs) (length bs)) [
-        | inl lt ↦ slice_split_first p bs 0 lt ∙ ap₂ (λ x y. x ∷ slice_split p y) (sym b) (sym a)
-        | inr ge ↦
-            let same : length before ≡ length bs = ap length (b ∙ take_all _ bs ge) in
-            absurd (omega arith)
-      ]
-
-  -- the last piece
-  pub cut_last : length bs ≤ length before → slice_split p bs ≡ before ∷ []
-  cut_last h =
-      elim (cases_lt (position_or_len p bs) (length bs)) [
-        | inl lt ↦
-            let short : length before ≡ position_or_len p bs =
-            ap length b ∙ length-take-le (position_or_len p bs) bs (omega arith) in
-            absurd (omega arith)
-        | inr ge ↦
-            slice_split_none p bs (none_passes p bs ge)
-            ∙ ap (λ x. x ∷ []) (sym (b ∙ take_all _ bs ge))
-      ]
-
--- ---- what is printed, cut
 
 joined_split : (p : ℕ → Bool) (bs rest first : List ℕ) (others : List (List ℕ))
     → All (λ b. p b ≡ false) bs → slice_split p rest ≡ first ∷ others

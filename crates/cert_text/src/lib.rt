@@ -3,7 +3,6 @@
 #![tactic(auto)]
 
 mod heading;
-mod pieces;
 mod printing;
 mod reading;
 mod variables;

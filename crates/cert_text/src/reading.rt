@@ -7,12 +7,12 @@ ghost use Rattle.cert_text.specs.Reading as texts;
 ghost use Rattle.cert_text.specs.ReadsBack.{HasItsEntries};
 
 use crate::heading::{Heading, number_after, read_heading};
-use crate::pieces::Pieces;
 use crate::printing::{push_row_head, push_variable_head};
 use crate::variables::Variables;
 use cert_core::{Certificate, DualRows, component_count};
 use lists::Sequence;
 use ratio_core::{Memory, Ratio, Ratios};
+use script_tokens::Pieces;
 use std::alloc::Global;
 use user_model::{GroupVar, Groups, Row, Rows};
 

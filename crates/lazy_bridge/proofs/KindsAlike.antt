@@ -1,15 +1,15 @@
 -- An item whose kind isn't changed chooses by other choices as it did, at each node and leaf below it. One
 -- whose kind is changed doesn't.
-use Rattle.std.specs.Prelude.{◌≡◌, ◌⊎◌, ℕ, Bool, true, false, List, [], ◌∷◌, All, Contains, Some, None, find, map, refl}
+use Rattle.std.specs.Prelude.{◌≡◌, ◌⊎◌, ℕ, Bool, true, false, List, All, Contains, Some, None, find, refl}
 use Rattle.std.proofs.Common.{arith, inl, inr, ap, sym, subst, ◌∙◌, true≢false}
-use Rattle.std.proofs.lemmas.List.Elements.{All-append, All-cons, All-contains, All-contains_itself, All-head, All-nil, All-tail, All-weaker, Contains-append_cases, Contains-append_left, Contains-append_right}
+use Rattle.std.proofs.lemmas.List.Elements.{All-contains, All-contains_itself, All-head, All-tail, All-weaker, Contains-append_cases, Contains-append_left, Contains-append_right}
 use Rattle.address_map.specs.AddressMap.{AddressMap}
-use Rattle.aff_core.specs.Address.{Address, address_eq-Decides}
+use Rattle.aff_core.specs.Address.{Address}
 use Rattle.bridge_graph.specs.declared.Choice.{Choice}
 use Rattle.push_laws.specs.Edits.{KeepsAt}
 use Rattle.expansion.specs.Bridged.{EachBridged, EachBridgedIn, each, each_in, none, none_in}
 use Rattle.found_plan.specs.KindLaws.{others_alike}
-use Rattle.found_plan.specs.Marked.{plain_in, plain_in_objective, plain_in_row}
+use Rattle.found_plan.specs.Marked.{plain_in, plain_in_objective}
 use Rattle.found_plan.specs.Read.{is_marked}
 use Rattle.fresh_bridging.specs.CanLaws.{Can}
 use Rattle.fresh_bridging.specs.Entries.{is_kept, put_in}
@@ -32,7 +32,7 @@ use Rattle.local_laws.specs.Held.{is_there}
 use Rattle.local_laws.specs.HeldLaws.{held_each_at, held_in_at}
 use Rattle.local_laws.specs.Sound.{IsValidUnder}
 use Rattle.local_laws.specs.StaysLaws.{groups_are}
-use Rattle.map_laws.specs.EachLaws.{all_both, cons_head, cons_tail}
+use Rattle.map_laws.specs.EachLaws.{all_both}
 use Rattle.model_bridging.specs.Kinds.{kind_by, kind_by_is}
 use Rattle.push_laws.specs.AgreeLaws.{own_variables as own_of}
 use Rattle.push_laws.specs.AloneLaws.{groups_found, others_found}
@@ -41,62 +41,9 @@ use Rattle.lazy_bridge.proofs.GivenKinds.{given_there, there_given}
 use Rattle.touched_items.specs.Differences.{differing_addresses}
 use Rattle.touched_items.specs.ExpressionLaws.{HasExpressions}
 use Rattle.touched_items.specs.declared.differing.Differing.{Differing}
-use Rattle.tree_laws.specs.UserLaws.{stands_in}
-use Rattle.leaf_update.specs.LeavesLaws.{among_contained}
-use Rattle.user_model.specs.Functions.{func_mentions}
-use Rattle.user_model.specs.Model.{ModelValue, objective_mentions}
-use Rattle.user_model.specs.Valid.{IsValidRow, Stands}
-use Rattle.user_model.specs.declared.function.UserFunc.{UserFunc}
-use Rattle.user_model.specs.declared.function.UserFunc.TheVariants.{Plain, Affine, PlainVec, AffineVec}
-use Rattle.user_model.specs.declared.group.Group.{Group}
-use Rattle.user_model.specs.declared.objective.Objective.{Objective}
-use Rattle.user_model.specs.declared.objective.Objective.TheVariants as objective
-use Rattle.user_model.specs.declared.row.Row.{Row}
+use Rattle.user_model.specs.Model.{ModelValue}
 use Rattle.item_core.specs.Kind.{kind_count}
-
--- ---- plain functions name the model's variables
-
-module _ (groups : List Group) where
-  abbrev IsOwn : Address → Type 0
-  IsOwn v = Contains (own_of groups) v
-
-  func_plain : (f : UserFunc)
-      → ((at : Address) → func_mentions at f ≡ true → Stands groups at)
-      → All IsOwn (plain_in_row f)
-  func_plain (Plain var) stand =
-      All-cons IsOwn var []
-      (stands_in groups var (stand var ((address_eq-Decides var var).1 refl))) (All-nil IsOwn)
-  func_plain (Affine f) stand = All-nil IsOwn
-  func_plain (PlainVec vars) stand =
-      All-weaker (Contains vars) IsOwn
-      (λ v c. stands_in groups v (stand v (among_contained v vars c))) vars
-      (All-contains_itself vars)
-  func_plain (AffineVec fs) stand = All-nil IsOwn
-
-  rows_plain : (rows : List Row) → All (IsValidRow groups) rows → All IsOwn (plain_in rows)
-  rows_plain [] h = All-nil IsOwn
-  rows_plain (r ∷ rows) h =
-      All-append IsOwn (plain_in_row r.func) (plain_in rows)
-      (func_plain r.func (All-head (IsValidRow groups) r rows h).stand)
-      (rows_plain rows (All-tail (IsValidRow groups) r rows h))
-
-  objective_plain : (o : Objective)
-      → ((at : Address) → objective_mentions at o ≡ true → Stands groups at)
-      → All IsOwn (plain_in_objective o)
-  objective_plain objective.Feasibility stand = All-nil IsOwn
-  objective_plain (objective.Plain sense var) stand =
-      All-cons IsOwn var []
-      (stands_in groups var (stand var ((address_eq-Decides var var).1 refl))) (All-nil IsOwn)
-  objective_plain (objective.Affine sense f) stand = All-nil IsOwn
-
--- ---- lists
-
-each_same : {A B : Type 0} (f g : A → B) (xs : List A) → map f xs ≡ map g xs
-    → All (λ x. f x ≡ g x) xs
-each_same f g [] e = All-nil (λ x. f x ≡ g x)
-each_same f g (x ∷ xs) e =
-    All-cons (λ x. f x ≡ g x) x xs (cons_head (f x) (g x) (map f xs) (map g xs) e)
-    (each_same f g xs (cons_tail (f x) (g x) (map f xs) (map g xs) e))
+use Rattle.push_laws.specs.PlainLaws.{each_same, objective_plain, rows_plain}
 
 module _ {setting : Setting} {model : ModelValue} (sound : IsValidUnder setting model)
     (old : FreshBridging setting model) (m : AddressMap) (has : HasExpressions m old)

@@ -22,7 +22,7 @@ pub record ChangesFew (old : Owned) (changed : ℕ) (new : Owned) : Type 0 where
   pub variables : KeepsIndices old.map.vars.indices new.map.vars.indices
   pub rows : KeepsIndices old.map.rows.indices new.map.rows.indices
 
--- the undos, the last first, lead back from a valid model to one of which the fresh bridging stands
+-- the undos, the last first, lead back from a valid model to the one whose fresh bridging is held
 pub record CanPush (old : Owned) (undos : List Undo) (after : ModelValue) : Type 0 where
   pub model : ModelValue
   pub stands : IsBridgingOf old model

@@ -6,8 +6,8 @@
 -- bridges.
 --
 --     HoldsNothing lazy          no leaf, no node, no expression, nothing noted, nothing marked
---     IsBridgingOf lazy model    the fresh bridging of the model stands in it: the solver's model,
---                                each leaf of which the map names, read through the map is its
+--     IsBridgingOf lazy model    it holds the fresh bridging of the model: the map names each leaf of
+--                                the solver's model, which read through the map is the bridging's
 --                                leaves; each bridge keeps the nodes of its family; the map has the
 --                                expression of each of the user's variables, and has noted which
 --                                rows, and whether the objective, name which variables, and which of

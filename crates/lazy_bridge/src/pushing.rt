@@ -50,9 +50,9 @@ pub(crate) struct Planned {
     pub(crate) standing: Standing,
 }
 
-// Bridges the model that is read in place of the one to which undos lead back, of which the fresh
-// bridging stands. The answer is the number of addresses at which the leaves differ. After `Memory`
-// some of this may be done.
+// Bridges the model that is read. The undos lead back from it to the model whose fresh bridging is
+// held. The answer is the number of addresses at which the leaves differ. After `Memory` some of this
+// may be done.
 pub(crate) fn push_touched<'a, B: Bridge>(
     alloc: Global,
     bridges: &mut BridgeSet<B>,

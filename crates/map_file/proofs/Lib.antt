@@ -1,5 +1,3 @@
-mod Cuts
-mod Digits
 mod InStep
 mod NameSteps
 mod PlaceSteps

@@ -10,7 +10,7 @@ use Rattle.map_file.specs.declared.reader.Reader.{Reader}
 use Rattle.map_file.specs.declared.use_text.UseText.{UseText}
 use Rattle.map_file.specs.Lines.{Progress, ended, line_read, read_from, stopped}
 use Rattle.map_file.specs.Progress.{Moves, progress_of}
-use Rattle.map_file.proofs.Cuts.{none_passes}
+use Rattle.script_tokens.specs.PieceLaws.{none_passes}
 
 -- a text has a first piece
 pub record HasFirst (pieces : List (List ℕ)) : Type 0 where

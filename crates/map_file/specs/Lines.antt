@@ -4,9 +4,8 @@
 -- A line `use NAME ROW SET` uses an earlier map. Words are separated by single spaces. The lines are
 -- counted from 1. The first wrong one ends what is read; where the file ends too early, or its last
 -- line has no newline, it is the line after the last newline.
-use Rattle.std.specs.Prelude.{ℕ, ◌+◌, ◌*◌, ◌^◌, Bool, ◌&&◌, List, [], ◌∷◌, ◌++◌, Option, Some, None, bytes_eq, codes, is_none, length, nat_le, nat_lt, slice_index_or, if◌then◌else◌, ◌==◌}
-use Rattle.std.specs.Char.{is_ascii_digit}
-use Rattle.std.specs.List.{list_all, position_from, slice_split}
+use Rattle.std.specs.Prelude.{ℕ, ◌+◌, ◌*◌, Bool, ◌&&◌, List, [], ◌∷◌, ◌++◌, Option, Some, None, bytes_eq, codes, is_none, length, nat_le, nat_lt, slice_index_or, if◌then◌else◌, ◌==◌}
+use Rattle.std.specs.List.{position_from, slice_split}
 use Rattle.std.specs.Str.{is_utf8}
 use Rattle.std.specs.Str.Parse.{digits_value}
 use Rattle.name_index.specs.Name.{name_of_token}
@@ -14,6 +13,7 @@ use Rattle.ratio_core.specs.Rational.{Rational}
 use Rattle.ratio_core.specs.Text.{rational_of}
 use Rattle.script_core.specs.Sets.{vector_set_of}
 use Rattle.script_tokens.specs.Each.{each, ◌>>=◌}
+use Rattle.script_tokens.specs.Number.{is_digits}
 use Rattle.map_file.specs.declared.file.MapFile.{MapFile}
 use Rattle.map_file.specs.declared.map_text.MapText.{MapText}
 use Rattle.map_file.specs.declared.use_text.UseText.{UseText}
@@ -36,20 +36,12 @@ words_of line = slice_split (λ b. b == 32) line
 abbrev pub numbers_in : List ℕ → Option (List Rational)
 numbers_in line = each rational_of (words_of line)
 
--- one decimal digit or more
-abbrev pub is_digits : List ℕ → Bool
-is_digits word = nat_lt 0 (length word) && list_all is_ascii_digit word
-
 -- a number from 1 to 64
 abbrev pub sized : ℕ → Option ℕ
 sized n = if nat_lt 0 n && nat_le n 64 then Some n else None
 
 abbrev pub size_of : List ℕ → Option ℕ
 size_of word = if is_digits word then sized (digits_value 10 word) else None
-
--- a number that 8 bits hold
-abbrev pub in_8_bits : ℕ → Option ℕ
-in_8_bits n = if nat_lt n (2 ^ 8) then Some n else None
 
 abbrev pub unless_empty : List ℕ → Option (List ℕ)
 unless_empty word = if length word == 0 then None else Some word

@@ -5,7 +5,6 @@
 mod file;
 mod map_text;
 mod numbers;
-mod pieces;
 mod reader;
 mod reading;
 mod size;

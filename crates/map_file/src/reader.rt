@@ -8,14 +8,14 @@ ghost use Rattle.map_file.specs.Shaped.{IsBegun, IsWhole};
 use crate::file::MapFile;
 use crate::map_text::MapText;
 use crate::numbers::read_numbers;
-use crate::pieces::Pieces;
 use crate::size::read_size;
 use crate::use_text::UseText;
-use crate::words::{map_name, vector_set};
+use crate::words::map_name;
 use lists::{Memory, Sequence};
 use name_index::{Name, Text};
 use ratio_core::Ratios;
-use script_tokens::is;
+use script_core::vector_set;
+use script_tokens::{Pieces, is};
 use std::alloc::Global;
 use std::collections::HashMap;
 

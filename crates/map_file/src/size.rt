@@ -1,10 +1,10 @@
 //! The dimension of a map.
 ghost use Rattle.std.specs.Prelude.{◌≡◌, ◌≤◌, ◌<◌, IfSome, true};
-ghost use Rattle.std.specs.Char.{is_ascii_digit};
-ghost use Rattle.std.specs.List.{list_all};
 ghost use Rattle.std.specs.Str.Parse.{digits_value};
-ghost use Rattle.map_file.specs.Lines.{in_8_bits, is_digits, size_of};
+ghost use Rattle.script_tokens.specs.Number.{in_bits, is_digits};
+ghost use Rattle.map_file.specs.Lines.{size_of};
 
+use script_tokens::is_digits;
 use std::str;
 
 // A dimension: decimal digits, of value from 1 to 64.
@@ -22,22 +22,10 @@ pub(crate) fn read_size(word: &[u8]) -> Option<usize>
     }
 }
 
-fn is_digits(word: &[u8]) -> bool
-    ensures { result ≡ is_digits word.now }
-{
-    !word.is_empty() && are_digits(word)
-}
-
-fn are_digits(word: &[u8]) -> bool
-    ensures { result ≡ list_all is_ascii_digit word.now }
-{
-    word.iter().all(|b| b.is_ascii_digit())
-}
-
 // The number that digits write, if 8 bits hold it.
 fn value(digits: &[u8]) -> Option<u8>
     requires { is_digits digits.now ≡ true }
-    ensures { result ≡ in_8_bits (digits_value 10 digits.now) }
+    ensures { result ≡ in_bits 8 (digits_value 10 digits.now) }
 {
     match str::from_utf8(digits) {
         Ok(text) => text.parse().ok(),

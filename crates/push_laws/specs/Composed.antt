@@ -190,7 +190,7 @@ module _ (e : AttachedEdit) (s : PlannedEdit e) where
       ≡ spliced_model (read_through e.places e.solver e.objective_at) gone_here s.leaves)
       (named : NamesEach places solver)
       (mapped : IsMappedAnew e s.standing places)
-      -- an image for each planned node, each old one let go, each planned one kept
+      -- an image for each planned node, each old one released, each planned one kept
       (images : t1 ≤ t0 + length s.nodes)
       (let_go : t2 ≤ t1 + length (flat_map (nodes_below states) s.addresses))
       (kept_again : t3 ≤ t2 + length s.nodes) where

@@ -56,7 +56,7 @@ module _ {setting next : Setting} {model after : ModelValue} (sound : IsValidUnd
 
   -- ---- free
 
-  -- where a node is planned, nothing is kept once all that found items had is let go
+  -- where a node is planned, nothing is kept once all nodes of the found items are released
   free_there : (family : Family) (v : Address)
       → planned sound sound_after old new found of_nodes nodes_view v ≢ None
       → finite.get (without_list (nodes_by old family) had) v ≡ None

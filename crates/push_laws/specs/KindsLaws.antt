@@ -5,9 +5,9 @@ use Rattle.std.specs.Prelude.{◌≡◌, ℕ, Bool, true, false, cond, List, [],
 use Rattle.std.specs.Option.{option_or}
 use Rattle.std.proofs.Common.{ap, ap₂, sym, subst, ◌∙◌}
 use Rattle.std.proofs.lemmas.List.{append-nil}
-use Rattle.std.proofs.lemmas.List.Elements.{All-append, All-cons, All-contains_itself, All-filter, All-head, All-nil, All-tail, All-weaker}
+use Rattle.std.proofs.lemmas.List.Elements.{All-cons, All-filter, All-head, All-nil, All-tail, All-weaker}
 use Rattle.address_map.specs.AddressMap.{AddressMap}
-use Rattle.aff_core.specs.Address.{Address, address_eq-Decides}
+use Rattle.aff_core.specs.Address.{Address}
 use Rattle.bridge_graph.specs.declared.Choice.{Choice}
 use Rattle.bridge_plan.specs.KeptGroups.{keeps}
 use Rattle.expansion.specs.Bridged.{Bridged, EachBridged, each, none}
@@ -15,7 +15,7 @@ use Rattle.expansion.specs.Grown.{Held}
 use Rattle.expansion.specs.GrownLaws.{held_each_once}
 use Rattle.expansion.specs.KeptLaws.{rebridged}
 use Rattle.found_plan.specs.KindLaws.{others_alike}
-use Rattle.found_plan.specs.Marked.{plain_in, plain_in_objective, plain_in_row}
+use Rattle.found_plan.specs.Marked.{plain_in, plain_in_objective}
 use Rattle.found_plan.specs.Read.{is_marked}
 use Rattle.fresh_bridging.specs.Entries.{Entry, expression_in, is_kept, put_in}
 use Rattle.fresh_bridging.specs.ExistenceLaws.{groups_can_all}
@@ -28,74 +28,24 @@ use Rattle.item_core.specs.Item.{variables_of}
 use Rattle.item_core.specs.KindOf.{kind_of_body}
 use Rattle.item_core.specs.declared.item.Item.{Item}
 use Rattle.item_core.specs.declared.kind.Kind.{Kind}
-use Rattle.leaf_update.specs.LeavesLaws.{among_contained}
 use Rattle.local_laws.specs.ExpressedLaws.{expression_held}
 use Rattle.local_laws.specs.FoundLaws.{group_has_tree}
 use Rattle.local_laws.specs.Held.{expressed_at, held_at_in, is_there}
 use Rattle.local_laws.specs.HeldLaws.{held_each_at}
 use Rattle.local_laws.specs.Sound.{IsValidUnder}
 use Rattle.local_laws.specs.SupportedLaws.{GroupStays, OtherStays, bridged_by_found, unsupported_group, unsupported_other}
-use Rattle.map_laws.specs.EachLaws.{all_both, all_from_map, cons_head, cons_tail}
+use Rattle.map_laws.specs.EachLaws.{all_both, all_from_map}
 use Rattle.model_bridging.specs.Found.{kept_over}
 use Rattle.model_bridging.specs.Kinds.{first_missing, is_kept_by, kept_as_told, kind_by, kind_by_is, kinds_as_they_stand}
 use Rattle.model_bridging.specs.Planned.{variables_of_the_model}
 use Rattle.model_bridging.specs.Treeless.{first_treeless, trees_there}
 use Rattle.push_laws.specs.AgreeLaws.{one_of_contained, own_variables}
 use Rattle.push_laws.specs.ToldLaws.{among_inner, kept_first, told_over, variables_once}
-use Rattle.tree_laws.specs.UserLaws.{inner_is, stands_in}
-use Rattle.user_model.specs.Functions.{func_mentions}
-use Rattle.user_model.specs.Model.{ModelValue, objective_mentions}
-use Rattle.user_model.specs.Valid.{IsValidRow, Stands}
-use Rattle.user_model.specs.declared.function.UserFunc.{UserFunc}
-use Rattle.user_model.specs.declared.function.UserFunc.TheVariants.{Plain, Affine, PlainVec, AffineVec}
-use Rattle.user_model.specs.declared.group.Group.{Group}
-use Rattle.user_model.specs.declared.objective.Objective.{Objective}
-use Rattle.user_model.specs.declared.objective.Objective.TheVariants as objective
-use Rattle.user_model.specs.declared.row.Row.{Row}
-
--- ---- plain functions name the model's variables
-
-module _ (groups : List Group) where
-  abbrev IsOwn : Address → Type 0
-  IsOwn v = Contains (own_variables groups) v
-
-  func_plain : (f : UserFunc)
-      → ((at : Address) → func_mentions at f ≡ true → Stands groups at)
-      → All IsOwn (plain_in_row f)
-  func_plain (Plain var) stand =
-      All-cons IsOwn var []
-      (stands_in groups var (stand var ((address_eq-Decides var var).1 refl))) (All-nil IsOwn)
-  func_plain (Affine f) stand = All-nil IsOwn
-  func_plain (PlainVec vars) stand =
-      All-weaker (Contains vars) IsOwn
-      (λ v c. stands_in groups v (stand v (among_contained v vars c))) vars
-      (All-contains_itself vars)
-  func_plain (AffineVec fs) stand = All-nil IsOwn
-
-  rows_plain : (rows : List Row) → All (IsValidRow groups) rows → All IsOwn (plain_in rows)
-  rows_plain [] h = All-nil IsOwn
-  rows_plain (r ∷ rows) h =
-      All-append IsOwn (plain_in_row r.func) (plain_in rows)
-      (func_plain r.func (All-head (IsValidRow groups) r rows h).stand)
-      (rows_plain rows (All-tail (IsValidRow groups) r rows h))
-
-  objective_plain : (o : Objective)
-      → ((at : Address) → objective_mentions at o ≡ true → Stands groups at)
-      → All IsOwn (plain_in_objective o)
-  objective_plain objective.Feasibility stand = All-nil IsOwn
-  objective_plain (objective.Plain sense var) stand =
-      All-cons IsOwn var []
-      (stands_in groups var (stand var ((address_eq-Decides var var).1 refl))) (All-nil IsOwn)
-  objective_plain (objective.Affine sense f) stand = All-nil IsOwn
+use Rattle.tree_laws.specs.UserLaws.{inner_is}
+use Rattle.user_model.specs.Model.{ModelValue}
+use Rattle.push_laws.specs.PlainLaws.{each_same, objective_plain, rows_plain}
 
 -- ---- lists
-
-each_same : {A B : Type 0} (f g : A → B) (xs : List A) → map f xs ≡ map g xs
-    → All (λ x. f x ≡ g x) xs
-each_same f g [] e = All-nil (λ x. f x ≡ g x)
-each_same f g (x ∷ xs) e =
-    All-cons (λ x. f x ≡ g x) x xs (cons_head (f x) (g x) (map f xs) (map g xs) e)
-    (each_same f g xs (cons_tail (f x) (g x) (map f xs) (map g xs) e))
 
 -- what holds of those that are kept and of those that are left out holds of all
 either_way : (P : Item → Type 0) (keep : Item → Bool) (items : List Item)

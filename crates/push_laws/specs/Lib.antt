@@ -9,6 +9,7 @@ pub mod RunListLaws
 pub mod HadLaws
 pub mod ToldLaws
 pub mod AloneLaws
+pub mod PlainLaws
 pub mod KindsLaws
 pub mod WithinLaws
 pub mod StandingLaws

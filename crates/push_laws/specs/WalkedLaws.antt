@@ -1,4 +1,4 @@
--- The walk over the bridges lists exactly the nodes that found items had: what is to be let go.
+-- The walk over the bridges lists exactly the nodes that found items had: what is to be released.
 use Rattle.std.specs.Prelude.{◌≡◌, ◌⊎◌, ℕ, zero, suc, List, [], ◌∷◌, ◌++◌, All, flat_map, map, Option, Some, None, refl}
 use Rattle.std.specs.Map.{keys_of}
 use Rattle.std.specs.Option.{option_map, option_map_or}

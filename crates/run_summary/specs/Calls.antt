@@ -1,24 +1,16 @@
 -- The number after `ok`.
-use Rattle.std.specs.Prelude.{ℕ, ◌^◌, ◌==◌, Bool, ◌&&◌, List, bytes_eq, codes, length, nat_le, nat_lt, Option, Some, None, unwrap_or, if◌then◌else◌}
-use Rattle.std.specs.Char.{is_ascii_digit}
-use Rattle.std.specs.List.{after_first, before_first, list_all}
+use Rattle.std.specs.Prelude.{ℕ, ◌==◌, List, bytes_eq, codes, Option, None, unwrap_or, if◌then◌else◌}
+use Rattle.std.specs.List.{after_first, before_first}
 use Rattle.std.specs.Str.Parse.{digits_value}
+use Rattle.script_tokens.specs.Number.{in_bits, is_digits}
 
 -- the first line of a text, without its newline
 abbrev pub first_line : List ℕ → List ℕ
 first_line text = before_first (λ b. b == 10) text
 
--- one decimal digit or more
-abbrev pub is_count : List ℕ → Bool
-is_count digits = nat_le 1 (length digits) && list_all is_ascii_digit digits
-
--- a number that 64 bits hold
-abbrev pub in_64_bits : ℕ → Option ℕ
-in_64_bits n = if nat_lt n (2 ^ 64) then Some n else None
-
--- the number that decimal digits write
+-- the number that decimal digits write, if 64 bits hold it
 abbrev pub count_in : List ℕ → Option ℕ
-count_in digits = if is_count digits then in_64_bits (digits_value 10 digits) else None
+count_in digits = if is_digits digits then in_bits 64 (digits_value 10 digits) else None
 
 -- the number behind `ok` in the first line, and 0 where there is none
 unfoldable pub calls_in : List ℕ → ℕ

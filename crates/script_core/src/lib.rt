@@ -21,3 +21,4 @@ pub use command::Command;
 pub use edge_cost::EdgeCost;
 pub use fault::LineFault;
 pub use line::parse_line;
+pub use sets::vector_set;

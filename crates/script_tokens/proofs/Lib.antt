@@ -1,3 +1,2 @@
 mod Names
-mod Numerals
 mod Splits

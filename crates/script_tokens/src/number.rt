@@ -3,7 +3,7 @@ ghost use Rattle.std.specs.Prelude.{◌≡◌, true};
 ghost use Rattle.std.specs.Char.{is_ascii_digit};
 ghost use Rattle.std.specs.List.{list_all};
 ghost use Rattle.std.specs.Str.Parse.{digits_value};
-ghost use Rattle.script_tokens.specs.Number.{in_32_bits, is_numeral, number_of};
+ghost use Rattle.script_tokens.specs.Number.{in_bits, is_digits, is_numeral, number_of};
 
 use std::str;
 
@@ -25,21 +25,28 @@ pub fn read_number(token: &[u8]) -> Option<u32>
 fn is_numeral(token: &[u8]) -> bool
     ensures { result ≡ is_numeral token.now }
 {
-    !token.is_empty() && token.len() <= MOST_DIGITS && are_digits(token)
+    is_digits(token) && token.len() <= MOST_DIGITS
 }
 
-fn are_digits(token: &[u8]) -> bool
-    ensures { result ≡ list_all is_ascii_digit token.now }
+/// Whether a word is one decimal digit or more.
+pub fn is_digits(word: &[u8]) -> bool
+    ensures { result ≡ is_digits word.now }
 {
-    token.iter().all(|b| b.is_ascii_digit())
+    !word.is_empty() && are_digits(word)
 }
 
-// The number that a numeral writes, if 32 bits hold it.
-fn value(numeral: &[u8]) -> Option<u32>
-    requires { is_numeral numeral.now ≡ true }
-    ensures { result ≡ in_32_bits (digits_value 10 numeral.now) }
+fn are_digits(word: &[u8]) -> bool
+    ensures { result ≡ list_all is_ascii_digit word.now }
 {
-    match str::from_utf8(numeral) {
+    word.iter().all(|b| b.is_ascii_digit())
+}
+
+// The number that digits write, if 32 bits hold it.
+fn value(digits: &[u8]) -> Option<u32>
+    requires { is_digits digits.now ≡ true }
+    ensures { result ≡ in_bits 32 (digits_value 10 digits.now) }
+{
+    match str::from_utf8(digits) {
         Ok(text) => text.parse().ok(),
         Err(_) => None,
     }

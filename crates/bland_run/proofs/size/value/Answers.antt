@@ -1,13 +1,13 @@
 use Rattle.std.proofs.Common.{◌∙◌, subst, ℕ, List}
 use Rattle.std.specs.Str.Parse.{ParsesUnsigned}
-use Rattle.bland_run.proofs.Digits.{IsUtf8-digits, parsed}
+use Rattle.script_tokens.specs.DigitLaws.{IsUtf8-digits, parsed}
 use Rattle.bland_run.proofs.size.value.Goals as goal
 
 pub returns-in-Ok : goal.returns-in-Ok
 returns-in-Ok c =
     let P : List ℕ → Type 0 = λ t. ParsesUnsigned 8 10 t c.parse.result in
     c.ok.ensures.value
-    ∙ parsed c.args.digits.now c.parse.result c.requires
+    ∙ parsed 8 c.args.digits.now c.parse.result c.requires
     (subst P c.in-Ok.ensures.cases.0 c.parse.ensures.value.0)
 
 pub returns-in-Err : goal.returns-in-Err

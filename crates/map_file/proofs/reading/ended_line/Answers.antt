@@ -1,5 +1,5 @@
 use Rattle.std.proofs.Common.{◌==◌, arith}
-use Rattle.map_file.proofs.Cuts.{cut_more, uncut}
+use Rattle.script_tokens.specs.PieceLaws.{cut_more, uncut}
 use Rattle.map_file.proofs.reading.ended_line.Goals as goal
 
 pub returns-then-line-text-clause-split : goal.returns-then-line-text-clause-split

@@ -3,20 +3,20 @@ ghost use Rattle.std.specs.Prelude.{◌≡◌, ◌==◌};
 ghost use Rattle.std.specs.Iterator.{YieldsFirstBy, item_count};
 ghost use Rattle.std.specs.List.{slice_split};
 
-use script_tokens::parted_at;
+use crate::tokens::parted_at;
 use std::marker::Model;
 
 /// The pieces that are left of a text: its lines, or the words of a line. What stands after the
 /// last separator is the last piece.
 #[derive(Drop)]
-pub(crate) struct Pieces<'a> {
+pub struct Pieces<'a> {
     rest: Option<&'a [u8]>,
     separator: u8,
 }
 
 impl<'a> Model for Pieces<'a> {
     ghost use Rattle.std.specs.Prelude.{List, ℕ};
-    ghost use Rattle.bland_run.specs.Left.{pieces_left};
+    ghost use Rattle.script_tokens.specs.Pieces.{pieces_left};
 
     ghost Value = { List (List ℕ) };
 
@@ -24,7 +24,7 @@ impl<'a> Model for Pieces<'a> {
 }
 
 impl<'a> Pieces<'a> {
-    pub(crate) fn new(text: &'a [u8], separator: u8) -> Pieces<'a>
+    pub fn new(text: &'a [u8], separator: u8) -> Pieces<'a>
         ensures { result ≡ slice_split (λ b. b == separator) text.now }
     {
         Pieces {

@@ -1,4 +1,4 @@
--- What iterators have left.
+-- Text cut at each separator.
 use Rattle.std.specs.Prelude.{ℕ, List, [], Option, Some, None, ◌==◌}
 use Rattle.std.specs.List.{slice_split}
 use Rattle.std.specs.Borrow.{Bor}

@@ -1,8 +1,8 @@
 use Rattle.std.proofs.Common.{◌==◌, ◌∷◌, ◌∙◌, sym, ap, length, arith, rules}
-use Rattle.cert_text.specs.Left.{pieces_left}
-use Rattle.cert_text.proofs.Cuts.{cut_last, cut_more}
-use Rattle.cert_text.proofs.pieces.PiecesIterator.next.Goals as goal
-use Rattle.cert_text.proofs.pieces.PiecesIterator.next.Goals.{then-piece-text, else-piece-text}
+use Rattle.script_tokens.specs.Pieces.{pieces_left}
+use Rattle.script_tokens.specs.PieceLaws.{cut_last, cut_more}
+use Rattle.script_tokens.proofs.pieces.PiecesIterator.next.Goals as goal
+use Rattle.script_tokens.proofs.pieces.PiecesIterator.next.Goals.{then-piece-text, else-piece-text}
 
 pub returns-clause-steps : goal.returns-clause-steps
 returns-clause-steps c =
@@ -17,8 +17,8 @@ returns-clause-steps c =
           ∙ ap (λ rest. piece ∷ pieces_left separator rest) (sym w.self-is)
       | else-piece-text w ↦
           text
-          ∙ cut_last (λ b. b == separator) c.in_ok-text.text.now piece c.parted_at.result.1.now
-          c.parted_at.ensures.before c.parted_at.ensures.after (omega arith)
+          ∙ cut_last (λ b. b == separator) c.in_ok-text.text.now piece c.parted_at.ensures.before
+          (omega arith)
           ∙ ap (λ rest. piece ∷ pieces_left separator rest) (sym w.self-is)
     ]
 
