@@ -80,7 +80,7 @@ module _ {setting next : Setting} {model after : ModelValue} (sound : IsValidUnd
       bridges_hold sound sound_after old new found apart others before behind hold
       (kept ∙ ap (map (with_each planned)) gone ∙ both_is had planned before)
 
-  -- an image for each new node, each old one let go, and each new one kept
+  -- an image for each new node, each old one released, and each new one kept
   pub few_turns : All (IsTouched old new) found → (t0 t1 t2 t3 : ℕ)
       → t1 ≤ t0 + length planned → t2 ≤ t1 + length had → t3 ≤ t2 + length planned
       → (n : ℕ) × IsInner old new n × (t3 ≤ t0 + 2 * n)

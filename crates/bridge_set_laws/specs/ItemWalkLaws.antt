@@ -118,7 +118,7 @@ module _ {setting : Setting} {model : ModelValue} (sound : IsValidUnder setting 
           none_some : Some x ≡ None → ⊥
           none_some e = cc
 
-  -- of several items, one after another: what is to be let go
+  -- of several items, one after another: what is to be released
   pub old_nodes : (fuel : ℕ) → kind_count ≤ fuel → (found : List Address)
       → All (λ at. (x : Item) × (item_at model at ≡ Some x)) found
       → flat_map (walk places_now fuel) found ≡ keys_of (held_by bridging of_nodes found)

@@ -121,7 +121,7 @@ module _ {setting : Setting} {model : ModelValue} (sound : IsValidUnder setting 
         ap (λ (p : Address → Option ℕ). flat_map (walk p fuel) found) (λ i v. same_places v i)
         ∙ old_nodes sound bridging fuel deep found h
 
-    -- so the bridges' own list is what is to be let go
+    -- so the bridges' own list is what is to be released
     pub nodes_listed : (found : List Address)
         → All (λ at. (x : Item) × (item_at model at ≡ Some x)) found
         → flat_map (nodes_below states) found ≡ keys_of (held_by bridging of_nodes found)

@@ -1,5 +1,5 @@
--- What a cache is to its user: the user's model; the table, with the families of which there is a
--- bridge; and whether a solver is attached. What an attached solver holds is a function of these: the
+-- What a cache is to its user: the user's model; the table, with the families that have a bridge;
+-- and whether a solver is attached. What an attached solver holds is a function of these: the
 -- fresh bridging of the model by the table.
 use Rattle.std.specs.Prelude.{◌≡◌, ℕ, Bool, true, false, Some}
 use Rattle.aff_core.specs.Address.{Address}

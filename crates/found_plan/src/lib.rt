@@ -1,5 +1,5 @@
-//! The items that an edit touches, bridged by themselves: whether each has a tree, what stands for
-//! the variables that they name, and which leaves they had.
+//! The items that an edit touches, rewritten without the rest of the model: whether each has a tree,
+//! the expression of each variable that they name, and which leaves they had.
 #![tactic(auto)]
 
 mod kinds;

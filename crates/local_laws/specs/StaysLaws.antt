@@ -96,7 +96,7 @@ others_are model =
     last (objective.Affine sense func) =
         All-cons (λ i. is_group i.body ≡ false) _ [] refl (All-nil (λ i. is_group i.body ≡ false))
 
--- ---- one item, bridged by choices that agree
+-- ---- one item, and choices that agree
 
 module _ {rules : Rules Item Entry} where
   pub held_once_at : (x y : Item) {es fs : List Entry} → x ≡ y → (tree : Bridged rules x es)

@@ -152,7 +152,7 @@ one_kind a items c inside leads =
           (All-cons (λ x. true ≡ true → x ≡ a) a [] (λ _. refl) (All-nil (λ x. true ≡ true → x ≡ a))),
     ) (All-nil (Occurs items))
 
--- two children, of which the second passes a test
+-- two children; the second passes a test
 two_kinds : (test : Kind → Bool) (a b : Kind) (i j : Item) → test a ≡ false → test b ≡ true
     → test (kind_of_body i.body) ≡ false → test (kind_of_body j.body) ≡ true
     → All (Leads (a ∷ b ∷ [])) (i ∷ j ∷ []) → All (Occurs (i ∷ j ∷ [])) (a ∷ b ∷ [])
