@@ -23,11 +23,15 @@ class Comparison:
             raise Difference(f"{program} {' '.join(words)} ended with status {done.returncode}")
         return done.stdout.decode("ascii").split("\n")[:-1]
 
-    def compare(self, text):
-        """Asks both programs about the model of a text."""
-        path = os.path.join(self.folder, "model.mof.json")
+    def written(self, name, text):
+        path = os.path.join(self.folder, name)
         with open(path, "w", encoding="ascii") as file:
             file.write(text)
+        return path
+
+    def compare(self, text):
+        """Asks both programs about the model of a text."""
+        path = self.written("model.mof.json", text)
         solved, dual = self.answer(self.edit, "solve", path), self.answer(self.dual, "solve", path)
         # `solve` answers two lines, to load and to attach, before that of the optimise.
         said = next((line for line in solved if not line.startswith("ok")), "nothing")
@@ -48,9 +52,8 @@ class Comparison:
     def compare_optimal(self, path, solved, dual, value):
         self.hold(dual[0] == f"dual {value}", solved, dual)
         point = [line for line in solved if line.startswith("primal ")]
-        certificate = os.path.join(self.folder, "certificate.txt")
-        with open(certificate, "w", encoding="ascii") as file:
-            file.writelines(f"{line}\n" for line in [f"optimal {value}", *point, *dual[1:]])
+        lines = [f"optimal {value}", *point, *dual[1:]]
+        certificate = self.written("certificate.txt", "".join(f"{line}\n" for line in lines))
         judged = self.answer(self.edit, "check", path, certificate)
         if judged[:1] == ["refused 17 Overflow check"]:
             self.count["not judged"] += 1

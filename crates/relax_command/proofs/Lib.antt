@@ -1,0 +1,5 @@
+pub mod Told
+pub mod Made
+pub mod Lines
+pub mod Kept
+pub mod LeftLemmas

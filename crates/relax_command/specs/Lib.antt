@@ -1,0 +1,4 @@
+pub mod Text
+pub mod Left
+pub mod Says
+pub mod SaysLaws

@@ -1,0 +1,88 @@
+//! What is answered to a file.
+ghost use Rattle.std.specs.Prelude.{◌≡◌, ◌≢◌, [], ◌∷◌, All, IsTrue};
+ghost use Rattle.std.specs.Prelude as prelude;
+ghost use Rattle.std.specs.FinMap as finite;
+ghost use Rattle.bridge_set.specs.Bridges.{families_of, occur_once};
+ghost use Rattle.file_command.specs.Loading.{AnswersFile, MakesOn};
+ghost use Rattle.io_face.specs.Fault.{HasFaulted};
+ghost use Rattle.io_face.specs.Shelf.{AsksFor};
+ghost use Rattle.io_face.specs.Told.{told_by};
+ghost use Rattle.model_command.specs.Alone.{standard_by};
+ghost use Rattle.model_load.specs.Loads.{after_edits};
+ghost use Rattle.relax_command.specs.Says.{Relaxes, Says};
+
+use crate::solving::solved;
+use bridge_face::Bridge;
+use file_command::model_of;
+use io_face::Shelf;
+use model_load::load_all;
+use model_store::UserModel;
+use name_index::Name;
+use relaxation::relaxed;
+use report_core::{Answer, Refused, refusal};
+use std::alloc::Global;
+use user_model::{ApplyFault, Edit};
+
+/// What is answered to the file of a name. It is asked for once, and no other is.
+pub(crate) fn answer<H: Shelf, B: Bridge>(
+    alloc: Global,
+    name: &Name,
+    shelf: &mut H,
+    bridges: Vec<B>,
+) -> Answer
+    requires once { IsTrue (occur_once (families_of (prelude.map B.state bridges.items))) }
+    requires kept { All (λ s. s.kept ≡ finite.empty) (prelude.map B.state bridges.items) }
+    ensures answers { let setting = standard_by (prelude.map B.state bridges.items) in
+        let told = told_by (H.files shelf.old) (H.sure shelf.old) in
+        result ≢ Answer.Memory → AnswersFile (Says setting) told name.now result }
+    ensures cause { result ≡ Answer.ReadFault
+        → HasFaulted (H.faults shelf.old) (H.faults shelf.new) }
+    ensures sound { result ≢ Answer.ReadFault → H.faults shelf.new ≡ H.faults shelf.old }
+    ensures asks { result ≢ Answer.Memory
+        → AsksFor (H.asked shelf.old) (H.asked shelf.new) (name.now ∷ []) }
+{
+    match model_of(alloc, shelf, name) {
+        Ok(model) => answer_on(alloc, model, bridges),
+        Err(answer) => answer,
+    }
+}
+
+// What is answered to a model.
+fn answer_on<B: Bridge>(alloc: Global, model: UserModel, bridges: Vec<B>) -> Answer
+    requires settled { model.parked ≡ [] }
+    requires once { IsTrue (occur_once (families_of (prelude.map B.state bridges.items))) }
+    requires kept { All (λ s. s.kept ≡ finite.empty) (prelude.map B.state bridges.items) }
+    ensures { result ≢ Answer.Memory
+        → Says (standard_by (prelude.map B.state bridges.items)) model.model result }
+{
+    let mut model = model;
+    match relax(alloc, &mut model) {
+        Ok(()) => solved(alloc, model, bridges).unwrap_or(Answer::Memory),
+        Err(answer) => answer,
+    }
+}
+
+// Makes the relaxation of a model out of it, or tells what is answered where a limit is passed.
+fn relax(alloc: Global, model: &mut UserModel) -> Result<(), Answer>
+    ensures { Relaxes model.old result model.new }
+{
+    // what this ensures: the model is valid
+    let _valid = model.rows();
+    match relaxed(alloc, model) {
+        Ok(edits) => make_all(alloc, model, edits.into_vec()),
+        Err(_) => Err(Answer::Memory),
+    }
+}
+
+// Makes edits of a model, all or none.
+fn make_all(alloc: Global, model: &mut UserModel, edits: Vec<Edit>) -> Result<(), Answer>
+    ensures { MakesOn (after_edits model.old.model edits.items) model.old.parked result model.new }
+{
+    match load_all(model, edits) {
+        Ok(()) => Ok(()),
+        Err(ApplyFault::Refused(reason)) => {
+            Err(refusal(alloc, &Refused::from(reason)).unwrap_or(Answer::Memory))
+        }
+        Err(ApplyFault::Memory) => Err(Answer::Memory),
+    }
+}

@@ -1,0 +1,145 @@
+//! The texts of the command's answers.
+ghost use Rattle.std.specs.Prelude.{◌≡◌, ◌++◌, IfOk, OnOk};
+ghost use Rattle.cert_text.specs.Text.{ended, numbers_text, row_line, row_lines, text_of_lines};
+ghost use Rattle.relax_command.specs.Text.{missed_line, missed_lines, relaxation_text};
+ghost use Rattle.relaxed_model.specs.Relaxed.{hard_rows, soft_rows};
+
+use crate::parts::RowsLeft;
+use file_command::push_numbers;
+use lists::Memory;
+use model_store::UserModel;
+use name_index::Text;
+use ratio_core::{Ratio, Ratios};
+use relaxation::Relaxation;
+use report_core::Draft;
+use std::alloc::Global;
+use user_model::{Row, Rows};
+
+/// The text of what the relaxation of a model says of it, by the rows and variables of the
+/// relaxation.
+pub(crate) fn relaxation_text(
+    alloc: Global,
+    relaxed: &UserModel,
+    relaxation: &Relaxation,
+) -> Result<Text, Memory>
+    ensures { IfOk result (λ text. text ≡ relaxation_text relaxed.now.model relaxation.now) }
+{
+    let mut draft = Draft::new(alloc);
+    push_relaxation(&mut draft, relaxed, relaxation)?;
+    Ok(draft.into_text())
+}
+
+fn push_relaxation(
+    draft: &mut Draft,
+    relaxed: &UserModel,
+    relaxation: &Relaxation,
+) -> Result<(), Memory>
+    ensures { OnOk result (draft.new ≡ draft.old
+        ++ relaxation_text relaxed.now.model relaxation.now) }
+{
+    match relaxation {
+        Relaxation::Least { total, x, missed } => {
+            push_least(draft, relaxed, total, x.as_slice(), missed.as_slice())
+        }
+        Relaxation::Hopeless { gap, rows, vars } => {
+            push_hopeless(draft, relaxed, gap, rows.as_slice(), vars.as_slice())
+        }
+    }
+}
+
+// `relaxed V`, a line for each variable and one for each soft row.
+fn push_least(
+    draft: &mut Draft,
+    relaxed: &UserModel,
+    total: &Ratio,
+    x: &[Ratio],
+    missed: &[Ratio],
+) -> Result<(), Memory>
+    ensures { OnOk result (draft.new ≡ draft.old ++ relaxation_text relaxed.now.model
+        (Relaxation.Least total.now x.now missed.now)) }
+{
+    draft.push("relaxed ")?;
+    draft.push_ratio(total)?;
+    draft.push("\n")?;
+    push_numbers(draft, "primal ", relaxed.groups(), x)?;
+    push_missed(draft, relaxed.rows(), missed)
+}
+
+// A line for each soft row.
+fn push_missed(draft: &mut Draft, rows: &Rows, missed: &[Ratio]) -> Result<(), Memory>
+    ensures { OnOk result (draft.new ≡ draft.old
+        ++ text_of_lines (missed_lines (soft_rows rows.now.items) missed.now)) }
+{
+    let mut left = RowsLeft::soft(rows);
+    for number in missed {
+        let Some(row) = left.next() else {
+            return Ok(());
+        };
+        push_one_missed(draft, row, number)?;
+    }
+    Ok(())
+}
+
+fn push_one_missed(draft: &mut Draft, row: &Row, missed: &Ratio) -> Result<(), Memory>
+    ensures { OnOk result (draft.new ≡ draft.old
+        ++ ended (missed_line (row.now, missed.now))) }
+{
+    draft.push("over ")?;
+    draft.push_name(&row.name)?;
+    draft.push(" ")?;
+    draft.push_ratio(missed)?;
+    draft.push("\n")
+}
+
+// The lines of a certificate of the hard rows.
+fn push_hopeless(
+    draft: &mut Draft,
+    relaxed: &UserModel,
+    gap: &Ratio,
+    duals: &[Ratios],
+    vars: &[Ratio],
+) -> Result<(), Memory>
+    ensures { OnOk result (draft.new ≡ draft.old ++ relaxation_text relaxed.now.model
+        (Relaxation.Hopeless gap.now duals.now vars.now)) }
+{
+    draft.push("infeasible ")?;
+    draft.push_ratio(gap)?;
+    draft.push("\n")?;
+    push_duals(draft, relaxed.rows(), duals)?;
+    push_numbers(draft, "dual var ", relaxed.groups(), vars)
+}
+
+// A line for each hard row.
+fn push_duals(draft: &mut Draft, rows: &Rows, duals: &[Ratios]) -> Result<(), Memory>
+    ensures { OnOk result (draft.new ≡ draft.old
+        ++ text_of_lines (row_lines (hard_rows rows.now.items) duals.now)) }
+{
+    let mut left = RowsLeft::hard(rows);
+    for own in duals {
+        let Some(row) = left.next() else {
+            return Ok(());
+        };
+        push_row(draft, row, own.as_slice())?;
+    }
+    Ok(())
+}
+
+fn push_row(draft: &mut Draft, row: &Row, duals: &[Ratio]) -> Result<(), Memory>
+    ensures { OnOk result (draft.new ≡ draft.old ++ ended (row_line (row.now, duals.now))) }
+{
+    draft.push("dual row ")?;
+    draft.push_name(&row.name)?;
+    push_each(draft, duals)?;
+    draft.push("\n")
+}
+
+// Numbers, each after a space.
+fn push_each(draft: &mut Draft, numbers: &[Ratio]) -> Result<(), Memory>
+    ensures { OnOk result (draft.new ≡ draft.old ++ numbers_text numbers.now) }
+{
+    for number in numbers {
+        draft.push(" ")?;
+        draft.push_ratio(number)?;
+    }
+    Ok(())
+}

@@ -1,0 +1,179 @@
+-- The rows of the relaxation have as many slacks as the model's own, so a certificate is read by
+-- them as by the model's.
+use Rattle.std.specs.Prelude.{◌≡◌, ℕ, ◌+◌, ◌-◌, ◌≤◌, cond, not, List, [], ◌∷◌, Result, Ok, Err, IfOk, drop, length, take, refl}
+use Rattle.std.proofs.Common.{ap, ap₂, arith, subst, sym, ◌∙◌}
+use Rattle.lists.specs.declared.memory.Memory.{Memory}
+use Rattle.ratio_core.specs.Rational.{Rational}
+use Rattle.certificates.specs.declared.certificate.Certificate.{Certificate}
+use Rattle.certificates.specs.declared.certificate.Certificate.TheVariants.{Infeasible, Optimal, Unbounded}
+use Rattle.certificates.specs.Good.{Good, IsInfeasible, IsOptimal, IsUnbounded}
+use Rattle.user_model.specs.declared.function.UserFunc.{UserFunc}
+use Rattle.user_model.specs.declared.function.UserFunc.TheVariants.{Plain, Affine, PlainVec, AffineVec}
+use Rattle.user_model.specs.declared.row.Row.{Row}
+use Rattle.user_model.specs.Model.{ModelValue, variables}
+use Rattle.user_model.specs.Valid.{IsValid}
+use Rattle.relaxed_model.specs.HardLaws.{hard_infeasible}
+use Rattle.relaxed_model.specs.LeastLaws.{least_is, never_unbounded}
+use Rattle.relaxed_model.specs.PlacedLaws.{length-relaxed}
+use Rattle.relaxed_model.specs.Relaxed.{at_hard_rows, is_hard, is_soft, missed_by, relaxed_model, relaxed_row, relaxed_rows, row_signs, slack_count, slack_overs}
+use Rattle.relaxation.specs.Answers.{IsRelaxedFrom, Reads, Shows, hopeless_by, least_by}
+use Rattle.relaxation.specs.KeptLaws.{soft_kept}
+use Rattle.relaxation.specs.declared.reading.Relaxation.{Relaxation}
+use Rattle.relaxation.specs.declared.reading.Relaxation.TheVariants.{Hopeless, Least}
+
+signs_kept : (n : ℕ) (r : Row) → row_signs (relaxed_row n r) ≡ row_signs r
+signs_kept n r = by r.func
+  where
+    by : (func : UserFunc) → row_signs (relaxed_row n (record r { func = func }))
+        ≡ row_signs (record r { func = func })
+    by (Plain var) = refl
+    by (Affine f) = refl
+    by (PlainVec vars) = refl
+    by (AffineVec fs) = refl
+
+count_kept : (n : ℕ) (rows : List Row) → slack_count (relaxed_rows n rows) ≡ slack_count rows
+count_kept n [] = refl
+count_kept n (r ∷ rows) =
+    ap₂ (λ j k. j + k) (ap length (signs_kept n r)) (count_kept (n + length (row_signs r)) rows)
+
+overs_kept : (n : ℕ) (rows : List Row) (s : List Rational)
+    → slack_overs (relaxed_rows n rows) s ≡ slack_overs rows s
+overs_kept n [] s = refl
+overs_kept n (r ∷ rows) s =
+    let later : ℕ = n + length (row_signs r) in
+    (λ i. cond (soft_kept n r i)
+    (missed_by (take (length (signs_kept n r i)) s)
+    ∷ slack_overs (relaxed_rows later rows) (drop (length (signs_kept n r i)) s))
+    (slack_overs (relaxed_rows later rows) s))
+    ∙ ap₂ (λ these those. cond (is_soft r)
+    (missed_by (take (length (row_signs r)) s) ∷ these) those)
+    (overs_kept later rows (drop (length (row_signs r)) s)) (overs_kept later rows s)
+
+hard_kept : (n : ℕ) (rows : List Row) (ys : List (List Rational))
+    → at_hard_rows (relaxed_rows n rows) ys ≡ at_hard_rows rows ys
+hard_kept n [] ys = refl
+hard_kept n (r ∷ rows) [] = refl
+hard_kept n (r ∷ rows) (y ∷ ys) =
+    let later : ℕ = n + length (row_signs r) in
+    (λ i. cond (not (soft_kept n r i)) (y ∷ at_hard_rows (relaxed_rows later rows) ys)
+    (at_hard_rows (relaxed_rows later rows) ys))
+    ∙ ap (λ zs. cond (is_hard r) (y ∷ zs) zs) (hard_kept later rows ys)
+
+-- ---- certificates
+
+module _ (model relaxed : ModelValue) (from : IsRelaxedFrom model relaxed) where
+  rows_are : relaxed.rows ≡ relaxed_rows model.next.variable model.rows
+  rows_are = ap (λ (m : ModelValue). m.rows) from.is
+
+  count_is : slack_count relaxed.rows ≡ slack_count model.rows
+  count_is = ap slack_count rows_are ∙ count_kept model.next.variable model.rows
+
+  -- of a list with a number for each variable of the relaxation
+  module _ (z : List Rational) (size : length z ≡ length (variables relaxed)) where
+    pub enough : slack_count relaxed.rows ≤ length z
+    enough =
+        omega (
+          arith,
+          size,
+          ap (λ (m : ModelValue). length (variables m)) from.is,
+          length-relaxed model from.valid.consistent,
+          count_is,
+        )
+
+    own_size : length z - slack_count relaxed.rows ≡ length (variables model)
+    own_size =
+        omega (
+          arith,
+          size,
+          ap (λ (m : ModelValue). length (variables m)) from.is,
+          length-relaxed model from.valid.consistent,
+          count_is,
+        )
+
+  pub reads_least : (value : Rational) (z : List Rational) (rows : List (List Rational))
+      (vars : List Rational) → length z ≡ length (variables relaxed)
+      → least_by relaxed.rows (length z - slack_count relaxed.rows) value z
+      ≡ least_by model.rows (length (variables model)) value z
+  reads_least value z rows vars size =
+      ap₂ (λ rs k. least_by rs k value z) rows_are (own_size z size)
+      ∙ ap (Least value (take (length (variables model)) z))
+      (overs_kept model.next.variable model.rows (drop (length (variables model)) z))
+
+  pub reads_hopeless : (gap : Rational) (rows : List (List Rational)) (vars : List Rational)
+      → length vars ≡ length (variables relaxed)
+      → hopeless_by relaxed.rows (length vars - slack_count relaxed.rows) gap rows vars
+      ≡ hopeless_by model.rows (length (variables model)) gap rows vars
+  reads_hopeless gap rows vars size =
+      ap₂ (λ rs k. hopeless_by rs k gap rows vars) rows_are (own_size vars size)
+      ∙ ap (λ ys. Hopeless gap ys (take (length (variables model)) vars))
+      (hard_kept model.next.variable model.rows rows)
+
+  -- what is read is shown
+  pub shows : (certificate : Certificate) (answer : Relaxation) → IsValid relaxed
+      → Good relaxed certificate → Reads model certificate answer → Shows model answer
+  shows (Optimal value z rows vars) answer valid good reads =
+      subst (Shows model) (sym reads)
+      (least_is model from.valid (subst IsValid from.is valid) value z rows vars
+      (subst (λ m. IsOptimal m value z rows vars) from.is good))
+  shows (Infeasible gap rows vars) answer valid good reads =
+      subst (Shows model) (sym reads)
+      (hard_infeasible model from.valid gap rows vars
+      (subst (λ m. IsInfeasible m gap rows vars) from.is good))
+  shows (Unbounded x d) answer valid good reads = absurd reads
+
+  pub not_unbounded : (x d : List Rational) → ¬ (Good relaxed (Unbounded x d))
+  not_unbounded x d good =
+      never_unbounded model from.valid x d (subst (λ m. IsUnbounded m x d) from.is good)
+
+  -- ---- what is answered to a certificate
+
+  module _ (own : List Row) (count : ℕ) (same : own ≡ relaxed.rows)
+      (counted : count ≡ slack_count own) where
+    counted_too : count ≡ slack_count relaxed.rows
+    counted_too = counted ∙ ap slack_count same
+
+    pub enough_for : (z : List Rational) → length z ≡ length (variables relaxed)
+        → count ≤ length z
+    enough_for z size = omega (arith, counted_too, enough z size)
+
+    module _ (certificate : Certificate) (good : Good relaxed certificate)
+        (told : Result Relaxation Memory) where
+      pub told_least : (value : Rational) (z : List Rational) (rows : List (List Rational))
+          (vars : List Rational) → certificate ≡ Optimal value z rows vars
+          → IfOk told (λ answer. answer ≡ least_by own (length z - count) value z)
+          → IfOk told (Reads model certificate)
+      told_least value z rows vars is h = by told h
+        where
+          by : (r : Result Relaxation Memory)
+              → IfOk r (λ answer. answer ≡ least_by own (length z - count) value z)
+              → IfOk r (Reads model certificate)
+          by (Ok answer) h =
+              subst (λ c. Reads model c answer) (sym is)
+              (h ∙ ap₂ (λ rs k. least_by rs (length z - k) value z) same counted_too
+              ∙ reads_least value z rows vars (subst (Good relaxed) is good).feasible.size)
+          by (Err e) h = tt
+
+      pub told_hopeless : (gap : Rational) (rows : List (List Rational)) (vars : List Rational)
+          → certificate ≡ Infeasible gap rows vars
+          → IfOk told (λ answer. answer ≡ hopeless_by own (length vars - count) gap rows vars)
+          → IfOk told (Reads model certificate)
+      told_hopeless gap rows vars is h = by told h
+        where
+          by : (r : Result Relaxation Memory)
+              → IfOk r (λ answer. answer ≡ hopeless_by own (length vars - count) gap rows vars)
+              → IfOk r (Reads model certificate)
+          by (Ok answer) h =
+              subst (λ c. Reads model c answer) (sym is)
+              (h ∙ ap₂ (λ rs k. hopeless_by rs (length vars - k) gap rows vars) same counted_too
+              ∙ reads_hopeless gap rows vars
+              (subst (Good relaxed) is good).duals.each_variable)
+          by (Err e) h = tt
+
+      pub told_shown : IsValid relaxed → IfOk told (Reads model certificate)
+          → IfOk told (Shows model)
+      told_shown valid h = by told h
+        where
+          by : (r : Result Relaxation Memory) → IfOk r (Reads model certificate)
+              → IfOk r (Shows model)
+          by (Ok answer) h = shows certificate answer valid good h
+          by (Err e) h = tt

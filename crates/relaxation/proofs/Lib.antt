@@ -1,0 +1,6 @@
+pub mod RowLemmas
+pub mod MadeLemmas
+pub mod KeptLemmas
+pub mod NameLemmas
+pub mod LoopLemmas
+pub mod TermLemmas

@@ -1,0 +1,3 @@
+pub mod RelaxedEdits
+pub mod Answers
+pub mod KeptLaws

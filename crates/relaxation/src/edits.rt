@@ -1,0 +1,149 @@
+//! The edits that lead to the relaxation.
+ghost use Rattle.std.specs.Prelude.{◌≡◌, ◌∷◌, ◌++◌, ◌≤◌, [], Ok, IfOk, OnOk, length, map};
+ghost use Rattle.std.specs.List.{IsDistinct};
+ghost use Rattle.std.specs.Str.{bytes_eq};
+ghost use Rattle.model_load.specs.Loads.{after_edits};
+ghost use Rattle.named_aff.specs.Distinct.{HasDistinctNames};
+ghost use Rattle.user_model.specs.Model.{ModelValue};
+ghost use Rattle.relaxed_model.specs.Relaxed.{relaxed_model, slack_count};
+ghost use Rattle.relaxation.specs.RelaxedEdits.{edit_of_slack, edit_of_sum, edits_in, edits_of_rows, relaxed_edits, slack_term};
+
+use crate::names::free_names;
+use crate::rows::{row_signs, slack_count};
+use lists::{Duplicate, Memory, Sequence};
+use model_store::UserModel;
+use name_index::{Name, Names};
+use named_aff::{NamedAff, NamedTerm, NamedTerms};
+use ratio_core::Ratio;
+use set_core::Set;
+use std::alloc::Global;
+use user_model::{Edit, NamedFunc, Rows, Sense};
+
+/// Edits in their order.
+pub type Edits = Sequence<Edit>;
+
+/// The edits that lead from a model to its relaxation: a variable of at least 0 for each side on which
+/// a scalar affine row may be missed, its coefficients, and the least sum of these variables as the
+/// objective.
+pub fn relaxed(alloc: Global, model: &UserModel) -> Result<Edits, Memory>
+    ensures edits { IfOk result (λ edits. edits ≡ relaxed_edits model.now.model) }
+    ensures leads { IfOk result (λ edits. (m : ModelValue)
+        → after_edits model.now.model edits ≡ Ok m → m ≡ relaxed_model model.now.model) }
+{
+    let rows = model.rows();
+    let names = free_names(alloc, model, slack_count(rows))?;
+    let edits = edits_with(alloc, rows, names.as_slice())?;
+    Ok(Sequence::from_vec(edits))
+}
+
+// The edits, where these are the names of the slacks.
+fn edits_with(alloc: Global, rows: &Rows, names: &[Name]) -> Result<Vec<Edit>, Memory>
+    requires size { length names.now ≡ slack_count rows.now.items }
+    requires distinct { IsDistinct bytes_eq names.now }
+    ensures { IfOk result (λ edits. edits.items ≡ map edit_of_slack names.now
+        ++ (edits_of_rows rows.now.items names.now ++ edit_of_sum names.now ∷ [])) }
+{
+    let mut edits = Vec::new(alloc);
+    push_groups(alloc, &mut edits, names)?;
+    push_rows(alloc, &mut edits, rows, names)?;
+    edits.push(sum_edit(alloc, names)?)?;
+    Ok(edits)
+}
+
+fn push_groups(alloc: Global, edits: &mut Vec<Edit>, names: &[Name]) -> Result<(), Memory>
+    ensures { OnOk result (edits.new.items ≡ edits.old.items ++ map edit_of_slack names.now) }
+{
+    for name in names {
+        let alone = Names::from_vec(vec![in alloc; name.copy()?]?);
+        edits.push(Edit::AddGroup {
+            names: alone,
+            set: Set::Nonnegatives { dimension: 1 },
+        })?;
+    }
+    Ok(())
+}
+
+fn push_rows(
+    alloc: Global,
+    edits: &mut Vec<Edit>,
+    rows: &Rows,
+    names: &[Name],
+) -> Result<(), Memory>
+    requires { slack_count rows.now.items ≤ length names.now }
+    ensures { OnOk result (edits.new.items ≡ edits.old.items
+        ++ edits_of_rows rows.now.items names.now) }
+{
+    let mut left = names;
+    for row in rows.iter() {
+        let signs = row_signs(alloc, row)?;
+        let (own, others) = left.split_at(signs.len());
+        push_coefficients(edits, &row.name, own, signs.as_slice())?;
+        left = others;
+    }
+    Ok(())
+}
+
+// Appends the edits that give variables coefficients in a row.
+fn push_coefficients(
+    edits: &mut Vec<Edit>,
+    row: &Name,
+    names: &[Name],
+    signs: &[Ratio],
+) -> Result<(), Memory>
+    requires { length names.now ≡ length signs.now }
+    ensures { OnOk result (edits.new.items ≡ edits.old.items
+        ++ edits_in row.now names.now signs.now) }
+{
+    for (i, sign) in signs.iter().enumerate() {
+        let row = row.copy()?;
+        let var = names[i].copy()?;
+        edits.push(Edit::Coef {
+            row,
+            var,
+            value: *sign,
+        })?;
+    }
+    Ok(())
+}
+
+// The least sum of variables as the objective.
+fn sum_edit(alloc: Global, names: &[Name]) -> Result<Edit, Memory>
+    requires { IsDistinct bytes_eq names.now }
+    ensures { IfOk result (λ edit. edit ≡ edit_of_sum names.now) }
+{
+    let terms = sum_terms(alloc, names)?;
+    Ok(Edit::Objective {
+        sense: Sense::Min,
+        func: NamedFunc::Affine(NamedAff {
+            terms,
+            constant: Ratio::zero(),
+        }),
+    })
+}
+
+fn sum_terms(alloc: Global, names: &[Name]) -> Result<NamedTerms, Memory>
+    requires { IsDistinct bytes_eq names.now }
+    ensures { IfOk result (λ terms. terms ≡ map slack_term names.now) }
+{
+    let mut terms = NamedTerms::with_capacity(alloc, names.len())?;
+    for name in names {
+        push_term(&mut terms, name)?;
+    }
+    Ok(terms)
+}
+
+// Appends a variable once.
+fn push_term(terms: &mut NamedTerms, name: &Name) -> Result<(), Memory>
+    requires { HasDistinctNames (terms.old ++ slack_term name.now ∷ []) }
+    ensures { OnOk result (terms.new ≡ terms.old ++ slack_term name.now ∷ []) }
+{
+    let variable = name.copy()?;
+    let term = NamedTerm {
+        variable,
+        coefficient: Ratio::one(),
+    };
+    match terms.push(term) {
+        Ok(()) => Ok(()),
+        Err(_) => Err(Memory),
+    }
+}
