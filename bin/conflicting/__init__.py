@@ -1,0 +1,1 @@
+"""Random models, and what moi_conflict says of them judged by moi_edit."""

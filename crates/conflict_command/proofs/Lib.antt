@@ -1,0 +1,4 @@
+pub mod Printed
+pub mod Attached
+pub mod Told
+pub mod Room

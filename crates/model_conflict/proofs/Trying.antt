@@ -1,0 +1,125 @@
+-- The edits by which a row is tried are accepted, their models are bridged, and they lead to the
+-- states of the walk.
+use Rattle.std.proofs.Common.{◌≡◌, ℕ, ◌+◌, ◌≤◌, ◌<◌, List, [], ◌∷◌, ◌++◌, None, ap, arith, refl, subst, sym, ◌∙◌}
+use Rattle.std.specs.Prelude.{All}
+use Rattle.std.proofs.lemmas.List.Elements.{All-head, All-weaker}
+use Rattle.aff_core.specs.Address.{Address}
+use Rattle.aff_core.specs.Function.{Function, terms_of}
+use Rattle.bridged_rows_laws.specs.BridgedRows.{IsBridged, bridged_again, bridged_without}
+use Rattle.bridged_rows_laws.specs.LaterNumbers.{HasVariables, IsOfVariables, IsTerm, IsVariable}
+use Rattle.cache_layer.specs.State.{Bridging, State, with_model}
+use Rattle.model_conflict.specs.Steps.{CanWalk, IsTurnOf, StandsFirst}
+use Rattle.model_conflict.specs.Walk.{with_last, with_rows}
+use Rattle.model_conflict.specs.declared.turns.Turn.{Turn}
+use Rattle.mof_laws.specs.EditLaws.{row_edit}
+use Rattle.mof_laws.specs.VariableLaws.{HasVariableAt}
+use Rattle.mof_round_trip_laws.specs.Functions.{HasTerms, HasVariable, IsPlaced}
+use Rattle.mof_write.specs.Written.{naming}
+use Rattle.ratio_core.specs.Rational.{Rational}
+use Rattle.row_again_laws.specs.AddedAgain.{added, addition_accepted, this_placed}
+use Rattle.row_again_laws.specs.Deleted.{deleted, deletion_accepted}
+use Rattle.user_model.specs.Edited.{add_row, edited}
+use Rattle.user_model.specs.Limits.{LAST_NUMBER}
+use Rattle.user_model.specs.Model.{ModelValue}
+use Rattle.user_model.specs.Refusals.{first_refusal}
+use Rattle.user_model.specs.Valid.{IsValid}
+use Rattle.user_model.specs.declared.edit.Edit.TheVariants as edit
+use Rattle.user_model.specs.declared.function.UserFunc.{UserFunc}
+use Rattle.user_model.specs.declared.function.UserFunc.TheVariants.{Affine, AffineVec, Plain, PlainVec}
+use Rattle.user_model.specs.declared.row.Row.{Row}
+
+-- ---- a function whose variables stand is of variables
+
+module _ (model : ModelValue) where
+  is_variable : (at : Address) → HasVariableAt model at → IsVariable at
+  is_variable at h = (h.var.number, h.address)
+
+  has_variables : (f : Function) → HasTerms model f → HasVariables f
+  has_variables f = All-weaker (HasVariable model) IsTerm (λ t h. is_variable t.0 h) (terms_of f)
+
+  of_variables : (func : UserFunc) → IsPlaced model func → IsOfVariables func
+  of_variables (Plain var) h = is_variable var h
+  of_variables (Affine f) h = has_variables f h
+  of_variables (PlainVec vars) h = All-weaker (HasVariableAt model) IsVariable is_variable vars h
+  of_variables (AffineVec fs) h = All-weaker (HasTerms model) HasVariables has_variables fs h
+
+-- ---- one turn
+
+-- the row that stands first is to be tried, by these edits
+pub record IsReady (s : State) (row : Row) (rest : List Row) (turn : Turn) : Type 0 where
+  pub valid : IsValid s.model
+  pub can : CanWalk s 1
+  pub stands : Bridging s
+  pub first : StandsFirst s.model row rest
+  pub is : IsTurnOf s.model row turn
+
+module _ (s : State) (row : Row) (rest : List Row) (turn : Turn)
+    (ready : IsReady s row rest turn) where
+  whole : s.model.rows ≡ row ∷ rest
+  whole = ready.first.whole
+
+  bridged : IsBridged s.setting s.model
+  bridged = record { bridging = ready.stands.bridging; made = ready.stands.made }
+
+  pub deletes : first_refusal s.model turn.delete ≡ None
+  deletes =
+      ap (first_refusal s.model) ready.is.delete
+      ∙ deletion_accepted s.model ready.valid row rest whole
+
+  without : edited s.model turn.delete ≡ (with_rows s rest).model
+  without = ap (edited s.model) ready.is.delete ∙ deleted s.model ready.valid row rest whole
+
+  pub stands_without : Bridging (with_model s (edited s.model turn.delete))
+  stands_without =
+      let left : IsBridged s.setting (with_rows s rest).model =
+      bridged_without s.setting s.model ready.can.bare bridged row rest whole
+      (with_rows s rest).model refl ready.can.bare refl in
+      subst (λ m. Bridging (with_model s m)) (sym without)
+      (record { bridging = left.bridging; made = left.made })
+
+  pub state_without : (now : State) → now ≡ with_model s (edited s.model turn.delete)
+      → now ≡ with_rows s rest
+  state_without now is_now = is_now ∙ ap (with_model s) without
+
+  -- ---- and again
+
+  room : s.model.next.row ≤ LAST_NUMBER
+  room = let room = ready.can.room in omega (arith, room)
+
+  again : edited (with_rows s rest).model turn.add ≡ (with_last (with_rows s rest) row).model
+  again =
+      ap (edited (with_rows s rest).model) ready.is.add
+      ∙ added s.model ready.valid row rest whole
+
+  low : row.id ≤ s.model.next.row
+  low =
+      let below : row.id < s.model.next.row =
+      All-head (λ r. r.id < s.model.next.row) row rest
+      (subst (All (λ r. r.id < s.model.next.row)) whole ready.valid.consistent.given_rows) in
+      omega (arith, below)
+
+  last_again : IsBridged s.setting (with_last (with_rows s rest) row).model
+  last_again =
+      bridged_again s.setting s.model ready.can.bare bridged row rest whole
+      (with_last (with_rows s rest) row).model refl ready.can.bare s.model.next.row low
+      (of_variables s.model row.func (this_placed s.model ready.valid row rest whole)) refl
+
+  module _ (now : State) (is_now : now ≡ with_rows s rest) where
+    pub adds : first_refusal now.model turn.add ≡ None
+    adds =
+        subst (λ (t : State). first_refusal t.model turn.add ≡ None) (sym is_now)
+        (ap (first_refusal (with_rows s rest).model) ready.is.add
+        ∙ addition_accepted s.model ready.valid row rest whole room)
+
+    pub stands_again : Bridging (with_model now (edited now.model turn.add))
+    stands_again =
+        subst (λ (t : State). Bridging (with_model t (edited t.model turn.add))) (sym is_now)
+        (subst (λ m. Bridging (with_model (with_rows s rest) m)) (sym again)
+        (record { bridging = last_again.bridging; made = last_again.made }))
+
+    pub state_again : (new : State) → new ≡ with_model now (edited now.model turn.add)
+        → new ≡ with_last (with_rows s rest) row
+    state_again new is_new =
+        is_new
+        ∙ ap (λ (t : State). with_model t (edited t.model turn.add)) is_now
+        ∙ ap (with_model (with_rows s rest)) again

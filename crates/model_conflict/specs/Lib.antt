@@ -1,0 +1,5 @@
+pub mod Faults
+pub mod Conflict
+pub mod Walk
+pub mod Optima
+pub mod Steps

@@ -1,0 +1,34 @@
+-- What an optimise of a state without an objective tells.
+use Rattle.std.specs.Prelude.{◌≡◌, ℕ, List, Result, Ok, Err}
+use Rattle.cache_layer.specs.Outcome.{IsOptimized}
+use Rattle.cache_layer.specs.State.{State}
+use Rattle.certificates.specs.declared.certificate.Certificate.{Certificate}
+use Rattle.certificates.specs.declared.certificate.Certificate.TheVariants.{Infeasible, Optimal, Unbounded}
+use Rattle.model_conflict.specs.Faults.{opt_fault}
+use Rattle.model_conflict.specs.Walk.{Gives, infeasible_by}
+use Rattle.model_conflict.specs.declared.fault.ConflictFault.{ConflictFault}
+use Rattle.model_conflict.specs.declared.fault.ConflictFault.TheVariants.{Memory}
+use Rattle.model_conflict.specs.declared.optimizing.Optimum.{Optimum}
+use Rattle.model_conflict.specs.declared.optimizing.Optimum.TheVariants as optimum
+use Rattle.ratio_core.specs.Rational.{Rational}
+
+abbrev pub IsBounded : Certificate → Type 0
+IsBounded (Optimal value x rows vars) = Unit {0}
+IsBounded (Infeasible gap rows vars) = Unit {0}
+IsBounded (Unbounded x d) = ⊥
+
+-- the certificate's point, or its duals
+abbrev pub IsOptimumOf : Certificate → Optimum → Type 0
+IsOptimumOf certificate (optimum.Point x) =
+    (value : Rational) × (rows : List (List Rational)) × (vars : List Rational)
+    × (certificate ≡ Optimal value x rows vars)
+IsOptimumOf certificate (optimum.None duals) = certificate ≡ infeasible_by duals
+
+-- a feasible point, or duals that show that there is none; or the fault of the optimise
+abbrev pub TellsOptimum : State → ℕ → Result Optimum ConflictFault → Type 0
+TellsOptimum s pivots (Ok (optimum.Point x)) =
+    (value : Rational) × (rows : List (List Rational)) × (vars : List Rational)
+    × Gives s pivots (Optimal value x rows vars)
+TellsOptimum s pivots (Ok (optimum.None duals)) = Gives s pivots (infeasible_by duals)
+TellsOptimum s pivots (Err Memory) = Unit {0}
+TellsOptimum s pivots (Err fault) = IsOptimized s pivots (Err (opt_fault fault))

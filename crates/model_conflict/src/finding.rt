@@ -1,0 +1,49 @@
+//! The conflict of an attached model.
+ghost use Rattle.std.specs.Prelude.{◌≡◌, ◌≤◌, ◌+◌, IfOk, OnOk, length, map, true};
+ghost use Rattle.cache_layer.specs.Cached.{model_in, state_of};
+ghost use Rattle.model_conflict.specs.Conflict.{Shows};
+ghost use Rattle.model_conflict.specs.Steps.{CanWalk};
+ghost use Rattle.model_conflict.specs.Walk.{Finds, NamesRows};
+
+use crate::optimizing::{Optimum, optimize};
+use crate::turns::walk;
+use crate::{ConflictFault, Found};
+use bridge_face::Bridge;
+use cache_layer::Cache;
+
+/// A feasible point of an attached model without an objective, or rows that can't hold together, of
+/// which none can go. There is room for a further number for each row. The solver is asked once for
+/// the model, and then once for each of its rows.
+pub fn find<B: Bridge>(cache: Cache<B>, pivots: u64) -> Result<Found, ConflictFault>
+    requires { CanWalk (state_of cache) (length (model_in cache).rows) }
+    ensures finds { Finds (state_of cache) pivots result }
+    ensures shows { IfOk result (Shows (model_in cache)) }
+{
+    let mut cache = cache;
+    find_in(&mut cache, pivots)
+}
+
+/// The same of a cache that is kept. Of a conflict its model has the rows alone, in their order.
+pub fn find_in<B: Bridge>(cache: &mut Cache<B>, pivots: u64) -> Result<Found, ConflictFault>
+    requires { CanWalk (state_of cache.old) (length (model_in cache.old).rows) }
+    ensures finds { Finds (state_of cache.old) pivots result }
+    ensures shows { IfOk result (Shows (model_in cache.old)) }
+    ensures groups { OnOk result ((model_in cache.new).groups ≡ (model_in cache.old).groups) }
+    ensures rows { IfOk result (NamesRows (model_in cache.new)) }
+{
+    seek(cache, pivots)
+}
+
+// The same, but for what it shows.
+fn seek<B: Bridge>(cache: &mut Cache<B>, pivots: u64) -> Result<Found, ConflictFault>
+    requires { CanWalk (state_of cache.old) (length (model_in cache.old).rows) }
+    ensures finds { Finds (state_of cache.old) pivots result }
+    ensures groups { OnOk result ((model_in cache.new).groups ≡ (model_in cache.old).groups) }
+    ensures rows { IfOk result (NamesRows (model_in cache.new)) }
+{
+    match optimize(cache, pivots) {
+        Ok(Optimum::Point(x)) => Ok(Found::Feasible { x }),
+        Ok(Optimum::None(duals)) => walk(cache, pivots, duals),
+        Err(fault) => Err(fault),
+    }
+}
