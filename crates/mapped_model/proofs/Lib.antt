@@ -1,0 +1,12 @@
+mod Names
+mod Placed
+mod Again
+mod Deleting
+mod Pairs
+mod Standing
+mod Filling
+mod Using
+mod TakenSteps
+mod UsedSteps
+mod EditSteps
+mod Making

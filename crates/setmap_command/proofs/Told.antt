@@ -1,0 +1,158 @@
+-- What is answered to the model with the mapped rows.
+use Rattle.std.specs.Prelude.{◌≡◌, ◌≢◌, ℕ, List, Some, None, Result, Ok, Err, IfOk, OnOk, refl}
+use Rattle.std.proofs.Common.{ap, inl, inr, subst, sym, ◌∙◌}
+use Rattle.cache_layer.specs.Answers.{IsAttached}
+use Rattle.cache_layer.specs.Outcome.{IsOptimized}
+use Rattle.cache_layer.specs.State.{State}
+use Rattle.cache_layer.specs.declared.fault.AttachFault.{AttachFault}
+use Rattle.cache_layer.specs.declared.fault.OptFault.{OptFault}
+use Rattle.cert_text.specs.Text.{certificate_text}
+use Rattle.certificates.specs.Good.{Good}
+use Rattle.certificates.specs.Points.{variables_of}
+use Rattle.certificates.specs.declared.certificate.Certificate.{Certificate}
+use Rattle.file_command.specs.LoadingLaws.{shelf_fault}
+use Rattle.fresh_bridging.specs.TheRules.{Setting}
+use Rattle.lists.specs.declared.memory.Memory.{Memory as NoMemory}
+use Rattle.map_file.specs.declared.file.MapFile.{MapFile}
+use Rattle.mapped_model.specs.Answers.{MapsRows}
+use Rattle.mapped_model.specs.Mapping.{Exceeds, IsRefused, Made}
+use Rattle.mapped_model.specs.Stands.{StandsFor}
+use Rattle.mapped_model.specs.TakenLaws.{good_mapped}
+use Rattle.mapped_model.specs.Tells.{TellsBack}
+use Rattle.mapped_model.specs.Uses.{uses_in}
+use Rattle.mapped_model.specs.declared.fault.MappingFault.{MappingFault}
+use Rattle.mapped_model.specs.declared.fault.MappingFault.TheVariants as fault
+use Rattle.model_command.specs.Alone.{alone}
+use Rattle.model_command.specs.Telling.{attach_fault_answer, optimize_fault_answer}
+use Rattle.model_store.specs.Store.{Stored}
+use Rattle.report_core.specs.declared.answer.Answer.{Answer}
+use Rattle.report_core.specs.declared.answer.Answer.TheVariants.{Printed, ReadFault}
+use Rattle.set_map.specs.Matrices.{Matrix}
+use Rattle.setmap_command.specs.Says.{SaysBy, SaysFile, SaysGiven, SaysOptimized, SaysSolved, pivots}
+use Rattle.setmap_command.specs.SaysLaws.{said_plain}
+use Rattle.setmap_command.specs.Text.{fault_answer}
+use Rattle.user_model.specs.Model.{ModelValue}
+
+-- what holds of an answer, if there is one
+if_told : (P Q : Answer → Type 0) (told : Result Answer NoMemory)
+    → ((answer : Answer) → P answer → Q answer) → IfOk told P → IfOk told Q
+if_told P Q (Ok answer) h p = h answer p
+if_told P Q (Err e) h p = tt
+
+module _ (model : ModelValue) (file : MapFile) (new : ModelValue)
+    (told : Result Answer NoMemory) where
+  -- ---- the certificate
+
+  pub says_printed : (c back : Certificate) → StandsFor model (uses_in model file) new
+      → Good new c → TellsBack file c (Ok back)
+      → IfOk told (λ answer. answer
+      ≡ Printed (certificate_text (variables_of new.groups) new.rows back))
+      → IfOk told (SaysGiven model file new (Ok c))
+  says_printed c back stands good tells =
+      if_told
+      (λ answer. answer ≡ Printed (certificate_text (variables_of new.groups) new.rows back))
+      (SaysGiven model file new (Ok c)) told
+      (λ answer is. (
+        None,
+        tells.0,
+        (
+          good_mapped model file new stands c good,
+          is ∙ ap (λ d. Printed (certificate_text (variables_of new.groups) new.rows d)) tells.1,
+        ),
+      ))
+
+  pub says_unfit : (c : Certificate) (reason : MappingFault) → TellsBack file c (Err reason)
+      → IfOk told (λ answer. answer ≡ fault_answer file.maps reason)
+      → OnOk told (reason ≢ fault.Memory) → IfOk told (SaysGiven model file new (Ok c))
+  says_unfit c (fault.BadMaps line) tells = absurd tells
+  says_unfit c (fault.BadMap place) tells = absurd tells
+  says_unfit c (fault.Refused refusal) tells = absurd tells
+  says_unfit c (fault.Overflow row) tells = λ is not.
+      if_told _ (SaysGiven model file new (Ok c)) told (λ answer e. (Some row, tells, e)) is
+  says_unfit c fault.Memory tells = λ is not. by told not
+    where
+      by : (told : Result Answer NoMemory)
+          → OnOk told (fault.Memory ≢ fault.Memory)
+          → IfOk told (SaysGiven model file new (Ok c))
+      by (Ok answer) not = absurd (not refl)
+      by (Err e) not = tt
+
+  pub says_given : (s : State) (c : Certificate) → IsOptimized s pivots (Ok c)
+      → IfOk told (SaysGiven model file new (Ok c)) → IfOk told (SaysOptimized model file new s)
+  says_given s c outcome =
+      if_told (SaysGiven model file new (Ok c)) (SaysOptimized model file new s) told
+      (λ answer said. (Ok c, outcome, said))
+
+  pub says_not_given : (s : State) (reason : OptFault) → IsOptimized s pivots (Err reason)
+      → IfOk told (λ answer. answer ≡ optimize_fault_answer reason)
+      → IfOk told (SaysOptimized model file new s)
+  says_not_given s reason outcome =
+      if_told (λ answer. answer ≡ optimize_fault_answer reason)
+      (SaysOptimized model file new s) told (λ answer said. (Err reason, outcome, said))
+
+  -- ---- the solver
+
+  pub says_attached : (old after : State) (n : ℕ) → IsAttached old (Ok n) after
+      → IfOk told (SaysOptimized model file new after)
+      → IfOk told (SaysSolved model file new old)
+  says_attached old after n is =
+      if_told (SaysOptimized model file new after) (SaysSolved model file new old) told
+      (λ answer said. (Ok n, after, is, said))
+
+  pub says_unattached : (old after : State) (reason : AttachFault)
+      → IsAttached old (Err reason) after
+      → IfOk told (λ answer. answer ≡ attach_fault_answer reason)
+      → IfOk told (SaysSolved model file new old)
+  says_unattached old after reason is =
+      if_told (λ answer. answer ≡ attach_fault_answer reason) (SaysSolved model file new old) told
+      (λ answer said. (Err reason, after, is, said))
+
+-- ---- the rows
+
+module _ (setting : Setting) (file : MapFile) (old new : Stored)
+    (told : Result Answer NoMemory) where
+  pub says_mapped : (matrices : List Matrix) → MapsRows old file (Ok matrices) new
+      → IfOk told (SaysSolved old.model file new.model (alone setting new.model))
+      → IfOk told (SaysFile setting file old.model)
+  says_mapped matrices rows =
+      if_told (SaysSolved old.model file new.model (alone setting new.model))
+      (SaysFile setting file old.model) told
+      (λ answer said. subst (λ o. SaysBy setting file old.model o answer) (sym rows.0.lines)
+      (inr (rows.0.maps, (Made new.model, rows.2, said))))
+
+  pub says_unmapped : (reason : MappingFault) → MapsRows old file (Err reason) new
+      → IfOk told (λ answer. answer ≡ fault_answer file.maps reason)
+      → OnOk told (reason ≢ fault.Memory) → IfOk told (SaysFile setting file old.model)
+  says_unmapped (fault.BadMaps line) rows = λ is not.
+      if_told _ (SaysFile setting file old.model) told
+      (λ answer e. subst (λ o. SaysBy setting file old.model o answer) (sym rows) e) is
+  says_unmapped (fault.BadMap place) rows = λ is not.
+      if_told _ (SaysFile setting file old.model) told
+      (λ answer e. subst (λ o. SaysBy setting file old.model o answer) (sym rows.0)
+      (inl (place, rows.1, e))) is
+  says_unmapped (fault.Refused refusal) rows = λ is not.
+      if_told _ (SaysFile setting file old.model) told
+      (λ answer e. subst (λ o. SaysBy setting file old.model o answer) (sym rows.0.lines)
+      (inr (rows.0.maps, (IsRefused refusal, rows.1, e)))) is
+  says_unmapped (fault.Overflow row) rows = λ is not.
+      if_told _ (SaysFile setting file old.model) told
+      (λ answer e. subst (λ o. SaysBy setting file old.model o answer) (sym rows.0.lines)
+      (inr (rows.0.maps, (Exceeds row, rows.1, e)))) is
+  says_unmapped fault.Memory rows = λ is not. by told not
+    where
+      by : (told : Result Answer NoMemory)
+          → OnOk told (fault.Memory ≢ fault.Memory)
+          → IfOk told (SaysFile setting file old.model)
+      by (Ok answer) not = absurd (not refl)
+      by (Err e) not = tt
+
+-- no fault of the shelf is said
+pub never_failed : (setting : Setting) (file : MapFile) (model : ModelValue)
+    (told : Result Answer NoMemory) → IfOk told (SaysFile setting file model)
+    → told ≢ Ok ReadFault
+never_failed setting file model told h e =
+    never (said_plain setting file model ReadFault
+    (subst (λ t. IfOk t (SaysFile setting file model)) e h))
+  where
+    never : shelf_fault ReadFault ≡ None → ⊥
+    never f = cc

@@ -1,0 +1,5 @@
+pub mod Words
+pub mod Text
+pub mod Says
+pub mod SaysLaws
+pub mod Files

@@ -1,0 +1,95 @@
+-- What is answered to a model and the text of its maps, by what the text, the maps, the edits' limits,
+-- the bridging, the solver and the way back say, and what a printed certificate says: it is good for
+-- the model with the used rows in their cones seen through the maps.
+use Rattle.std.specs.Prelude.{◌≡◌, ◌⊎◌, ℕ, List, All, Option, Some, None, Result, Ok, Err}
+use Rattle.cache_layer.specs.Answers.{IsAttached}
+use Rattle.cache_layer.specs.Outcome.{IsOptimized}
+use Rattle.cache_layer.specs.State.{State}
+use Rattle.cache_layer.specs.declared.fault.AttachFault.{AttachFault}
+use Rattle.cache_layer.specs.declared.fault.OptFault.{OptFault}
+use Rattle.cert_text.specs.Text.{certificate_text}
+use Rattle.certificates.specs.declared.certificate.Certificate.{Certificate}
+use Rattle.certificates.specs.Points.{variables_of}
+use Rattle.file_answers.specs.FileAnswers.{refused}
+use Rattle.fresh_bridging.specs.TheRules.{Setting}
+use Rattle.map_file.specs.declared.file.MapFile.{MapFile}
+use Rattle.map_file.specs.Lines.{file_in}
+use Rattle.mapped_certificates.specs.GoodSeen.{GoodMapped}
+use Rattle.mapped_model.specs.Mapping.{Mapped, Maps, Made, IsRefused, Exceeds}
+use Rattle.mapped_model.specs.Stands.{StandsFor}
+use Rattle.mapped_model.specs.Tells.{TakesFrom, taken_from}
+use Rattle.mapped_model.specs.Uses.{IsFirstBad, IsMap, uses_in, wrong_line}
+use Rattle.model_command.specs.Alone.{alone}
+use Rattle.model_command.specs.Telling.{attach_fault_answer, optimize_fault_answer}
+use Rattle.report_core.specs.Refused.{refused_of}
+use Rattle.report_core.specs.declared.answer.Answer.{Answer}
+use Rattle.report_core.specs.declared.answer.Answer.TheVariants.{Printed}
+use Rattle.setmap_command.specs.Text.{bad_map, bad_maps, map_name, row_overflow}
+use Rattle.user_model.specs.Model.{ModelValue}
+
+-- the most pivots of an optimise
+abbrev pub pivots : ℕ
+pivots = 100000
+
+-- the model is one with the mapped rows
+abbrev pub StandsFrom : MapFile → ModelValue → Type 0
+StandsFrom file new = (model : ModelValue) × StandsFor model (uses_in model file) new
+
+-- ---- to the model with the mapped rows
+
+module _ (model : ModelValue) (file : MapFile) (new : ModelValue) where
+  -- the certificate that is printed is good for the mapped rows
+  abbrev pub SaysBack : Certificate → Option (List ℕ) → Answer → Type 0
+  SaysBack c (Some row) answer = answer ≡ row_overflow row
+  SaysBack c None answer =
+      GoodMapped model (uses_in model file) (taken_from file c)
+      × (answer ≡ Printed
+      (certificate_text (variables_of new.groups) new.rows (taken_from file c)))
+
+  abbrev pub SaysGiven : Result Certificate OptFault → Answer → Type 0
+  SaysGiven (Ok c) answer =
+      (exceeds : Option (List ℕ)) × TakesFrom file c exceeds × SaysBack c exceeds answer
+  SaysGiven (Err fault) answer = answer ≡ optimize_fault_answer fault
+
+  abbrev pub SaysOptimized : State → Answer → Type 0
+  SaysOptimized s answer =
+      (given : Result Certificate OptFault) × IsOptimized s pivots given × SaysGiven given answer
+
+  abbrev pub SaysAttached : Result ℕ AttachFault → State → Answer → Type 0
+  SaysAttached (Ok leaves) s answer = SaysOptimized s answer
+  SaysAttached (Err fault) s answer = answer ≡ attach_fault_answer fault
+
+  abbrev pub SaysSolved : State → Answer → Type 0
+  SaysSolved s answer =
+      (made : Result ℕ AttachFault) × (after : State) × IsAttached s made after
+      × SaysAttached made after answer
+
+-- ---- to a model and what its maps say
+
+module _ (setting : Setting) (file : MapFile) (model : ModelValue) where
+  -- the model with the mapped rows, or why there is none
+  abbrev pub SaysMapped : Mapped → Answer → Type 0
+  SaysMapped (Made new) answer = SaysSolved model file new (alone setting new) answer
+  SaysMapped (IsRefused refusal) answer = answer ≡ refused (refused_of refusal)
+  SaysMapped (Exceeds row) answer = answer ≡ row_overflow row
+
+  abbrev pub SaysRight : Answer → Type 0
+  SaysRight answer =
+      (what : Mapped) × Maps model (uses_in model file) what × SaysMapped what answer
+
+  -- the first map that is none
+  abbrev pub SaysBadMap : Answer → Type 0
+  SaysBadMap answer =
+      (place : ℕ) × IsFirstBad file.maps place × (answer ≡ bad_map (map_name file.maps place))
+
+  -- by the first wrong line
+  abbrev pub SaysBy : Option ℕ → Answer → Type 0
+  SaysBy (Some line) answer = answer ≡ bad_maps line
+  SaysBy None answer = SaysBadMap answer ⊎ (All IsMap file.maps × SaysRight answer)
+
+  abbrev pub SaysFile : Answer → Type 0
+  SaysFile answer = SaysBy (wrong_line model file) answer
+
+-- what is answered to a model and the text of its maps
+abbrev pub SaysMaps : Setting → List ℕ → ModelValue → Answer → Type 0
+SaysMaps setting text model answer = SaysFile setting (file_in text) model answer

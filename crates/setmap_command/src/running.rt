@@ -1,0 +1,81 @@
+//! A run of the command.
+ghost use Rattle.std.specs.Prelude.{◌≡◌, ◌≢◌, ◌⊎◌, ◌↔◌, All, IfSome, IsTrue, None};
+ghost use Rattle.std.specs.Prelude as prelude;
+ghost use Rattle.std.specs.FinMap as finite;
+ghost use Rattle.bridge_set.specs.Bridges.{families_of, occur_once};
+ghost use Rattle.command_words.specs.Texts.{texts};
+ghost use Rattle.file_command.specs.Ending.{EndsWith, IsSound};
+ghost use Rattle.file_command.specs.Loading.{AnswersFile};
+ghost use Rattle.file_command.specs.Status.{IsEnded};
+ghost use Rattle.io_face.specs.Fault.{HasFaulted};
+ghost use Rattle.io_face.specs.Shelf.{AsksFor};
+ghost use Rattle.io_face.specs.Told.{told_by};
+ghost use Rattle.model_command.specs.Alone.{standard_by};
+ghost use Rattle.setmap_command.specs.Files.{AsksFiles, CanBothBeFetched, Says};
+ghost use Rattle.setmap_command.specs.Words.{command_in};
+
+use crate::answering::answer;
+use crate::command::command_of;
+use bridge_face::Bridge;
+use file_command::{Status, end_with};
+use io_face::{Shelf, Sink};
+use std::alloc::Global;
+
+/// Answers `MODEL MAPS` with the certificate of the file's model in which each row that the maps use
+/// is in its cone seen through the map. No family occurs twice among the bridges, and they keep
+/// nothing.
+///
+/// A model that can't be loaded is refused as `load` refuses it. Otherwise one line tells why there is
+/// no certificate: 25 a wrong line of the maps, 24 a map whose matrices are not inverse to each other,
+/// 5 a norm cone of one number, 12 a limit, 15 a board too large, 16 and 17 no bridging, 17 a number
+/// that exceeds 128 bits, 18 too many pivots.
+pub fn run<H: Shelf, O: Sink, B: Bridge>(
+    alloc: Global,
+    words: &[String],
+    shelf: &mut H,
+    output: &mut O,
+    bridges: Vec<B>,
+) -> Status
+    requires once { IsTrue (occur_once (families_of (prelude.map B.state bridges.items))) }
+    requires kept { All (λ s. s.kept ≡ finite.empty) (prelude.map B.state bridges.items) }
+
+    // Nothing is fetched or written at other arguments.
+    ensures usage { (result ≡ Status.Usage) ↔ (command_in (texts words.now) ≡ None) }
+    ensures untouched { result ≡ Status.Usage → (shelf.new ≡ shelf.old)
+        × (output.new ≡ output.old) }
+
+    // What is written is the answer to the files, whole where the run ended.
+    ensures ends { let setting = standard_by (prelude.map B.state bridges.items) in
+        let told = told_by (H.files shelf.old) (H.sure shelf.old) in
+        IfSome (command_in (texts words.now)) (λ command.
+        EndsWith (AnswersFile (Says setting told command.maps) told command.model) result
+        (O.written output.old) (O.written output.new)) }
+
+    // A fault was counted, and each that was counted ends the run.
+    ensures read_fault { result ≡ Status.ReadFault
+        → HasFaulted (H.faults shelf.old) (H.faults shelf.new) }
+    ensures write_fault { result ≡ Status.WriteFault
+        → HasFaulted (O.faults output.old) (O.faults output.new) }
+    ensures sound_fetches { IsEnded result → H.faults shelf.new ≡ H.faults shelf.old }
+    ensures sound_writes { IsEnded result → O.faults output.new ≡ O.faults output.old }
+
+    // The model's file is asked for once, and then the maps' once, where the model was made.
+    ensures asks { let told = told_by (H.files shelf.old) (H.sure shelf.old) in
+        result ≢ Status.Memory → IfSome (command_in (texts words.now)) (λ command.
+        AsksFiles told command.model command.maps
+        (AsksFor (H.asked shelf.old) (H.asked shelf.new))) }
+
+    // With nothing against it, the run ends, unless memory runs out.
+    ensures complete { let told = told_by (H.files shelf.old) (H.sure shelf.old) in
+        IfSome (command_in (texts words.now)) (λ command.
+        CanBothBeFetched told command.model command.maps (H.faults shelf.old)
+        (H.faults shelf.new)
+        → IsSound (O.faults output.old) (O.faults output.new)
+        → IsEnded result ⊎ (result ≡ Status.Memory)) }
+{
+    match command_of(alloc, words) {
+        Ok(Some(command)) => end_with(answer(alloc, &command, shelf, bridges), output),
+        Ok(None) => Status::Usage,
+        Err(_) => Status::Memory,
+    }
+}
