@@ -8,12 +8,19 @@ from explainer.program import Program
 
 from .test_program import TOP
 
-ROW = re.compile(r"\| `(\S+)` \|.*\| `bin/(moi_\w+) ([^`]*)` \|")
+ROW = re.compile(r"\| `(\S+)` \|.*\| `bin/(\w+) ([^`]*)` \|")
 
 
 def program_of(name):
     """The program of a name, as MOI_EDIT: that of this variable, or the one that `rt ci` leaves in its crate."""
     return Program(os.environ.get(name.upper()) or os.path.join(TOP, "crates", name, "out", name))
+
+
+def stored(path, program):
+    """Where a program's answers to an example are stored: under its name too, where other programs answer it as well."""
+    stem = re.sub(r"(\.mof\.json|\.txt)$", "", path)
+    own = f"{stem}.{program}.out"
+    return own if os.path.exists(own) else f"{stem}.out"
 
 
 class Examples(unittest.TestCase):
@@ -32,7 +39,7 @@ class Examples(unittest.TestCase):
                 words = [os.path.join(TOP, word) if word.startswith("examples/") else word for word in words]
                 with open(path, "rb") as file:
                     found, status = program_of(program).answer(words, file.read() if script else b"")
-                with open(re.sub(r"(\.mof\.json|\.txt)$", ".out", path), encoding="utf-8") as file:
+                with open(stored(path, program), encoding="utf-8") as file:
                     self.assertEqual((found, status), (file.read().split("\n")[:-1], 0))
                 seen.add(name)
         wanted = {name for name in os.listdir(os.path.join(TOP, "examples")) if name.endswith((".txt", ".json"))}
