@@ -63,7 +63,7 @@ module _ {X Y : Type 0} (P : X → Type 0) (f : X → Y) (xs : List X) where
             ∙ ap (λ l. slice_get l i) far.values ∙ slice_get-map f us i ∙ ap (option_map f) at),
       )
 
-  -- the first of which there is none doesn't fit
+  -- the first item that has no result doesn't fit
   pub far_gone : (made : List Y) (i : ℕ) (x : X) → IsAsFarAs P f xs made
       → length made ≤ i → i ≤ length made → x ≡ get_or xs i x → i < length xs → ¬ (P x)
   far_gone made i x far past le here lt =

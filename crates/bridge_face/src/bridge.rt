@@ -14,8 +14,8 @@ use item_core::{Edge, Family, Image, Item};
 use lists::Memory;
 use ratio_core::{NumberFault, Ratios};
 
-/// A bridge of one family: it makes images of items, keeps items with the edges that they were
-/// bridged by, and carries duals back to them.
+/// A bridge of one family: it makes images of items, keeps each item with the edge that
+/// rewrote it, and carries duals back to it.
 ///
 /// `turns` counts the calls that work, `image`, `keep`, `alter`, `let_go` and `let_all_go`, also
 /// those that were refused, and stays at its last value.

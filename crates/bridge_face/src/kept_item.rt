@@ -2,7 +2,7 @@
 
 use item_core::{Edge, Item};
 
-/// An item with the edge that it was bridged by.
+/// An item with the edge that rewrote it.
 #[derive(Debug, Drop)]
 pub struct KeptItem {
     pub edge: Edge,

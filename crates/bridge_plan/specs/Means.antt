@@ -1,5 +1,5 @@
--- What items are bridged by: the choices by a table and the families of which there is a bridge, and
--- what the bridges keep meanwhile.
+-- What rewrites items: the choices by a table and the families that have a bridge, and what the
+-- bridges keep meanwhile.
 use Rattle.std.specs.Prelude.{ℕ, List}
 use Rattle.bridge_graph.specs.Hypergraph.{IsCostly}
 use Rattle.bridge_graph.specs.declared.Choice.{Choice}

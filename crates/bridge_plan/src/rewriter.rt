@@ -12,7 +12,7 @@ use bridge_graph::Choice;
 use item_core::{Image, Item, Kind};
 use ratio_core::NumberFault;
 
-/// What items are bridged by: a choice for each kind, and the images by the chosen edges.
+/// What rewrites items: a choice for each kind, and the images that the chosen edges make.
 pub trait Rewriter {
     ghost use Rattle.bridge_plan.specs.Means.{Means};
 

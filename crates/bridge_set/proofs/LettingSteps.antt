@@ -1,4 +1,4 @@
--- Items let go one after another: what each bridge then keeps, and the turns that it takes.
+-- Items released one after another: what each bridge then keeps, and the turns that it takes.
 use Rattle.std.specs.Prelude.{◌≡◌, ◌⊎◌, ◌≤◌, ◌+◌, ℕ, zero, suc, true, cond, List, [], ◌∷◌, All, IsSome, map, slice_get, slice_set, Some, None, refl}
 use Rattle.std.specs.FinMap as finite
 use Rattle.std.proofs.Common.{inl, inr, arith, sym, ap, ap₂, subst, ◌∙◌}

@@ -57,7 +57,7 @@ setting_by table states = record { table = table; families = families_of states 
 abbrev pub setting_of : Bridges → Setting
 setting_of bridges = setting_by bridges.table bridges.states
 
--- ---- what items are bridged by
+-- ---- what rewrites items
 
 abbrev pub choice_in : List Choice → ℕ → Choice
 choice_in choices kind = slice_index_or choices kind Missing
@@ -94,7 +94,7 @@ kept_among nodes family =
 abbrev pub keeping : List KeptItem → State → Family × Kept
 keeping nodes s = (s.family, kept_among nodes s.family)
 
--- items for edges of which there is a bridge, each at an address of its own
+-- items for edges that have a bridge, each at an address of its own
 pub record AreKeepable (families : List Family) (nodes : List KeptItem) : Type 0 where
   pub own : All (λ n. list_any (family_eq (family_of n.edge)) families ≡ true) nodes
   pub suits : All (λ n. IsItemFor n.edge n.item) nodes

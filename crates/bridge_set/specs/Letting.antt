@@ -1,4 +1,4 @@
--- Bridges let go of what is kept at an address, whichever keeps it.
+-- Releasing what is kept at an address, whichever bridge keeps it.
 use Rattle.std.specs.Prelude.{◌≡◌, ◌⊎◌, ℕ, List, [], ◌∷◌, All, AllPairs, IsSome, slice_get, slice_set, Some, None}
 use Rattle.std.specs.FinMap as finite
 use Rattle.aff_core.specs.Address.{Address}
@@ -20,7 +20,7 @@ without_list kept (at ∷ gone) = without_list (finite.remove kept at) gone
 abbrev pub without_each : List Address → Family × Kept → Family × Kept
 without_each gone k = (k.0, without_list k.1 gone)
 
--- the first bridge that keeps something at the address lets it go, if one does
+-- the first bridge that keeps something at the address releases it, if there is one
 pub data LetsGo (at : Address) (old new : List State) : Type 0 where
   one : (place : ℕ) (was : State) → slice_get old place ≡ Some was → IsSome (found was at)
       → new ≡ slice_set old place (gone was at) → LetsGo at old new

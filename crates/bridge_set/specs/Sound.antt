@@ -19,7 +19,7 @@ pub record IsSound (graph : Hypergraph) (bridges : Bridges) : Type 0 where
   pub laws : All IsLawful (families_of bridges.states)
   pub once : IsTrue (occur_once (families_of bridges.states))
 
--- bridges that let all go stay of their families
+-- bridges that release all keep their families
 pub families_stay : (states : List State) → families_of (map all_gone states) ≡ families_of states
 families_stay [] = refl
 families_stay (s ∷ states) = ap (λ fs. s.family ∷ fs) (families_stay states)

@@ -152,7 +152,7 @@ impl<B: Bridge> BridgeSet<B> {
         self.keep_each(nodes)
     }
 
-    /// Has the bridge that keeps an item at an address let it go. At most one does.
+    /// Releases the item at an address. At most one bridge keeps one there.
     pub fn let_go(&mut self, at: &Address)
         requires alone { IsAlone at.now (kept_by self.old.states) }
         ensures gone { kept_by self.new.states ≡ map (without at.now) (kept_by self.old.states) }
@@ -164,7 +164,7 @@ impl<B: Bridge> BridgeSet<B> {
         let_go_by(&mut self.bridges, at);
     }
 
-    /// Lets go of what is kept at each address.
+    /// Releases what is kept at each address.
     pub fn let_each_go(&mut self, gone: &[Address])
         requires alone { All (λ at. IsAlone at (kept_by self.old.states)) gone.now }
         ensures gone { kept_by self.new.states

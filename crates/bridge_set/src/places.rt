@@ -96,7 +96,7 @@ pub(crate) fn clear_all<B: Bridge>(bridges: &mut [B])
     }
 }
 
-// Has the bridge that keeps an item at an address let it go, if one does.
+// Releases the item at an address, if a bridge keeps one there.
 pub(crate) fn let_go_by<B: Bridge>(bridges: &mut [B], at: &Address)
     ensures { LetsGo at.now (map B.state bridges.old) (map B.state bridges.new) }
 {

@@ -39,7 +39,7 @@ use Rattle.set_core.specs.Mirrored.{multiplied}
 use Rattle.bridge_face.specs.Images.{child_at, group_by}
 use Rattle.rational_laws.specs.Dot as numbers
 
--- a group of variables at most 0, of which the edge makes one of its kind
+-- a group of variables at most 0; the edge makes a group of its kind from it
 abbrev pub Sourced : Edge → Body → Type 0
 Sourced = GroupSourced Nonpositives
 

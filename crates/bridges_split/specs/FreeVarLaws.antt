@@ -41,7 +41,7 @@ use Rattle.bridge_face.specs.BackOf.{back_by, size}
 use Rattle.rational_laws.specs.Order.{≤ℚ_antisymm, ≤ℚ_from_nonneg}
 use Rattle.rational_laws.specs.Dot as numbers
 
--- a group of variables without bounds, of which the edge makes one of its kind
+-- a group of variables without bounds; the edge makes a group of its kind from it
 abbrev pub Sourced : Edge → Body → Type 0
 Sourced = GroupSourced Reals
 

@@ -142,7 +142,7 @@ gathered_is ts k rise =
     (constant-function_of address_cmp _ k ∙ sym (constant-function_of address_cmp ts k))
 
 module _ (names : List (List ℕ)) (distinct : IsDistinct bytes_eq names) where
-  -- one of the first variables, of which there are as many as names
+  -- one of the first variables, one for each name
   abbrev pub IsFirst : Address → Type 0
   IsFirst at = (j : ℕ) × (j < length names) × (at ≡ variable_address j)
 

@@ -104,7 +104,7 @@ module _ (e : AttachedEdit) (bridges : Bridges) (solver : Stored) (places : Addr
       subst (λ fs. AreKeepable fs plan.nodes.items) (sym (same ∙ same_families))
       (subst (AreKeepable (families_of e.bridges.states)) made.nodes (keepable_here e made.step))
 
-  -- all old nodes are let go
+  -- all old nodes are released
   module _ (between : List State) (old_nodes : List Address)
       (listed : old_nodes ≡ flat_map (nodes_below bridges.states) found)
       (gone : kept_by between ≡ map (without_each old_nodes) (kept_by bridges.states)) where

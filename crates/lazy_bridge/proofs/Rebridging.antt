@@ -158,7 +158,7 @@ module _ (old first second last : Owned) (table : Table) (model : ModelValue)
         (ap (λ (s : Setting). s.families) h.1 ∙ ap families_of set.states),
   )
 
--- where the model is bridged by the other table
+-- where the other table rewrites the model
 pub set_on : (old first second : Owned) (table : Table) (model : ModelValue) (n : ℕ)
     → IsSet old first table → IsBridgedBy first first.bridges.table model (Ok n) second
     → IsBridgedBy old table model (Ok n) second

@@ -35,7 +35,7 @@ module _ (choice : ℕ → Choice) where
   abbrev pub others_held : List Entry → List Item → Held Item Entry
   others_held inner items = worked_in choice (worked choice kind_count) inner items
 
-  -- the items, of which these are the groups, stand within the levels that there are
+  -- these groups and the other items are within the levels that there are
   pub record IsWithinLevels (items further : List Item) : Type 0 where
     pub groups : All (IsWithin choice kind_count) items
     pub others : All (λ item. IsWithin choice kind_count (put_in (groups_held items).entries item)) further

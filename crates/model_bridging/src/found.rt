@@ -1,4 +1,4 @@
-//! Some of the user's items, as a search finds them, bridged by themselves.
+//! Some of the user's items, in the order of a search, rewritten without the rest of the model.
 ghost use Rattle.std.specs.Prelude.{◌≡◌, ◌≤◌, ◌+◌, [], All, IfOk, OnOk, length, map};
 ghost use Rattle.std.specs.Option.{option_copied};
 ghost use Rattle.aff_core.specs.Address.{Address};

@@ -32,7 +32,7 @@ pub handed_on : {A : Type 0} (Q : Result A ConflictFault → Type 0) (r : Result
 handed_on Q (Ok a) why h told = absurd h
 handed_on Q (Err e) why h told = subst (λ f. Q (Err f)) (sym h) told
 
--- want of memory
+-- running out of memory
 pub memory_on : {A : Type 0} (Q : Result A ConflictFault → Type 0) (r : Result A ConflictFault)
     (why : ConflictFault) → why ≡ fault.Memory → IsErrAnd r (λ e. e ≡ why) → Q (Err fault.Memory)
     → Q r

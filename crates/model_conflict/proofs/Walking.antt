@@ -37,7 +37,7 @@ abbrev point_of : Kept → List Rational
 point_of k = k.1
 
 module _ (start : State) (pivots : ℕ) (first : Duals) where
-  -- so many rows were tried
+  -- `done` rows were tried
   pub record WalkedSoFar (done : ℕ) (now : State) (walked : Walked) : Type 0 where
     pub rows : List Row
     pub later : List Row

@@ -131,7 +131,7 @@ pub(crate) fn rename(
     EditPlan::of_group(alloc, group, listed, model.next())
 }
 
-// The variables, of which the one with the number has the new name.
+// The variables, with the new name at the one that has the number.
 fn renamed_vars(
     alloc: Global,
     vars: &[GroupVar],

@@ -154,7 +154,7 @@ fn push_with_room(parked: &mut Vec<Parked>, entry: Parked)
     }
 }
 
-/// Takes the last entry out, of which there is one.
+/// Removes the last entry. There is one.
 pub(crate) fn take_last(parked: &mut Vec<Parked>, names: &mut NameCounts) -> Parked
     requires some { 0 < vec_len parked.old }
     requires counted { IsCounted parked.old.items names.old }

@@ -44,8 +44,8 @@ fn variable_count(groups: &Groups) -> usize
     count
 }
 
-// The first free name of a number and of those that come by adding a step, and that after so many
-// tries where none is free before.
+// The first free name among the numbers first, first + step and so on. After `tries` taken ones
+// the next is returned untested.
 #[tactic(auto, using(crate::proofs::NameLemmas::tries))]
 fn free_name(
     alloc: Global,

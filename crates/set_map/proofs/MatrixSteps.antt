@@ -20,7 +20,7 @@ square_itself n m s = record {
   numbers = subst (λ k. All (λ row. length row ≡ k) m) (sym s.rows) s.numbers;
 }
 
--- each row has n numbers, however n is told
+-- each row has n numbers, for any k that equals n
 pub widths : (n k : ℕ) (m : Matrix) → IsSquare n m → k ≡ n → All (λ row. length row ≡ k) m
 widths n k m s e = subst (λ j. All (λ row. length row ≡ j) m) (sym e) s.numbers
 
