@@ -1,7 +1,7 @@
 -- What is read of a board as it is kept, before and after a pivot.
-use Rattle.std.specs.Prelude.{◌≡◌, ℕ, zero, suc, ◌+◌, ◌*◌, ◌<◌, ◌^◌, Bool, false, not, nat_lt, IfSome, List, [], ◌∷◌, length, map, Option, Some, None, slice_index_or, slice_set, vec_len, refl}
+use Rattle.std.specs.Prelude.{◌≡◌, ℕ, zero, suc, ◌+◌, ◌<◌, ◌^◌, Bool, false, not, nat_lt, IfSome, List, [], ◌∷◌, length, map, Option, Some, None, slice_index_or, slice_set, vec_len, refl}
 use Rattle.std.proofs.Common.{sym, ◌∙◌, ap, ap₂, arith, subst}
-use Rattle.std.proofs.lemmas.List.{get_or_default, length-map}
+use Rattle.std.proofs.lemmas.List.{length-map}
 use Rattle.std.proofs.lemmas.List.FromFn.{get_or-map-range_with_len}
 use Rattle.ratio_core.specs.Rational.{Rational, rational_eq, zero_ℚ, ◌/ℚ◌, ◌‹ℚ◌}
 use Rattle.simplex_form.specs.Fit.{pivot_fits}
@@ -18,15 +18,16 @@ use Rattle.tableau_core.specs.KeptLaws.{column_kept, pivoted_read, row_kept, tes
 use Rattle.tableau_core.specs.Numbers.{IsSettled, Numbers, kept_readings, numbers_fit}
 use Rattle.sparse_board.specs.declared.board.Board.TheInside.{Inside}
 use Rattle.sparse_board.specs.declared.cost_rows.CostRows.{CostRows}
+use Rattle.sparse_board.specs.declared.marks.Marks.{Marks}
 use Rattle.sparse_board.specs.declared.row.Row.{Row}
 use Rattle.sparse_board.specs.declared.mixed_row.MixedRow.{MixedRow}
 use Rattle.sparse_board.specs.declared.step.Step.{Step}
 use Rattle.sparse_board.specs.Mixed.{number_of, width_of}
 use Rattle.sparse_board.specs.Rows.{AreWide, SameNow, number_in_row, numbers, numbers_in, width_at}
-use Rattle.sparse_board.specs.Marks.{AreMarked, is_marked}
+use Rattle.sparse_board.specs.Marks.{SameSizes, has}
+use Rattle.sparse_board.specs.Marking.{AreMarked}
 use Rattle.sparse_board.specs.Pivoting.{IsBoardReady}
 use Rattle.sparse_board.specs.Leaving.{IsCandidate, leaves_before, may_leave}
-use Rattle.sparse_board.proofs.MarkSteps.{place_below}
 use Rattle.sparse_board.proofs.RowsSteps.{row_is}
 use Rattle.sparse_board.specs.Kept.{IsKept, columns_of, contents_of, listed}
 
@@ -156,17 +157,17 @@ module _ (a b : Inside) (reals : b.reals ≡ a.reals)
       → width_of b.costs.first.now ≡ width_of a.costs.first.now
       → width_of b.costs.second.now ≡ width_of a.costs.second.now
       → b.step.width ≡ a.step.width → length b.basis.items ≡ length a.basis.items
-      → length b.marks.items ≡ length a.marks.items
-      → AreMarked (columns_of a + 1) b.marks.items b.rows.items → IsKept b
-  kept_after h wide first second step basis marks marked = record {
+      → SameSizes a.marks b.marks → AreMarked (columns_of a + 1) b.marks b.rows.items → IsKept b
+  kept_after h wide first second step basis sizes marked = record {
     few = subst (λ n. n + 1 < 2 ^ 32) (sym same_width) h.few;
     wide = λ i c. wide i c ∙ ap (λ n. n + 1) (sym same_width);
     spare = step ∙ h.spare ∙ ap (λ n. n + 1) (sym same_width);
     first = first ∙ h.first ∙ sym same_width;
     second = second ∙ h.second ∙ sym same_width;
     basis = basis ∙ h.basis ∙ sym count;
-    marks = marks ∙ h.marks ∙ sym (λ k. (same_width k + 1) * count k);
-    marked = subst (λ n. AreMarked (n + 1) b.marks.items b.rows.items) (sym same_width) marked;
+    mark_columns = sizes.columns ∙ h.mark_columns ∙ ap (λ n. n + 1) (sym same_width);
+    mark_rows = sizes.rows ∙ h.mark_rows ∙ sym count;
+    marked = subst (λ n. AreMarked (n + 1) b.marks b.rows.items) (sym same_width) marked;
   }
 
   -- `middle` are the rows as they stood, beside which the pivot was worked out
@@ -183,12 +184,11 @@ module _ (a b : Inside) (reals : b.reals ≡ a.reals)
       (subst (λ K. IsSettled (columns_of a) r q a.costs.in_first K (numbers_of b)) same s)
 
 -- rows that stand are marked as they were
-pub marked_same : (w : ℕ) (marks : List Bool) (before after : List Row)
+pub marked_same : (w : ℕ) (marks : Marks) (before after : List Row)
     → length after ≡ length before → SameNow before after → AreMarked w marks before
     → AreMarked w marks after
 marked_same w marks before after count rows marked i b j c e =
-    ap (λ o. numbers o j) (rows i) ∙ marked i (subst (λ n. i < n) count b) j c
-    (subst (λ n. is_marked marks n j i ≡ false) count e)
+    ap (λ o. numbers o j) (rows i) ∙ marked i (subst (λ n. i < n) count b) j c e
 
 -- ---- what the readers give
 
@@ -208,8 +208,7 @@ module _ (a : Inside) (t : Contents) (view : contents_of a ≡ t) where
       ∙ ap (λ t. (readings_of t).entry q r) view
 
   pub unmarked_is : IsKept a → (r q : ℕ) → r < length t.rows → q < width t
-      → is_marked a.marks.items (length a.rows.items) q r ≡ false
-      → zero_ℚ ≡ (readings_of t).entry q r
+      → has a.marks q r ≡ false → zero_ℚ ≡ (readings_of t).entry q r
   unmarked_is h r q b c e =
       sym (h.marked r (row_within a t r view b) q (omega (arith, column_within a t q view c)) e)
       ∙ sym (kept_entry (columns_of a) a.rows.items r q (column_within a t q view c))
@@ -273,29 +272,16 @@ module _ (a : Inside) (t : Contents) (view : contents_of a ≡ t) where
       ∙ sym (kept_entry (columns_of a) a.rows.items r j (omega (arith, c)))))
       ∙ ap (λ t. swept_column (readings_of t) r) view
 
--- ---- a mark that is read
-
 pub vec_count : (a : Inside) (n : ℕ) → n ≡ vec_len a.rows → n ≡ length a.rows.items
 vec_count a n e = e ∙ a.rows.ok.0
 
-pub marked_read : (a : Inside) → IsKept a → (r q n : ℕ) (item : Bool) → r < length a.rows.items
-    → q < columns_of a → n ≡ length a.rows.items
-    → item ≡ slice_index_or a.marks.items (q * n + r) item
-    → item ≡ is_marked a.marks.items (length a.rows.items) q r
-marked_read a h r q n item b c e is =
-    is ∙ ap (λ m. slice_index_or a.marks.items (q * m + r) item) e
-    ∙ get_or_default a.marks.items (q * length a.rows.items + r) item false
-    (place_below (columns_of a + 1) (length a.rows.items) q r (length a.marks.items) h.marks
-    (omega (arith, c)) b)
+-- ---- what was worked out, of rows that are the same
 
--- ---- what was worked out, of rows and marks that are the same
-
-pub ready_same : (rows old_rows : List Row) (r q : ℕ) (marks old_marks : List Bool)
-    (costs : CostRows) (step : Step) → rows ≡ old_rows → marks ≡ old_marks
-    → IsBoardReady old_rows r q old_marks costs step → IsBoardReady rows r q marks costs step
-ready_same rows old_rows r q marks old_marks costs step e f h =
-    subst (λ l. IsBoardReady l r q marks costs step) (sym e)
-    (subst (λ l. IsBoardReady old_rows r q l costs step) (sym f) h)
+pub ready_same : (rows old_rows : List Row) (r q : ℕ) (marks : Marks) (costs : CostRows)
+    (step : Step) → rows ≡ old_rows → IsBoardReady old_rows r q marks costs step
+    → IsBoardReady rows r q marks costs step
+ready_same rows old_rows r q marks costs step e h =
+    subst (λ l. IsBoardReady l r q marks costs step) (sym e) h
 
 -- ---- the row that leaves is that of what is read
 

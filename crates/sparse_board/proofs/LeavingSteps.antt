@@ -1,20 +1,25 @@
 -- Which row leaves: a row that isn't marked doesn't, and whole numbers tell what fractions do.
-use Rattle.std.specs.Prelude.{◌≡◌, ℕ, ◌<◌, Bool, ◌&&◌, ◌||◌, true, false, if◌then◌else◌, List, length, Option, Some, None, slice_index_or, pos, ◌<ℤ◌, refl}
-use Rattle.std.proofs.Common.{sym, ◌∙◌, ap, subst, is_lt, Ordering}
+use Rattle.std.specs.Prelude.{◌≡◌, ℕ, zero, suc, ◌+◌, ◌<◌, ◌≤◌, Bool, ◌&&◌, ◌||◌, true, false, if◌then◌else◌, IfSome, IsTrue, List, length, Option, Some, None, slice_index_or, pos, ◌<ℤ◌, refl}
+use Rattle.std.proofs.Common.{sym, ◌∙◌, ap, arith, subst, is_lt, Ordering}
 use Rattle.std.specs.Ordering.{is_eq}
 use Rattle.ratio_core.specs.Rational.{Rational, rational_cmp, zero_ℚ, ◌/ℚ◌, ◌‹ℚ◌}
 use Rattle.ratio_core.specs.RationalLaws.{rational_eq-is_eq}
 use Rattle.rational_laws.specs.Order.{not_‹ℚ_from_≤ℚ, ≤ℚ_from_≡}
 use Rattle.rational_laws.specs.Tests.{lt_from_test}
 use Rattle.rational_laws.specs.Over.{over-zero_ℚ, over-‹ℚ_out}
-use Rattle.simplex_form.specs.Search.{better_of}
+use Rattle.simplex_form.specs.Search.{best_below, better_of}
 use Rattle.simplex_form.specs.Turns.{is_below}
+use Rattle.simplex_laws.specs.BoundedSumLaws.{same_or_other}
 use Rattle.tableau_core.specs.Leaving.{comes_before}
 use Rattle.whole_rows.specs.declared.narrow_row.NarrowRow.{NarrowRow}
 use Rattle.whole_rows.specs.Rows as whole
+use Rattle.sparse_board.specs.declared.marks.Marks.{Marks}
 use Rattle.sparse_board.specs.declared.mixed_row.MixedRow.{MixedRow}
 use Rattle.sparse_board.specs.declared.row.Row.{Row}
 use Rattle.sparse_board.specs.Mixed.{number_of, width_of}
+use Rattle.sparse_board.specs.Leaving.{IsCandidate, leaves_before, may_leave}
+use Rattle.sparse_board.specs.Marking.{AreMarked}
+use Rattle.sparse_board.specs.Marks.{AreUnmarked}
 use Rattle.sparse_board.specs.Rows.{AreWide, number_in_row, numbers}
 use Rattle.sparse_board.proofs.RowsSteps.{row_is, row_wide}
 use Rattle.sparse_board.proofs.MixedSteps.{number_narrow}
@@ -81,3 +86,68 @@ pub better_none : (test : ℕ → Bool) (before : ℕ → ℕ → Bool) (best : 
     → best ≡ None → test i ≡ true → better_of test before best i ≡ Some i
 better_none test before best i e passes =
     ap (λ o. better_of test before o i) e ∙ (λ z. if passes z then Some i else None)
+
+-- ---- the best of the rows below i
+
+pub record IsBestTo (rows : List Row) (basis : List ℕ) (side q i : ℕ) (best : Option ℕ) :
+    Type 0 where
+  pub within : i ≤ length rows
+  pub value : best ≡ best_below i (may_leave rows q) (leaves_before rows basis side q)
+  pub candidate : IfSome best (λ k. IsCandidate rows q k)
+
+best_past : (test : ℕ → Bool) (before : ℕ → ℕ → Bool) (i n : ℕ) → i ≤ n
+    → ((k : ℕ) → i ≤ k → k < n → test k ≡ false)
+    → best_below n test before ≡ best_below i test before
+best_past test before i zero b h =
+    let e : i ≡ 0 = omega (arith, b) in sym (ap (λ k. best_below k test before) e)
+best_past test before i (suc n) b h =
+    same_or_other (best_below (suc n) test before ≡ best_below i test before) i (suc n)
+    (λ e. ap (λ k. best_below k test before) (sym e))
+    (λ m. passed_better test before (best_below n test before) n
+    (h n (omega (arith, b, m)) (omega arith))
+    ∙ best_past test before i n (omega (arith, b, m)) (λ k f t. h k f (omega (arith, t))))
+
+best_more : (n : ℕ) (test : ℕ → Bool) (before : ℕ → ℕ → Bool)
+    → better_of test before (best_below n test before) n ≡ best_below (n + 1) test before
+best_more n test before = ap (λ k. best_below k test before) (more_lem n)
+  where
+    more_lem : (n : ℕ) → suc n ≡ n + 1
+    more_lem n = omega arith
+
+module _ (rows : List Row) (basis : List ℕ) (side q : ℕ) where
+  pub best_none : IsBestTo rows basis side q 0 None
+  best_none = record { within = omega arith; value = refl; candidate = tt }
+
+  -- the better of the best so far and row i
+  pub best_with : (i : ℕ) (best new : Option ℕ) (t : Bool) → IsBestTo rows basis side q i best
+      → i < length rows
+      → better_of (may_leave rows q) (leaves_before rows basis side q) best i
+      ≡ (if t then Some i else best) → (IsTrue t → IsCandidate rows q i)
+      → new ≡ (if t then Some i else best) → IsBestTo rows basis side q (i + 1) new
+  best_with i best new t h b better candidate is = record {
+    within = omega (arith, b);
+    value = is ∙ sym better
+        ∙ ap (λ o. better_of (may_leave rows q) (leaves_before rows basis side q) o i) h.value
+        ∙ best_more i (may_leave rows q) (leaves_before rows basis side q);
+    candidate = subst (λ o. IfSome o (λ k. IsCandidate rows q k)) (sym is) (by_test t candidate);
+  }
+    where
+      by_test : (t : Bool) → (IsTrue t → IsCandidate rows q i)
+          → IfSome (if t then Some i else best) (λ k. IsCandidate rows q k)
+      by_test true c = c refl
+      by_test false c = h.candidate
+
+  -- rows that aren't marked are passed over
+  pub best_unmarked : (i to w : ℕ) (best : Option ℕ) (marks : Marks)
+      → IsBestTo rows basis side q i best → i ≤ to → to ≤ length rows → q < w
+      → AreMarked w marks rows → AreUnmarked marks q i to → IsBestTo rows basis side q to best
+  best_unmarked i to w best marks h past within column marked unmarked = record {
+    within = within;
+    value = h.value ∙ sym (best_past (may_leave rows q) (leaves_before rows basis side q) i to past
+        (λ k f t. zero_below (number_in_row rows k q)
+        (marked k (below_lem k to (length rows) t within) q column (unmarked k f t))));
+    candidate = h.candidate;
+  }
+    where
+      below_lem : (k to n : ℕ) → k < to → to ≤ n → k < n
+      below_lem k to n b c = omega (arith, b, c)

@@ -8,7 +8,9 @@ pub mod PivotSteps
 pub mod BoardSteps
 pub mod StartSteps
 pub mod ScanSteps
+pub mod WordSteps
 pub mod MarkSteps
+pub mod MarkingSteps
 pub mod MixedSteps
 pub mod LeavingSteps
 pub mod NarrowingSteps

@@ -1,367 +1,255 @@
--- Marks that are set one after another.
-use Rattle.std.specs.Prelude.{◌≡◌, ℕ, ◌+◌, ◌*◌, ◌<◌, ◌≤◌, Bool, true, false, ◌||◌, not, ◌⊎◌, List, length, min, pos, slice_index, slice_index_or, slice_set, take, Some, refl}
-use Rattle.std.proofs.Common.{sym, ◌∙◌, ap, arith, subst, inl, inr, true≢false}
-use Rattle.std.proofs.lemmas.List.{get_or-set_other, get_or-set_same, get_or-take, get_or_default, length-set, length-take}
-use Rattle.std.proofs.lemmas.Nat.{mul-add-lt, mul-le}
-use Rattle.std.proofs.lemmas.Bool.{cases_lt, or_left, or_right}
-use Rattle.ratio_core.specs.Rational.{Rational, inverse_ℚ, rational_eq, reduce, zero_ℚ, ◌*ℚ◌, ◌/ℚ◌}
-use Rattle.rational_laws.specs.Field.{zero-*ℚ}
-use Rattle.rational_laws.specs.Over.{over-zero_ℚ}
-use Rattle.rational_laws.specs.Tests.{zero_from_test}
+-- Marks that are bits of words.
+use Rattle.std.specs.Prelude.{◌≡◌, ℕ, ◌+◌, ◌*◌, ◌/◌, ◌%◌, ◌<◌, ◌≤◌, ◌⊎◌, Bool, true, false, ◌&&◌, ◌||◌, nat_eq, length, min, replicate, slice_index, slice_set, vec_len}
+use Rattle.std.proofs.Common.{inl, inr, sym, ◌∙◌, ap, arith, subst}
+use Rattle.std.specs.Int.{bit_at}
+use Rattle.std.proofs.lemmas.Bool.{cases_lt, le-ltb, lt-ltb}
+use Rattle.std.proofs.lemmas.List.{get_or-replicate, get_or-set_other, get_or-set_same, get_or_past, length-replicate}
+use Rattle.std.proofs.lemmas.Nat.{mul-add-lt, mul-le, same_from_place}
+use Rattle.std.proofs.lemmas.Nat.Bits.{bit_at-zero}
 use Rattle.simplex_laws.specs.BoundedSumLaws.{same_or_other}
-use Rattle.tableau_core.specs.LoweringLaws.{lowered-zero, step-zero, zero-step}
-use Rattle.sparse_board.specs.declared.row.Row.{Row}
-use Rattle.sparse_board.specs.declared.mixed_row.MixedRow.{MixedRow}
-use Rattle.sparse_board.specs.declared.sparse_row.SparseRow.{SparseRow}
-use Rattle.sparse_board.specs.Mixed as mixed
-use Rattle.whole_rows.specs.Rows as whole
-use Rattle.whole_rows.specs.declared.step.NarrowStep.{NarrowStep}
-use Rattle.sparse_board.specs.Numbers.{number_of, row_columns, row_values, width_of}
-use Rattle.sparse_board.specs.Rows.{AreLowered, AreWide, now_at, now_of, number_in_row, numbers}
-use Rattle.sparse_board.specs.Marks.{AreMarked, KeepMarks, MarksNumbers, MarksRow, MarksUnits, is_marked}
-use Rattle.tableau_core.specs.Numbers.{quotient_at}
-use Rattle.sparse_board.proofs.NumberLemmas.{number_missing, sought}
-use Rattle.tableau_core.specs.ItemLaws.{written_at, written_off}
+use Rattle.sparse_board.specs.declared.marks.Marks.{Marks}
+use Rattle.sparse_board.specs.Words.{AreJoined, bit_of}
+use Rattle.sparse_board.specs.Marks.{AreUnmarked, IsJoined, IsPut, SameSizes, has}
+use Rattle.sparse_board.proofs.WordSteps.{joined_bit}
 
--- the place of column j and row i
-pub place_below : (w m j i n : ℕ) → n ≡ w * m → j < w → i < m → j * m + i < n
-place_below w m j i n e b c = omega (arith, e, mul-add-lt j m i w b c)
+-- ---- a mark is a bit
 
--- the places of column q
-pub column_within : (w m q n : ℕ) → n ≡ w * m → q < w → (q + 1) * m ≤ n
-column_within w m q n e b =
-    subst (λ k. (q + 1) * m ≤ k) (sym e) (mul-le (q + 1) m w m (omega (arith, b)) (omega arith))
+pub has_is : (marks : Marks) (j i : ℕ) → i < marks.rows → has marks j i
+    ≡ nat_eq (bit_of marks.words.items marks.stride j i) 1
+unfolding has
+has_is marks j i b =
+    ap (λ t. t && nat_eq (bit_of marks.words.items marks.stride j i) 1) (lt-ltb i marks.rows b)
 
--- what isn't marked afterwards wasn't before
-pub was_not : (old new : List Bool) → KeepMarks old new → (p : ℕ)
-    → slice_index_or new p false ≡ false → slice_index_or old p false ≡ false
-was_not old new kept p e = by_test (slice_index_or old p false) refl
+has_past : (marks : Marks) (j i : ℕ) → marks.rows ≤ i → has marks j i ≡ false
+unfolding has
+has_past marks j i b =
+    ap (λ t. t && nat_eq (bit_of marks.words.items marks.stride j i) 1) (le-ltb i marks.rows b)
+
+pub unset_is : (marks : Marks) (j i : ℕ) → bit_of marks.words.items marks.stride j i ≡ 0
+    → has marks j i ≡ false
+unset_is marks j i e = by_row (cases_lt i marks.rows)
   where
-    by_test : (b : Bool) → slice_index_or old p false ≡ b → b ≡ false
-    by_test true f = absurd (true≢false (sym (kept p f) ∙ e))
-    by_test false f = refl
+    by_row : (i < marks.rows) ⊎ (marks.rows ≤ i) → has marks j i ≡ false
+    by_row (inl b) = has_is marks j i b ∙ ap (λ x. nat_eq x 1) e
+    by_row (inr b) = has_past marks j i b
 
-pub keep_none : (marks : List Bool) → KeepMarks marks marks
-keep_none marks p e = e
+-- ---- the place of a bit
 
-pub keep_more : (a b c : List Bool) → KeepMarks a b → KeepMarks b c → KeepMarks a c
-keep_more a b c h k p e = k p (h p e)
+low : (marks : Marks) (i : ℕ) → i ≤ marks.rows → i / 64 < marks.stride
+low marks i b = omega (arith, marks.room, b)
 
-set_keeps : (marks : List Bool) (p : ℕ) → p < length marks
-    → KeepMarks marks (slice_set marks p true)
-set_keeps marks p b q e =
-    same_or_other (slice_index_or (slice_set marks p true) q false ≡ true) q p
-    (λ f. subst (λ k. slice_index_or (slice_set marks p true) k false ≡ true) (sym f)
-    (get_or-set_same marks p true false b))
-    (λ m. get_or-set_other marks p q true false m ∙ e)
+pub word_within : (marks : Marks) (j k : ℕ) → j < marks.columns → k < marks.stride
+    → j * marks.stride + k < vec_len marks.words
+word_within marks j k c b = omega (arith, marks.long, mul-add-lt j marks.stride k marks.columns c b)
 
--- ---- a row marked in its first k columns
+pub place_within : (marks : Marks) (j i : ℕ) → j < marks.columns → i < marks.rows
+    → j * marks.stride + i / 64 < vec_len marks.words
+place_within marks j i c b = word_within marks j (i / 64) c (low marks i (omega (arith, b)))
 
-pub record IsMarkedTo (columns : List ℕ) (i m : ℕ) (old marks : List Bool) (k : ℕ) : Type 0 where
-  pub long : length marks ≡ length old
-  pub kept : KeepMarks old marks
-  pub marked : (l : ℕ) → l < k → is_marked marks m (slice_index columns l) i ≡ true
+pub item_within : (marks : Marks) (p : ℕ) → p < vec_len marks.words → p < length marks.words.items
+item_within marks p b = subst (λ n. p < n) marks.words.ok.0 b
 
-pub marked_none : (columns : List ℕ) (i m : ℕ) (old : List Bool) → IsMarkedTo columns i m old old 0
-marked_none columns i m old =
-    record { long = refl; kept = keep_none old; marked = λ l b. absurd (omega (arith, b)) }
+-- ---- no marks
 
-pub marked_more : (columns : List ℕ) (i m : ℕ) (old marks : List Bool) (k : ℕ)
-    → IsMarkedTo columns i m old marks k → slice_index columns k * m + i < length marks
-    → IsMarkedTo columns i m old (slice_set marks (slice_index columns k * m + i) true) (k + 1)
-marked_more columns i m old marks k h b =
-    let p : ℕ = slice_index columns k * m + i in
-    record {
-      long = length-set marks p true ∙ h.long;
-      kept = keep_more old marks (slice_set marks p true) h.kept (set_keeps marks p b);
-      marked =
-          λ l c. same_or_other (is_marked (slice_set marks p true) m (slice_index columns l)
-          i ≡ true) l k
-          (λ e. subst (λ n. is_marked (slice_set marks p true) m (slice_index columns n) i ≡ true)
-          (sym e) (get_or-set_same marks p true false b))
-          (λ n. set_keeps marks p b (slice_index columns l * m + i)
-          (h.marked l (omega (arith, c, n))));
-    }
-
-pub marked_all : (row : SparseRow) (i m : ℕ) (old marks : List Bool) (k : ℕ)
-    → k ≡ length (row_columns row) → IsMarkedTo (row_columns row) i m old marks k
-    → MarksNumbers (width_of row) (number_of row) i m marks
-marked_all row i m old marks k all h j b e = by_place (sought (row_columns row) j k)
+pub none_marked : (marks : Marks) (n : ℕ) → marks.words.items ≡ replicate n 0 → (j i : ℕ)
+    → has marks j i ≡ false
+none_marked marks n zeros j i =
+    unset_is marks j i
+    (ap (λ l. bit_of l marks.stride j i) zeros
+    ∙ ap (λ w. bit_at w (i % 64)) (zero_lem (j * marks.stride + i / 64)) ∙ bit_at-zero (i % 64))
   where
-    by_place : ((l : ℕ) × (l < k) × (slice_index (row_columns row) l ≡ j)) ⊎ ((l : ℕ) → l < k
-        → ¬ (slice_index (row_columns row) l ≡ j)) → number_of row j ≡ zero_ℚ
-    by_place (inl f) =
-        absurd (true≢false (sym (subst (λ c. is_marked marks m c i ≡ true) f.2 (h.marked f.0 f.1))
-        ∙ e))
-    by_place (inr none) =
-        number_missing (row_columns row) (row_values row) j
-        (λ l c. none l (subst (λ n. l < n) (sym all) c))
+    zero_lem : (p : ℕ) → slice_index (replicate n 0) p ≡ 0
+    zero_lem p = by_end (cases_lt p n)
+      where
+        by_end : (p < n) ⊎ (n ≤ p) → slice_index (replicate n 0) p ≡ 0
+        by_end (inl b) = get_or-replicate n p 0 0 b
+        by_end (inr b) =
+            get_or_past (replicate n 0) p 0
+            (subst (λ m. m ≤ p) (sym (length-replicate n 0)) b)
 
--- ---- the rows below i marked
+-- ---- a word that is written
 
-pub record AreMarkedTo (w : ℕ) (marks : List Bool) (rows : List Row) (i : ℕ) : Type 0 where
-  pub long : length marks ≡ w * length rows
-  pub marked : (k : ℕ) → k < i → (j : ℕ) → j < w → is_marked marks (length rows) j k ≡ false
-      → number_in_row rows k j ≡ zero_ℚ
+module _ (old new : Marks) (j i word : ℕ) (sizes : SameSizes old new)
+    (stride : new.stride ≡ old.stride)
+    (words : new.words.items ≡ slice_set old.words.items (j * old.stride + i / 64) word)
+    (column : j < old.columns) (row : i < old.rows) where
+  written : slice_index (slice_set old.words.items (j * old.stride + i / 64) word)
+      (j * old.stride + i / 64) ≡ word
+  written =
+      get_or-set_same old.words.items (j * old.stride + i / 64) word 0
+      (item_within old (j * old.stride + i / 64) (place_within old j i column row))
 
-pub rows_marked_more : (w : ℕ) (marks new : List Bool) (rows : List Row) (i : ℕ) (row : MixedRow)
-    → AreMarkedTo w marks rows i → now_at rows i ≡ Some row → mixed.width_of row ≡ w
-    → length new ≡ length marks → KeepMarks marks new → MarksRow row i (length rows) new
-    → AreMarkedTo w new rows (i + 1)
-rows_marked_more w marks new rows i row h is wide long kept marked = record {
-  long = long ∙ h.long;
-  marked = λ k b j c e. same_or_other (number_in_row rows k j ≡ zero_ℚ) k i
-      (λ f. subst (λ n. number_in_row rows n j ≡ zero_ℚ) (sym f) (ap (λ o. numbers o j) is
-      ∙ marked j (subst (λ n. j < n) (sym wide) c)
-      (subst (λ n. is_marked new (length rows) j n ≡ false) f e)))
-      (λ m. h.marked k (omega (arith, b, m)) j c (was_not marks new kept (j * length rows + k) e));
-}
+  read_bit : (l k : ℕ) → bit_of new.words.items new.stride l k
+      ≡ bit_of (slice_set old.words.items (j * old.stride + i / 64) word) old.stride l k
+  read_bit l k = λ z. bit_of (words z) (stride z) l k
 
--- ---- a column marked as far as row i, where column q is
+  pub put_here : has new j i ≡ nat_eq (bit_at word (i % 64)) 1
+  put_here =
+      has_is new j i (subst (λ n. i < n) (sym sizes.rows) row)
+      ∙ ap (λ b. nat_eq b 1) (read_bit j i ∙ ap (λ w. bit_at w (i % 64)) written)
 
-pub record IsAlikeTo (q column m : ℕ) (old marks : List Bool) (i : ℕ) : Type 0 where
-  pub long : length marks ≡ length old
-  pub kept : KeepMarks old marks
-  pub marked : (k : ℕ) → k < i → is_marked old m q k ≡ true → is_marked marks m column k ≡ true
+  module _ (kept : (n : ℕ) → n < 64 → ¬ (n ≡ i % 64) → bit_at word n
+      ≡ bit_at (slice_index old.words.items (j * old.stride + i / 64)) n) where
+    same_bit : (l k : ℕ) → k < old.rows → ¬ ((l ≡ j) × (k ≡ i))
+        → bit_of (slice_set old.words.items (j * old.stride + i / 64) word) old.stride l k
+        ≡ bit_of old.words.items old.stride l k
+    same_bit l k b apart =
+        same_or_other (bit_of (slice_set old.words.items (j * old.stride + i / 64) word) old.stride
+        l k ≡ bit_of old.words.items old.stride l k)
+        (l * old.stride + k / 64) (j * old.stride + i / 64)
+        same_word
+        (λ n. ap (λ w. bit_at w (k % 64)) (get_or-set_other old.words.items
+        (j * old.stride + i / 64) (l * old.stride + k / 64) word 0 n))
+      where
+        same_row : (k i : ℕ) → k / 64 ≡ i / 64 → k % 64 ≡ i % 64 → k ≡ i
+        same_row k i e f = omega (arith, e, f)
 
-pub alike_none : (q column m : ℕ) (old : List Bool) → IsAlikeTo q column m old old 0
-alike_none q column m old =
-    record { long = refl; kept = keep_none old; marked = λ k b. absurd (omega (arith, b)) }
+        same_word : l * old.stride + k / 64 ≡ j * old.stride + i / 64
+            → bit_of (slice_set old.words.items (j * old.stride + i / 64) word) old.stride l k
+            ≡ bit_of old.words.items old.stride l k
+        same_word e =
+            let at = same_from_place l (k / 64) j (i / 64) old.stride
+            (low old k (omega (arith, b))) (low old i (omega (arith, row))) e in
+            ap (λ p. bit_at (slice_index (slice_set old.words.items (j * old.stride + i / 64) word)
+            p) (k % 64)) e
+            ∙ ap (λ w. bit_at w (k % 64)) written
+            ∙ kept (k % 64) (omega arith) (λ f. apart (at.0, same_row k i at.1 f))
+            ∙ ap (λ p. bit_at (slice_index old.words.items p) (k % 64)) (sym e)
 
--- a write that keeps a mark that stands
-write_keeps : (marks : List Bool) (p : ℕ) (t : Bool) → p < length marks
-    → (slice_index_or marks p false ≡ true → t ≡ true) → KeepMarks marks (slice_set marks p t)
-write_keeps marks p t b h n e =
-    same_or_other (slice_index_or (slice_set marks p t) n false ≡ true) n p
-    (λ f. subst (λ k. slice_index_or (slice_set marks p t) k false ≡ true) (sym f)
-    (get_or-set_same marks p t false b
-    ∙ h (subst (λ k. slice_index_or marks k false ≡ true) f e)))
-    (λ m. get_or-set_other marks p n t false m ∙ e)
+    others_kept : (l k : ℕ) → ¬ ((l ≡ j) × (k ≡ i)) → has new l k ≡ has old l k
+    others_kept l k apart = by_row (cases_lt k old.rows)
+      where
+        by_row : (k < old.rows) ⊎ (old.rows ≤ k) → has new l k ≡ has old l k
+        by_row (inl b) =
+            has_is new l k (subst (λ n. k < n) (sym sizes.rows) b)
+            ∙ ap (λ x. nat_eq x 1) (read_bit l k ∙ same_bit l k b apart)
+            ∙ sym (has_is old l k b)
+        by_row (inr b) =
+            has_past new l k (subst (λ n. n ≤ k) (sym sizes.rows) b) ∙ sym (has_past old l k b)
 
-module _ (q column m : ℕ) (old marks : List Bool) (i : ℕ) (h : IsAlikeTo q column m old marks i)
-    (b : column * m + i < length marks) where
-  pub alike_more : (t : Bool) → t ≡ (is_marked marks m column i || is_marked marks m q i)
-      → IsAlikeTo q column m old (slice_set marks (column * m + i) t) (i + 1)
-  alike_more t is = record {
-    long = length-set marks p t ∙ h.long;
-    kept = keep_more old marks (slice_set marks p t) h.kept kept;
-    marked = λ k c e. same_or_other (is_marked (slice_set marks p t) m column k ≡ true) k i
-        (λ f. subst (λ n. is_marked (slice_set marks p t) m column n ≡ true) (sym f)
-        (get_or-set_same marks p t false b ∙ is
-        ∙ or_right _ _ (h.kept (q * m + i) (subst (λ n. is_marked old m q n ≡ true) f e))))
-        (λ n. kept (column * m + k) (h.marked k (omega (arith, c, n)) e));
-  }
+    pub put_is : (mark : Bool) → nat_eq (bit_at word (i % 64)) 1 ≡ mark → IsPut j i mark old new
+    put_is mark e = record { sizes = sizes; here = put_here ∙ e; others = others_kept }
+
+-- ---- columns that are joined
+
+-- a column's words are its own, so two columns don't overlap
+pub columns_apart : (marks : Marks) (from to : ℕ) → (to * marks.stride ≤ from * marks.stride)
+    ⊎ (from * marks.stride + marks.stride ≤ to * marks.stride)
+columns_apart marks from to = by_order (cases_lt from to)
+  where
+    after_lem : (from to n : ℕ) → from < to → from * n + n ≤ to * n
+    after_lem from to n b = omega (arith, mul-le (from + 1) n to n (omega (arith, b)) (omega arith))
+
+    by_order : (from < to) ⊎ (to ≤ from) → (to * marks.stride ≤ from * marks.stride)
+        ⊎ (from * marks.stride + marks.stride ≤ to * marks.stride)
+    by_order (inl b) = inr (after_lem from to marks.stride b)
+    by_order (inr b) = inl (mul-le to marks.stride from marks.stride b (omega arith))
+
+pub column_within : (marks : Marks) (j : ℕ) → j < marks.columns
+    → j * marks.stride + marks.stride ≤ vec_len marks.words
+column_within marks j b =
+    omega (
+      arith,
+      marks.long,
+      mul-le (j + 1) marks.stride marks.columns marks.stride (omega (arith, b)) (omega arith),
+    )
+
+module _ (old new : Marks) (from to : ℕ) (sizes : SameSizes old new)
+    (stride : new.stride ≡ old.stride)
+    (h : AreJoined (from * old.stride) (to * old.stride) old.stride old.words.items
+    new.words.items) where
+  read_joined : (l k : ℕ) → bit_of new.words.items new.stride l k
+      ≡ bit_of new.words.items old.stride l k
+  read_joined l k = ap (λ s. bit_of new.words.items s l k) stride
+
+  joined_here : (i : ℕ) → has new to i ≡ (has old to i || has old from i)
+  joined_here i = by_row (cases_lt i old.rows)
     where
-      p : ℕ
-      p = column * m + i
+      by_row : (i < old.rows) ⊎ (old.rows ≤ i) → has new to i ≡ (has old to i || has old from i)
+      by_row (inl b) =
+          has_is new to i (subst (λ n. i < n) (sym sizes.rows) b)
+          ∙ ap (λ x. nat_eq x 1) (read_joined to i
+          ∙ ap (λ w. bit_at w (i % 64)) (h.joined (i / 64) (low old i (omega (arith, b)))))
+          ∙ joined_bit (slice_index old.words.items (to * old.stride + i / 64))
+          (slice_index old.words.items (from * old.stride + i / 64)) (i % 64)
+          ∙ (λ z. sym (has_is old to i b) z || sym (has_is old from i b) z)
+      by_row (inr b) =
+          has_past new to i (subst (λ n. n ≤ i) (sym sizes.rows) b)
+          ∙ (λ z. sym (has_past old to i b) z || sym (has_past old from i b) z)
 
-      kept : KeepMarks marks (slice_set marks p t)
-      kept = write_keeps marks p t b (λ e. is ∙ or_left _ _ e)
-
--- ---- the step's first k columns marked where column q is
-
-pub record IsStepMarkedTo (columns : List ℕ) (q m : ℕ) (old marks : List Bool)
-    (k : ℕ) : Type 0 where
-  pub long : length marks ≡ length old
-  pub kept : KeepMarks old marks
-  pub marked : (l : ℕ) → l < k → (i : ℕ) → i < m → is_marked old m q i ≡ true
-      → is_marked marks m (slice_index columns l) i ≡ true
-
-pub step_marked_none : (columns : List ℕ) (q m : ℕ) (old : List Bool)
-    → IsStepMarkedTo columns q m old old 0
-step_marked_none columns q m old =
-    record { long = refl; kept = keep_none old; marked = λ l b. absurd (omega (arith, b)) }
-
-pub step_marked_more : (columns : List ℕ) (q m : ℕ) (old marks new : List Bool) (k : ℕ)
-    → IsStepMarkedTo columns q m old marks k → length new ≡ length marks → KeepMarks marks new
-    → ((i : ℕ) → i < m → is_marked marks m q i ≡ true → is_marked new m (slice_index columns k)
-    i ≡ true) → IsStepMarkedTo columns q m old new (k + 1)
-step_marked_more columns q m old marks new k h long kept made = record {
-  long = long ∙ h.long;
-  kept = keep_more old marks new h.kept kept;
-  marked = λ l b i c e. same_or_other (is_marked new m (slice_index columns l) i ≡ true) l k
-      (λ f. subst (λ n. is_marked new m (slice_index columns n) i ≡ true) (sym f)
-      (made i c (h.kept (q * m + i) e)))
-      (λ n. kept (slice_index columns l * m + i) (h.marked l (omega (arith, b, n)) i c e));
-}
-
-pub step_marked_all : (step : SparseRow) (w q m : ℕ) (old marks : List Bool) (k : ℕ)
-    → k ≡ length (row_columns step) → IsStepMarkedTo (row_columns step) q m old marks k
-    → MarksUnits w q m (number_of step) old marks
-step_marked_all step w q m old marks k all h i b p j c e = by_place (sought (row_columns step) j k)
-  where
-    by_place : ((l : ℕ) × (l < k) × (slice_index (row_columns step) l ≡ j)) ⊎ ((l : ℕ) → l < k
-        → ¬ (slice_index (row_columns step) l ≡ j)) → number_of step j ≡ zero_ℚ
-    by_place (inl f) =
-        absurd (true≢false (sym (subst (λ n. is_marked marks m n i ≡ true) f.2
-        (h.marked f.0 f.1 i b p)) ∙ e))
-    by_place (inr none) =
-        number_missing (row_columns step) (row_values step) j
-        (λ l d. none l (subst (λ n. l < n) (sym all) d))
-
--- ---- after a pivot
-
-module _ (w r q : ℕ) (before middle : List Row) (units : ℕ → Rational) (new : Row)
-    (old marks : List Bool) (count : length middle ≡ length before) (row : r < length before)
-    (is : (j : ℕ) → j < w → mixed.number_of new.now j ≡ units j)
-    (wide : AreWide w before) (column : q < w)
-    (marked : AreMarked w old before) (kept : KeepMarks old marks)
-    (made : MarksUnits w q (length before) units old marks) where
-  pub marked_after : ((j : ℕ) → j < w → units j ≡ quotient_at (number_in_row before) r q j)
-      → AreLowered r q units before middle → AreMarked w marks (slice_set middle r new)
-  marked_after divided low i b j c e =
-      let here : i < length before = subst (λ n. i < n) many b in
-      let was : is_marked old (length before) j i ≡ false =
-      was_not old marks kept (j * length before + i)
-      (subst (λ n. is_marked marks n j i ≡ false) many e) in
-      same_or_other (number_in_row (slice_set middle r new) i j ≡ zero_ℚ) i r
-      (λ f. subst (λ n. number_in_row (slice_set middle r new) n j ≡ zero_ℚ) (sym f)
-      (ap (λ o. numbers (now_of o) j) (written_at middle r new (subst (λ n. r < n) (sym count) row))
-      ∙ is j c ∙ divided j c
-      ∙ ap (λ x. x /ℚ number_in_row before r q)
-      (marked r row j c (subst (λ n. is_marked old (length before) j n ≡ false) f was))
-      ∙ zero-*ℚ (inverse_ℚ (number_in_row before r q))))
-      (λ m. ap (λ o. numbers (now_of o) j) (written_off middle r i new m)
-      ∙ low i here m j (subst (λ n. j < n) (sym (wide i here)) c)
-      ∙ lowered-zero (number_in_row before i j) (number_in_row before i q) (units j)
-      (no_product i here j c (subst (λ n. is_marked marks n j i ≡ false) many e))
-      ∙ marked i here j c was)
+  joined_others : (j i : ℕ) → ¬ (j ≡ to) → has new j i ≡ has old j i
+  joined_others j i apart = by_row (cases_lt i old.rows)
     where
-      many : length (slice_set middle r new) ≡ length before
-      many = length-set middle r new ∙ count
+      off_lem : i < old.rows → (k : ℕ) → k < old.stride
+          → ¬ (j * old.stride + i / 64 ≡ to * old.stride + k)
+      off_lem b k c e =
+          apart (same_from_place j (i / 64) to k old.stride (low old i (omega (arith, b))) c e).0
 
-      no_product : (i : ℕ) → i < length before → (j : ℕ) → j < w
-          → is_marked marks (length before) j i ≡ false
-          → number_in_row before i q *ℚ units j ≡ zero_ℚ
-      no_product i b j c e = by_test (is_marked old (length before) q i) refl
-        where
-          by_test : (t : Bool) → is_marked old (length before) q i ≡ t
-              → number_in_row before i q *ℚ units j ≡ zero_ℚ
-          by_test true f =
-              step-zero (number_in_row before i q) (units j) (made i b f j c e)
-          by_test false f =
-              zero-step (number_in_row before i q) (units j) (marked i b q column f)
+      by_row : (i < old.rows) ⊎ (old.rows ≤ i) → has new j i ≡ has old j i
+      by_row (inl b) =
+          has_is new j i (subst (λ n. i < n) (sym sizes.rows) b)
+          ∙ ap (λ x. nat_eq x 1) (read_joined j i
+          ∙ ap (λ w. bit_at w (i % 64)) (h.others (j * old.stride + i / 64) (off_lem b)))
+          ∙ sym (has_is old j i b)
+      by_row (inr b) =
+          has_past new j i (subst (λ n. n ≤ i) (sym sizes.rows) b) ∙ sym (has_past old j i b)
 
--- ---- whole numbers marked up to a column
+  pub joined_is : IsJoined from to old new
+  joined_is = record { sizes = sizes; here = joined_here; others = joined_others }
 
-pub record AreNumbersMarkedTo (numbers : ℕ → Rational) (i m : ℕ) (old marks : List Bool) (k : ℕ) :
-    Type 0 where
-  pub long : length marks ≡ length old
-  pub kept : KeepMarks old marks
-  pub marked : (j : ℕ) → j < k → is_marked marks m j i ≡ false → numbers j ≡ zero_ℚ
+-- ---- rows that are passed over
 
-pub numbers_marked_none : (numbers : ℕ → Rational) (i m : ℕ) (old : List Bool)
-    → AreNumbersMarkedTo numbers i m old old 0
-numbers_marked_none numbers i m old =
-    record { long = refl; kept = keep_none old; marked = λ j b. absurd (omega (arith, b)) }
-
-pub numbers_marked_more : (numbers : ℕ → Rational) (i m : ℕ) (old marks : List Bool) (k : ℕ)
-    (t u : Bool) → AreNumbersMarkedTo numbers i m old marks k → k * m + i < length marks
-    → t ≡ (is_marked marks m k i || u) → u ≡ not (rational_eq (numbers k) zero_ℚ)
-    → AreNumbersMarkedTo numbers i m old (slice_set marks (k * m + i) t) (k + 1)
-numbers_marked_more numbers i m old marks k t u h b is told = record {
-  long = length-set marks p t ∙ h.long;
-  kept = keep_more old marks (slice_set marks p t) h.kept kept;
-  marked = λ j c e. same_or_other (numbers j ≡ zero_ℚ) j k
-      (λ f. subst (λ n. numbers n ≡ zero_ℚ) (sym f) (zero_from_test (numbers k) (sym told
-      ∙ right_false _ _
-      (sym is ∙ sym (get_or-set_same marks p t false b)
-      ∙ subst (λ n. is_marked (slice_set marks p t) m n i ≡ false) f e))))
-      (λ n. h.marked j (omega (arith, c, n))
-      (was_not marks (slice_set marks p t) kept (j * m + i) e));
-}
+pub unmarked_more : (marks : Marks) (j k from low_bit bit to : ℕ)
+    → AreUnmarked marks j from (k * 64 + low_bit)
+    → ((n : ℕ) → low_bit ≤ n → n < bit → bit_at (slice_index marks.words.items
+    (j * marks.stride + k)) n ≡ 0)
+    → to ≤ k * 64 + bit → to ≤ (k + 1) * 64 → AreUnmarked marks j from to
+unmarked_more marks j k from low_bit bit to h unset near within i f t =
+    by_place (cases_lt i (k * 64 + low_bit))
   where
-    p : ℕ
-    p = k * m + i
+    word_lem : (i k n to : ℕ) → k * 64 + n ≤ i → i < to → to ≤ (k + 1) * 64 → k ≡ i / 64
+    word_lem i k n to b t w = omega (arith, b, t, w)
 
-    kept : KeepMarks marks (slice_set marks p t)
-    kept = write_keeps marks p t b (λ e. is ∙ or_left _ _ e)
+    low_lem : (i k n to : ℕ) → k * 64 + n ≤ i → i < to → to ≤ (k + 1) * 64 → n ≤ i % 64
+    low_lem i k n to b t w = omega (arith, b, t, w)
 
-    right_false : (a c : Bool) → (a || c) ≡ false → c ≡ false
-    right_false true c e = absurd (true≢false e)
-    right_false false c e = e
+    bit_lem : (i k n bit to : ℕ) → k * 64 + n ≤ i → i < to → to ≤ (k + 1) * 64
+        → to ≤ k * 64 + bit → i % 64 < bit
+    bit_lem i k n bit to b t w near = omega (arith, b, t, w, near)
 
--- columns of zeros are passed over
-pub numbers_marked_past : (numbers : ℕ → Rational) (i m : ℕ) (old marks : List Bool) (k to : ℕ)
-    → AreNumbersMarkedTo numbers i m old marks k
-    → ((j : ℕ) → k ≤ j → j < to → numbers j ≡ zero_ℚ)
-    → AreNumbersMarkedTo numbers i m old marks to
-numbers_marked_past numbers i m old marks k to h zeros = record {
-  long = h.long;
-  kept = h.kept;
-  marked = λ j c e. by_place j c e (cases_lt j k);
-}
+    by_place : (i < k * 64 + low_bit) ⊎ (k * 64 + low_bit ≤ i) → has marks j i ≡ false
+    by_place (inl b) = h i f b
+    by_place (inr b) =
+        unset_is marks j i
+        (subst (λ n. bit_at (slice_index marks.words.items (j * marks.stride + n)) (i % 64) ≡ 0)
+        (word_lem i k low_bit to b t within)
+        (unset (i % 64) (low_lem i k low_bit to b t within)
+        (bit_lem i k low_bit bit to b t within near)))
+
+-- the row whose bit is found
+pub found_marked : (marks : Marks) (j k bit : ℕ) → bit < 64 → k * 64 + bit < marks.rows
+    → bit_at (slice_index marks.words.items (j * marks.stride + k)) bit ≡ 1
+    → has marks j (k * 64 + bit) ≡ true
+found_marked marks j k bit small b e =
+    has_is marks j (k * 64 + bit) b
+    ∙ ap (λ x. nat_eq x 1)
+    ((λ z. bit_at (slice_index marks.words.items (j * marks.stride + word_lem k bit small z))
+    (bit_lem k bit small z)) ∙ e)
   where
-    by_place : (j : ℕ) → j < to → is_marked marks m j i ≡ false → (j < k) ⊎ (k ≤ j)
-        → numbers j ≡ zero_ℚ
-    by_place j c e (inl b) = h.marked j b e
-    by_place j c e (inr b) = zeros j b c
+    word_lem : (k bit : ℕ) → bit < 64 → (k * 64 + bit) / 64 ≡ k
+    word_lem k bit b = omega (arith, b)
 
--- the same units, in as many columns
-pub units_marked : (v w q m : ℕ) (units others : ℕ → Rational) (old new : List Bool) → v ≡ w
-    → ((j : ℕ) → others j ≡ units j) → MarksUnits v q m units old new
-    → MarksUnits w q m others old new
-units_marked v w q m units others old new e is h i b p j c f =
-    is j ∙ h i b p j (subst (λ n. j < n) (sym e) c) f
+    bit_lem : (k bit : ℕ) → bit < 64 → (k * 64 + bit) % 64 ≡ bit
+    bit_lem k bit b = omega (arith, b)
 
--- the step's listed columns, and its right side
-module _ (step : NarrowStep) (q m : ℕ) (old marks new : List Bool) (k : ℕ) (all : k ≡ step.used)
-    (h : IsStepMarkedTo step.columns.items q m old marks k) (kept : KeepMarks marks new)
-    (side : (i : ℕ) → i < m → is_marked marks m q i ≡ true
-    → is_marked new m (whole.width_of step.row) i ≡ true) where
-  listed_is : (l : ℕ) → l < length (take step.used step.columns.items)
-      → (l < step.used) × (slice_index (take step.used step.columns.items) l
-      ≡ slice_index step.columns.items l)
-  listed_is l b =
-      let c : l < step.used = below_lem l (subst (λ n. l < n)
-      (length-take step.used step.columns.items) b) in
-      (c, get_or-take step.used step.columns.items l 0 c)
-    where
-      below_lem : (l : ℕ) → l < min step.used (length step.columns.items) → l < step.used
-      below_lem l c = omega (arith, c)
-
-  zero_numerator : (j : ℕ) → j < whole.width_of step.row
-      → slice_index_or step.row.numbers.items j (pos 0) ≡ pos 0
-      → whole.number_of step.row j ≡ zero_ℚ
-  zero_numerator j b z =
-      ap (λ n. reduce n step.row.den)
-      (get_or_default step.row.numbers.items j step.row.side (pos 0) b ∙ z)
-      ∙ sym (over-zero_ℚ step.row.den step.row.above)
-
-  pub narrow_marked : MarksUnits (whole.width_of step.row + 1) q m (whole.number_of step.row)
-      old new
-  narrow_marked i b p j c e = by_end (cases_lt j (whole.width_of step.row))
-    where
-      column : List ℕ
-      column = take step.used step.columns.items
-
-      by_place : j < whole.width_of step.row
-          → ((l : ℕ) × (l < length column) × (slice_index column l ≡ j))
-          ⊎ ((l : ℕ) → l < length column → ¬ (slice_index column l ≡ j))
-          → whole.number_of step.row j ≡ zero_ℚ
-      by_place d (inr none) = zero_numerator j d (step.lists.others j d none)
-      by_place d (inl f) =
-          let is = listed_is f.0 f.1 in
-          absurd (true≢false (sym (kept (j * m + i) (subst (λ n. is_marked marks m n i ≡ true)
-          (sym is.1 ∙ f.2) (h.marked f.0 (subst (λ n. f.0 < n) (sym all) is.0) i b p))) ∙ e))
-
-      by_end : (j < whole.width_of step.row) ⊎ (whole.width_of step.row ≤ j)
-          → whole.number_of step.row j ≡ zero_ℚ
-      by_end (inl d) = by_place d (sought column j (length column))
-      by_end (inr d) =
-          absurd (true≢false (sym (subst (λ n. is_marked new m n i ≡ true) (end_lem j _ c d)
-          (side i b (h.kept (q * m + i) p))) ∙ e))
-        where
-          end_lem : (j w : ℕ) → j < w + 1 → w ≤ j → w ≡ j
-          end_lem j w x y = omega (arith, x, y)
-
--- a listed column is one of the step's
-pub listed_below : (step : NarrowStep) (k : ℕ) → k < step.used
-    → slice_index step.columns.items k < whole.width_of step.row
-listed_below step k b =
-    subst (λ n. n < whole.width_of step.row) (get_or-take step.used step.columns.items k 0 b)
-    (step.lists.within k (subst (λ n. k < n) (sym (length-take step.used step.columns.items
-    ∙ min_lem step.used (length step.columns.items) step.fits)) b))
+-- the found row, or the end where it is none
+pub least_marked : (marks : Marks) (j k bit : ℕ) → bit < 64
+    → bit_at (slice_index marks.words.items (j * marks.stride + k)) bit ≡ 1 → (row : ℕ)
+    → row ≡ min (k * 64 + bit) marks.rows → row < marks.rows → has marks j row ≡ true
+least_marked marks j k bit small e row is b =
+    ap (has marks j) (here_lem row (k * 64 + bit) marks.rows is b)
+    ∙ found_marked marks j k bit small
+    (subst (λ n. n < marks.rows) (here_lem row (k * 64 + bit) marks.rows is b) b) e
   where
-    min_lem : (a b : ℕ) → a ≤ b → min a b ≡ a
-    min_lem a b c = omega (arith, c)
+    here_lem : (row a n : ℕ) → row ≡ min a n → row < n → row ≡ a
+    here_lem row a n is b = omega (arith, is, b)

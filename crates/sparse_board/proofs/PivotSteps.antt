@@ -1,11 +1,12 @@
 -- A pivot put in place, and rows worked out by units that agree.
-use Rattle.std.specs.Prelude.{◌≡◌, ℕ, ◌+◌, ◌<◌, Bool, IsTrue, List, length, Some, slice_set}
+use Rattle.std.specs.Prelude.{◌≡◌, ℕ, ◌+◌, ◌<◌, IsTrue, List, length, Some, slice_set}
 use Rattle.std.proofs.Common.{sym, ◌∙◌, ap, subst}
 use Rattle.std.proofs.lemmas.List.{length-set}
 use Rattle.tableau_core.specs.KeptLaws.{settled_by}
 use Rattle.tableau_core.specs.Numbers.{AreLess, IsSettled}
 use Rattle.tableau_core.specs.ItemLaws.{each_written, written_at, written_off}
 use Rattle.sparse_board.specs.declared.cost_rows.CostRows.{CostRows}
+use Rattle.sparse_board.specs.declared.marks.Marks.{Marks}
 use Rattle.sparse_board.specs.declared.row.Row.{Row}
 use Rattle.sparse_board.specs.declared.mixed_row.MixedRow.{MixedRow}
 use Rattle.sparse_board.specs.declared.step.Step.{Step}
@@ -28,7 +29,7 @@ module _ (before middle : List Row) (r : ℕ) (step : Step) (new : Row)
       ∙ wide i (subst (λ k. i < k) (length-set middle r new ∙ count) b))
 
   module _ (w q : ℕ) (costs next : CostRows)
-      (wide : AreWide (w + 1) before) (long : step.width ≡ w + 1) (marks : List Bool)
+      (wide : AreWide (w + 1) before) (long : step.width ≡ w + 1) (marks : Marks)
       (ready : IsBoardReady before r q marks costs step)
       (is : (j : ℕ) → j < w + 1 → number_of new.now j ≡ units_of step j)
       (low : AreLowered r q (units_of step) before middle) where

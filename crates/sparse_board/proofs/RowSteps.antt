@@ -1,8 +1,8 @@
 -- A row that is searched, and one that gets a number more.
-use Rattle.std.specs.Prelude.{◌≡◌, ℕ, ◌+◌, ◌<◌, ◌≤◌, Bool, true, false, List, [], ◌∷◌, ◌++◌, length, slice_index, slice_index_or, take, ◌⊎◌, Option, Some, None, IfSome, Result, Ok, Err, OnOk, vec_len, refl}
+use Rattle.std.specs.Prelude.{◌≡◌, ℕ, ◌+◌, ◌<◌, ◌≤◌, true, List, [], ◌∷◌, ◌++◌, length, slice_index, slice_index_or, take, ◌⊎◌, Option, Some, None, IfSome, Result, Ok, Err, OnOk, vec_len, refl}
 use Rattle.std.proofs.Common.{sym, ◌∙◌, ap, arith, subst, inl, inr}
 use Rattle.std.proofs.lemmas.Bool.{cases_lt}
-use Rattle.std.proofs.lemmas.List.{get_or-map, get_or_default, length-map, map-append, take-map}
+use Rattle.std.proofs.lemmas.List.{get_or-map, length-map, map-append, take-map}
 use Rattle.std.specs.List.Sorted.{IsBinarySearchResult, IsNonDecreasingBy, IsSearchInRange}
 use Rattle.std.specs.Ordering.{nat_cmp, ordering_index}
 use Rattle.std.specs.declared.cmp.Ordering.TheVariants.{Less, Equal, Greater}
@@ -266,10 +266,6 @@ pub column_is : (row : SparseRow) (k : ℕ) (item : Entry) → k < length (row_c
     → item ≡ slice_index_or row.entries.items k item → item.column ≡ slice_index (row_columns row) k
 column_is row k item b e =
     column_of row.entries.items k item (subst (λ n. k < n) (columns_long row) b) e
-
-pub mark_is : (xs : List Bool) (k : ℕ) (item : Bool) → k < length xs
-    → item ≡ slice_index_or xs k item → item ≡ slice_index_or xs k false
-mark_is xs k item b e = e ∙ get_or_default xs k item false b
 
 pub on_ok : {T E : Type 0} (r : Result T E) (P : Type 0) → P → OnOk r P
 on_ok (Ok x) P p = p

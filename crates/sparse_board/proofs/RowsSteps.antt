@@ -1,17 +1,17 @@
 -- The rows worked out, or put in place, up to the i-th.
-use Rattle.std.specs.Prelude.{◌≡◌, ℕ, ◌+◌, ◌<◌, ◌≤◌, Bool, true, false, ◌&&◌, ◌||◌, not, nat_eq, List, length, slice_index_or, Option, Some, None, slice_get, slice_set, refl}
-use Rattle.std.proofs.Common.{sym, ◌∙◌, ap, ap₂, arith, subst, true≢false}
-use Rattle.std.proofs.lemmas.Bool.{eq-eqb, eqb-true, ne_eqb}
+use Rattle.std.specs.Prelude.{◌≡◌, ℕ, ◌+◌, ◌<◌, ◌≤◌, ◌⊎◌, Bool, true, false, ◌||◌, nat_eq, List, length, slice_index_or, Option, Some, None, slice_get, slice_set, refl}
+use Rattle.std.proofs.Common.{inl, inr, sym, ◌∙◌, ap, ap₂, arith, subst, true≢false}
+use Rattle.std.proofs.lemmas.Bool.{cases_lt, eq-eqb, ne_eqb}
 use Rattle.std.proofs.lemmas.List.{length-set}
 use Rattle.std.proofs.Math.Bool.{or-true}
 use Rattle.ratio_core.specs.Rational.{Fits, Rational, zero_ℚ, ◌*ℚ◌, ◌-ℚ◌}
 use Rattle.rational_laws.specs.Fitting.{Fits_zero}
 use Rattle.simplex_form.specs.Fit.{lowered_fits}
 use Rattle.tableau_core.specs.LoweringLaws.{lowered-zero, lowered_fits-zero, zero-step}
-use Rattle.simplex_form.specs.Search.{all_below}
 use Rattle.simplex_laws.specs.BoundedSumLaws.{same_or_other}
 use Rattle.tableau_core.specs.ItemLaws.{each_written, read_at, written_off}
-use Rattle.simplex_laws.specs.SearchLaws.{all_below_all, all_below_failed, all_below_more}
+use Rattle.simplex_laws.specs.SearchLaws.{all_below_all, all_below_failed}
+use Rattle.sparse_board.specs.declared.marks.Marks.{Marks}
 use Rattle.sparse_board.specs.declared.row.Row.{Row}
 use Rattle.sparse_board.specs.declared.mixed_row.MixedRow.{MixedRow}
 use Rattle.sparse_board.specs.declared.step.Step.{Step}
@@ -20,18 +20,19 @@ use Rattle.sparse_board.specs.Mixed.{number_of, units_of, width_of}
 use Rattle.tableau_core.specs.Numbers.{differences_fit}
 use Rattle.sparse_board.specs.Lowering.{IsPrepared}
 use Rattle.sparse_board.specs.Rows.{AreWide, IsPreparedAt, now_at, now_of, number_in_row, numbers, rows_fit, width_at}
-use Rattle.sparse_board.specs.Marks.{AreMarked, ArePrepared, is_marked}
+use Rattle.sparse_board.specs.Marks.{AreUnmarked, has}
+use Rattle.sparse_board.specs.Marking.{AreMarked, ArePrepared}
 use Rattle.sparse_board.proofs.MixedSteps.{mixed_fits}
 
 -- the rows below i are worked out, and all stand
-pub record ArePreparedTo (w r q : ℕ) (step : Step) (marks : List Bool)
+pub record ArePreparedTo (w r q : ℕ) (step : Step) (marks : Marks)
     (before rows : List Row) (i : ℕ) : Type 0 where
   pub within : i ≤ length before
   pub long : length rows ≡ length before
   pub stays : (k : ℕ) → now_at rows k ≡ now_at before k
-  pub fit : all_below i (λ k. nat_eq k r || differences_fit w (number_in_row before k)
+  pub fit : (k : ℕ) → k < i → (nat_eq k r || differences_fit w (number_in_row before k)
       (number_in_row before k q) (units_of step)) ≡ true
-  pub prepared : (k : ℕ) → k < i → ¬ (k ≡ r) → is_marked marks (length before) q k ≡ true
+  pub prepared : (k : ℕ) → k < i → ¬ (k ≡ r) → has marks q k ≡ true
       → IsPreparedAt q step (slice_get rows k)
 
 -- what stands is lowered
@@ -40,8 +41,7 @@ IsLoweredNow q units old new =
     (j : ℕ) → j < width_at old → numbers new j ≡ numbers old j -ℚ numbers old q *ℚ units j
 
 -- the rows below i are put in place
-pub record AreSettledTo (r q : ℕ) (step : Step) (marks : List Bool) (before rows : List Row)
-    (i : ℕ) : Type 0 where
+pub record AreSettledTo (r q : ℕ) (step : Step) (before rows : List Row) (i : ℕ) : Type 0 where
   pub within : i ≤ length before
   pub long : length rows ≡ length before
   pub later : (k : ℕ) → i ≤ k → slice_get rows k ≡ slice_get before k
@@ -61,22 +61,7 @@ pub row_wide : (w : ℕ) (rows : List Row) (i : ℕ) (d : Row) → AreWide w row
     → width_of (slice_index_or rows i d).now ≡ w
 row_wide w rows i d wide b = sym (ap width_at (row_is rows i d b)) ∙ wide i b
 
--- ---- a row that is touched, and one that is passed over
-
-pub touched_is : (i r : ℕ) (m : Bool) → (not (nat_eq i r) && m) ≡ true → (¬ (i ≡ r)) × (m ≡ true)
-touched_is i r m e = by_test (nat_eq i r) m refl e
-  where
-    by_test : (t n : Bool) → nat_eq i r ≡ t → (not t && n) ≡ true → (¬ (i ≡ r)) × (n ≡ true)
-    by_test true n f h = absurd (true≢false (sym h))
-    by_test false n f h = ((λ q. true≢false (sym (eq-eqb i r q) ∙ f)), h)
-
-pub passed_is : (P : Type 0) (i r : ℕ) (m : Bool) → (not (nat_eq i r) && m) ≡ false → (i ≡ r → P)
-    → (m ≡ false → P) → P
-passed_is P i r m e same other = by_test (nat_eq i r) refl e
-  where
-    by_test : (t : Bool) → nat_eq i r ≡ t → (not t && m) ≡ false → P
-    by_test true f h = same (eqb-true i r f)
-    by_test false f h = other h
+-- ---- a row that is passed over
 
 numbers_fit : (o : Option MixedRow) (j : ℕ) → Fits (numbers o j)
 numbers_fit None j = Fits_zero
@@ -95,28 +80,21 @@ zero_stays : (q : ℕ) (o : Option MixedRow) (units : ℕ → Rational) → numb
 zero_stays q o units z j b =
     sym (lowered-zero (numbers o j) (numbers o q) (units j) (zero-step (numbers o q) (units j) z))
 
--- the test of a row, where there are as many rows as before
-pub touched_of : (n m i r q : ℕ) (marks : List Bool) (t : Bool) → n ≡ m
-    → t ≡ (not (nat_eq i r) && is_marked marks n q i) → (u : Bool) → t ≡ u
-    → (not (nat_eq i r) && is_marked marks m q i) ≡ u
-touched_of n m i r q marks t long is u e =
-    sym (is ∙ ap (λ k. not (nat_eq i r) && is_marked marks k q i) long) ∙ e
-
 -- ---- the rows worked out
 
-pub prepared-none : (w r q : ℕ) (step : Step) (marks : List Bool) (before : List Row)
+pub prepared-none : (w r q : ℕ) (step : Step) (marks : Marks) (before : List Row)
     → ArePreparedTo w r q step marks before before 0
 prepared-none w r q step marks before = record {
   within = omega arith;
   long = refl;
   stays = λ k. refl;
-  fit = refl;
+  fit = λ k b. absurd (omega (arith, b));
   prepared = λ k b. absurd (omega (arith, b));
 }
 
-pub settled-none : (r q : ℕ) (step : Step) (marks : List Bool) (before : List Row)
-    → AreSettledTo r q step marks before before 0
-settled-none r q step marks before = record {
+pub settled-none : (r q : ℕ) (step : Step) (before : List Row)
+    → AreSettledTo r q step before before 0
+settled-none r q step before = record {
   within = omega arith;
   long = refl;
   later = λ k b. refl;
@@ -125,8 +103,7 @@ settled-none r q step marks before = record {
   lowered = λ k b. absurd (omega (arith, b));
 }
 
-module _ (w r q : ℕ) (step : Step) (marks : List Bool) (before rows : List Row)
-    (i : ℕ) where
+module _ (w r q : ℕ) (step : Step) (marks : Marks) (before rows : List Row) (i : ℕ) where
   abbrev pub row_fits : ℕ → Bool
   row_fits k =
       nat_eq k r || differences_fit w (number_in_row before k) (number_in_row before k q) (units_of step)
@@ -150,6 +127,12 @@ module _ (w r q : ℕ) (step : Step) (marks : List Bool) (before rows : List Row
       (number_of (slice_index_or rows i d).now q) (units_of step) ≡ t)
       (prepared_wide d h wide b) (sym fits))
 
+  fit_more : ArePreparedTo w r q step marks before rows i → row_fits i ≡ true → (k : ℕ) → k < i + 1
+      → row_fits k ≡ true
+  fit_more h here k b =
+      same_or_other (row_fits k ≡ true) k i (λ e. ap row_fits e ∙ here)
+      (λ n. h.fit k (omega (arith, b, n)))
+
   pub prepared-more : (d new : Row) → ArePreparedTo w r q step marks before rows i
       → AreWide w before → i < length before → new.now ≡ (slice_index_or rows i d).now
       → true ≡ differences_fit (width_of (slice_index_or rows i d).now)
@@ -163,36 +146,54 @@ module _ (w r q : ℕ) (step : Step) (marks : List Bool) (before rows : List Row
         long = length-set rows i new ∙ h.long;
         stays = each_written (λ k o. now_of o ≡ now_at before k) rows i new at (ap Some same
             ∙ row_stands d h b) (λ k m. h.stays k);
-        fit = all_below_more i row_fits h.fit (ap (λ x. nat_eq i r || x)
-            (fits_here d true h wide b fits) ∙ or-true (nat_eq i r));
+        fit = fit_more h (ap (λ x. nat_eq i r || x) (fits_here d true h wide b fits)
+            ∙ or-true (nat_eq i r));
         prepared =
-            each_written (λ k o. k < i + 1 → ¬ (k ≡ r) → is_marked marks (length before) q k ≡ true
+            each_written (λ k o. k < i + 1 → ¬ (k ≡ r) → has marks q k ≡ true
             → IsPreparedAt q step o) rows i new at
             (λ _ _ _. made) (λ k m c n marked. h.prepared k (omega (arith, c, m)) n marked);
       }
 
-  -- the pivot's row, or one that isn't marked, is passed over
-  pub prepared-passed : ArePreparedTo w r q step marks before rows i → i < length before → q < w
-      → AreMarked w marks before → (not (nat_eq i r) && is_marked marks (length before) q i) ≡ false
+  -- the pivot's row is passed over
+  pub prepared-pivot : ArePreparedTo w r q step marks before rows i → i < length before → i ≡ r
       → ArePreparedTo w r q step marks before rows (i + 1)
-  prepared-passed h b column marked e = record {
+  prepared-pivot h b p = record {
     within = omega (arith, b);
     long = h.long;
     stays = h.stays;
-    fit = all_below_more i row_fits h.fit
-        (passed_is (row_fits i ≡ true) i r (is_marked marks (length before) q i) e
-        (λ p. ap (λ x. x || differences_fit w (number_in_row before i) (number_in_row before i q)
-        (units_of step)) (eq-eqb i r p))
-        (λ p. ap (λ x. nat_eq i r || x) (zero_fits w q (now_at before i) (units_of step)
-        (marked i b q column p)) ∙ or-true (nat_eq i r)));
+    fit = fit_more h (ap (λ x. x || differences_fit w (number_in_row before i)
+        (number_in_row before i q) (units_of step)) (eq-eqb i r p));
     prepared = λ k c n m. same_or_other (IsPreparedAt q step (slice_get rows k)) k i
-        (λ p. passed_is (IsPreparedAt q step (slice_get rows k)) i r
-        (is_marked marks (length before) q i) e
-        (λ f. absurd (n (p ∙ f)))
-        (λ f. absurd (true≢false (sym (subst (λ l. is_marked marks (length before) q l ≡ true) p m)
-        ∙ f))))
-        (λ p. h.prepared k (omega (arith, c, p)) n m);
+        (λ f. absurd (n (f ∙ p)))
+        (λ f. h.prepared k (omega (arith, c, f)) n m);
   }
+
+  -- rows that aren't marked are passed over
+  pub prepared-past : (to : ℕ) → ArePreparedTo w r q step marks before rows i → to ≤ length before
+      → q < w → AreMarked w marks before → AreUnmarked marks q i to
+      → ArePreparedTo w r q step marks before rows to
+  prepared-past to h within column marked unmarked = record {
+    within = within;
+    long = h.long;
+    stays = h.stays;
+    fit = λ k b. fits_at k b (cases_lt k i);
+    prepared = λ k c n m. prepared_at k c n m (cases_lt k i);
+  }
+    where
+      below_lem : (k to n : ℕ) → k < to → to ≤ n → k < n
+      below_lem k to n b c = omega (arith, b, c)
+
+      fits_at : (k : ℕ) → k < to → (k < i) ⊎ (i ≤ k) → row_fits k ≡ true
+      fits_at k b (inl l) = h.fit k l
+      fits_at k b (inr l) =
+          ap (λ x. nat_eq k r || x) (zero_fits w q (now_at before k) (units_of step)
+          (marked k (below_lem k to (length before) b within) q column (unmarked k l b)))
+          ∙ or-true (nat_eq k r)
+
+      prepared_at : (k : ℕ) → k < to → ¬ (k ≡ r) → has marks q k ≡ true → (k < i) ⊎ (i ≤ k)
+          → IsPreparedAt q step (slice_get rows k)
+      prepared_at k c n m (inl l) = h.prepared k l n m
+      prepared_at k c n m (inr l) = absurd (true≢false (sym m ∙ unmarked k l c))
 
   -- a row that is refused
   pub rows-refused : (d : Row) → ArePreparedTo w r q step marks before rows i → AreWide w before
@@ -206,35 +207,33 @@ module _ (w r q : ℕ) (step : Step) (marks : List Bool) (before rows : List Row
 
 -- ---- the rows put in place
 
-module _ (r q : ℕ) (step : Step) (marks : List Bool) (before rows : List Row) (i : ℕ) where
-  row_before : (d : Row) → AreSettledTo r q step marks before rows i → i < length before
+module _ (r q : ℕ) (step : Step) (before rows : List Row) (i : ℕ) where
+  row_before : (d : Row) → AreSettledTo r q step before rows i → i < length before
       → Some (slice_index_or rows i d) ≡ slice_get before i
   row_before d h b =
       sym (read_at rows i d (subst (λ n. i < n) (sym h.long) b)) ∙ h.later i (omega arith)
 
   -- the row that is read was worked out
-  pub prepared_read : (d : Row) → AreSettledTo r q step marks before rows i → i < length before
-      → (not (nat_eq i r) && is_marked marks (length before) q i) ≡ true
-      → ArePrepared r q step marks before → IsPrepared q step (slice_index_or rows i d)
-  prepared_read d h b touched p =
-      let is = touched_is i r (is_marked marks (length before) q i) touched in
-      subst (IsPreparedAt q step) (sym (row_before d h b)) (p i b is.0 is.1)
+  pub prepared_read : (d : Row) (marks : Marks) → AreSettledTo r q step before rows i
+      → i < length before → ¬ (i ≡ r) → has marks q i ≡ true → ArePrepared r q step marks before
+      → IsPrepared q step (slice_index_or rows i d)
+  prepared_read d marks h b other here p =
+      subst (IsPreparedAt q step) (sym (row_before d h b)) (p i b other here)
 
-  pub settled-more : (d new : Row) → AreSettledTo r q step marks before rows i → i < length before
-      → (not (nat_eq i r) && is_marked marks (length before) q i) ≡ true
+  pub settled-more : (d new : Row) → AreSettledTo r q step before rows i → i < length before
+      → ¬ (i ≡ r)
       → mixed.IsLowered (number_of (slice_index_or rows i d).now q) (units_of step)
       (slice_index_or rows i d).now new.now
-      → AreSettledTo r q step marks before (slice_set rows i new) (i + 1)
-  settled-more d new h b touched low =
+      → AreSettledTo r q step before (slice_set rows i new) (i + 1)
+  settled-more d new h b other low =
       let at : i < length rows = subst (λ n. i < n) (sym h.long) b in
       let old : Some (slice_index_or rows i d) ≡ slice_get before i = row_before d h b in
-      let is = touched_is i r (is_marked marks (length before) q i) touched in
       record {
         within = omega (arith, b);
         long = length-set rows i new ∙ h.long;
         later = λ k c. written_off rows i k new (λ e. above_lem k i c e)
             ∙ h.later k (omega (arith, c));
-        pivot_stays = ap now_of (written_off rows i r new (λ e. is.0 (sym e))) ∙ h.pivot_stays;
+        pivot_stays = ap now_of (written_off rows i r new (λ e. other (sym e))) ∙ h.pivot_stays;
         widths = each_written (λ k o. width_at (now_of o) ≡ width_at (now_at before k)) rows i new
             at (low.width ∙ ap (λ o. width_at (now_of o)) old) (λ k m. h.widths k);
         lowered =
@@ -248,25 +247,44 @@ module _ (r q : ℕ) (step : Step) (marks : List Bool) (before rows : List Row) 
       above_lem : (k i : ℕ) → i + 1 ≤ k → k ≡ i → ⊥
       above_lem k i c e = absurd (omega (arith, c, e))
 
-  pub settled-passed : (w : ℕ) → AreSettledTo r q step marks before rows i → i < length before
-      → q < w → AreMarked w marks before
-      → (not (nat_eq i r) && is_marked marks (length before) q i) ≡ false
-      → AreSettledTo r q step marks before rows (i + 1)
-  settled-passed w h b column marked e = record {
+  -- the pivot's row is passed over
+  pub settled-pivot : AreSettledTo r q step before rows i → i < length before → i ≡ r
+      → AreSettledTo r q step before rows (i + 1)
+  settled-pivot h b p = record {
     within = omega (arith, b);
     long = h.long;
     later = λ k c. h.later k (omega (arith, c));
     pivot_stays = h.pivot_stays;
     widths = h.widths;
-    lowered =
-        λ k c m. same_or_other (IsLoweredNow q (units_of step) (now_at before k)
+    lowered = λ k c m. same_or_other (IsLoweredNow q (units_of step) (now_at before k)
         (now_at rows k)) k i
-        (λ f. passed_is (IsLoweredNow q (units_of step) (now_at before k) (now_at rows k)) i r
-        (is_marked marks (length before) q i) e
-        (λ g. absurd (m (f ∙ g)))
-        (λ g. subst (λ l. IsLoweredNow q (units_of step) (now_at before l) (now_at rows l)) (sym f)
-        (subst (IsLoweredNow q (units_of step) (now_at before i))
-        (sym (ap now_of (h.later i (omega arith))))
-        (zero_stays q (now_at before i) (units_of step) (marked i b q column g)))))
+        (λ f. absurd (m (f ∙ p)))
         (λ f. h.lowered k (omega (arith, c, f)) m);
   }
+
+  -- rows that aren't marked are passed over
+  pub settled-past : (w to : ℕ) (marks : Marks) → AreSettledTo r q step before rows i → i ≤ to
+      → to ≤ length before → q < w → AreMarked w marks before → AreUnmarked marks q i to
+      → AreSettledTo r q step before rows to
+  settled-past w to marks h past within column marked unmarked = record {
+    within = within;
+    long = h.long;
+    later = λ k c. h.later k (above_lem i to k past c);
+    pivot_stays = h.pivot_stays;
+    widths = h.widths;
+    lowered = λ k c m. lowered_at k c m (cases_lt k i);
+  }
+    where
+      above_lem : (i to k : ℕ) → i ≤ to → to ≤ k → i ≤ k
+      above_lem i to k b c = omega (arith, b, c)
+
+      below_lem : (k to n : ℕ) → k < to → to ≤ n → k < n
+      below_lem k to n b c = omega (arith, b, c)
+
+      lowered_at : (k : ℕ) → k < to → ¬ (k ≡ r) → (k < i) ⊎ (i ≤ k)
+          → IsLoweredNow q (units_of step) (now_at before k) (now_at rows k)
+      lowered_at k c m (inl l) = h.lowered k l m
+      lowered_at k c m (inr l) =
+          subst (IsLoweredNow q (units_of step) (now_at before k)) (sym (ap now_of (h.later k l)))
+          (zero_stays q (now_at before k) (units_of step)
+          (marked k (below_lem k to (length before) c within) q column (unmarked k l c)))

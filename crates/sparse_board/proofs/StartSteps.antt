@@ -1,5 +1,5 @@
 -- The rows of a board at its start.
-use Rattle.std.specs.Prelude.{◌≡◌, ℕ, ◌+◌, ◌*◌, ◌-◌, ◌<◌, ◌≤◌, ◌^◌, List, [], ◌∷◌, drop, length, slice_index_or, refl}
+use Rattle.std.specs.Prelude.{◌≡◌, ℕ, ◌+◌, ◌-◌, ◌<◌, ◌≤◌, ◌^◌, List, [], ◌∷◌, drop, length, slice_index_or, refl}
 use Rattle.std.proofs.Common.{sym, ◌∙◌, ap, arith, subst}
 use Rattle.std.proofs.Math.ListN.{drop_of_length-le}
 use Rattle.std.proofs.lemmas.List.{drop_more}
@@ -19,7 +19,7 @@ use Rattle.sparse_board.specs.Mixed as mixed
 use Rattle.sparse_board.specs.Numbers.{Adds, HoldsBelow, number_of, row_columns}
 use Rattle.sparse_board.specs.Sparse.{IsBelow, columns_in}
 use Rattle.sparse_board.specs.Rows.{AreWide}
-use Rattle.sparse_board.specs.Marks.{AreMarked}
+use Rattle.sparse_board.specs.Marking.{AreMarked}
 use Rattle.sparse_board.specs.Kept.{IsKept, columns_of}
 use Rattle.sparse_board.proofs.HeldLemmas.{below_less, held_next, held_past, held_same}
 
@@ -73,17 +73,19 @@ module _ (F : Form) (i : ℕ) (row : i < F.rows) where
 pub start-kept : (a : Inside) (m : ℕ) → length a.rows.items ≡ m → a.reals + m + 1 < 2 ^ 32
     → AreWide (a.reals + m + 1) a.rows.items → mixed.width_of a.costs.first.now ≡ a.reals + m
     → mixed.width_of a.costs.second.now ≡ a.reals + m → a.step.width ≡ a.reals + m + 1
-    → length a.basis.items ≡ m → length a.marks.items ≡ (a.reals + m + 1) * length a.rows.items
-    → AreMarked (a.reals + m + 1) a.marks.items a.rows.items → IsKept a
-start-kept a m count few wide first second step basis marks marked = record {
+    → length a.basis.items ≡ m → a.marks.columns ≡ a.reals + m + 1
+    → a.marks.rows ≡ length a.rows.items → AreMarked (a.reals + m + 1) a.marks a.rows.items
+    → IsKept a
+start-kept a m count few wide first second step basis columns rows marked = record {
   few = subst (λ n. n + 1 < 2 ^ 32) same_width few;
   wide = λ i b. wide i b ∙ ap (λ n. n + 1) same_width;
   spare = step ∙ ap (λ n. n + 1) same_width;
   first = first ∙ same_width;
   second = second ∙ same_width;
   basis = basis ∙ sym count;
-  marks = marks ∙ ap (λ n. (n + 1) * length a.rows.items) same_width;
-  marked = subst (λ n. AreMarked (n + 1) a.marks.items a.rows.items) same_width marked;
+  mark_columns = columns ∙ ap (λ n. n + 1) same_width;
+  mark_rows = rows;
+  marked = subst (λ n. AreMarked (n + 1) a.marks a.rows.items) same_width marked;
 }
   where
     same_width : a.reals + m ≡ columns_of a

@@ -1,12 +1,12 @@
 -- How a board is kept.
-use Rattle.std.specs.Prelude.{◌≡◌, ℕ, ◌+◌, ◌*◌, ◌<◌, ◌^◌, List, length, map}
+use Rattle.std.specs.Prelude.{◌≡◌, ℕ, ◌+◌, ◌<◌, ◌^◌, List, length, map}
 use Rattle.std.specs.List.{range_with_len}
 use Rattle.ratio_core.specs.Rational.{Rational}
 use Rattle.tableau_core.specs.Contents.{Contents}
 use Rattle.sparse_board.specs.declared.board.Board.TheInside.{Inside}
 use Rattle.sparse_board.specs.Mixed.{number_of, width_of}
 use Rattle.sparse_board.specs.Rows.{AreWide}
-use Rattle.sparse_board.specs.Marks.{AreMarked}
+use Rattle.sparse_board.specs.Marking.{AreMarked}
 
 -- the first w numbers
 abbrev pub listed : ℕ → (ℕ → Rational) → List Rational
@@ -36,5 +36,6 @@ pub record IsKept (a : Inside) : Type 0 where
   pub first : width_of a.costs.first.now ≡ columns_of a
   pub second : width_of a.costs.second.now ≡ columns_of a
   pub basis : length a.basis.items ≡ length a.rows.items
-  pub marks : length a.marks.items ≡ (columns_of a + 1) * length a.rows.items
-  pub marked : AreMarked (columns_of a + 1) a.marks.items a.rows.items
+  pub mark_columns : a.marks.columns ≡ columns_of a + 1
+  pub mark_rows : a.marks.rows ≡ length a.rows.items
+  pub marked : AreMarked (columns_of a + 1) a.marks a.rows.items

@@ -4,7 +4,9 @@ pub mod Numbers
 pub mod Mixed
 pub mod Lowering
 pub mod Rows
+pub mod Words
 pub mod Marks
+pub mod Marking
 pub mod Testing
 pub mod Pivoting
 pub mod Leaving

@@ -1,43 +1,29 @@
--- Marks of the numbers that may differ from 0: each other number is 0.
-use Rattle.std.specs.Prelude.{◌≡◌, ℕ, ◌+◌, ◌*◌, ◌<◌, Bool, true, false, List, length, slice_get, slice_index_or}
-use Rattle.ratio_core.specs.Rational.{Rational, zero_ℚ}
-use Rattle.sparse_board.specs.declared.row.Row.{Row}
-use Rattle.sparse_board.specs.declared.mixed_row.MixedRow.{MixedRow}
-use Rattle.sparse_board.specs.declared.step.Step.{Step}
-use Rattle.sparse_board.specs.Mixed.{number_of, width_of}
-use Rattle.sparse_board.specs.Rows.{IsPreparedAt, number_in_row}
+-- Marks of rows in columns.
+use Rattle.std.specs.Prelude.{◌≡◌, ℕ, ◌<◌, ◌≤◌, Bool, false, ◌&&◌, ◌||◌, nat_eq, nat_lt}
+use Rattle.sparse_board.specs.declared.marks.Marks.{Marks}
+use Rattle.sparse_board.specs.Words.{bit_of}
 
--- column j of row i is marked, where there are m rows; the marks stand column by column
-abbrev pub is_marked : List Bool → ℕ → ℕ → ℕ → Bool
-is_marked marks m j i = slice_index_or marks (j * m + i) false
+-- row i is marked in column j
+unfoldable pub has : Marks → ℕ → ℕ → Bool
+has marks j i = nat_lt i marks.rows && nat_eq (bit_of marks.words.items marks.stride j i) 1
 
--- each of the w numbers of row i is marked or 0
-abbrev pub MarksNumbers : ℕ → (ℕ → Rational) → ℕ → ℕ → List Bool → Type 0
-MarksNumbers w numbers i m marks =
-    (j : ℕ) → j < w → is_marked marks m j i ≡ false → numbers j ≡ zero_ℚ
+-- as many columns and rows
+pub record SameSizes (old new : Marks) : Type 0 where
+  pub columns : new.columns ≡ old.columns
+  pub rows : new.rows ≡ old.rows
 
-abbrev pub MarksRow : MixedRow → ℕ → ℕ → List Bool → Type 0
-MarksRow row i m marks = MarksNumbers (width_of row) (number_of row) i m marks
+-- row i is marked in column j now, or it isn't, and all other marks stay
+pub record IsPut (j i : ℕ) (mark : Bool) (old new : Marks) : Type 0 where
+  pub sizes : SameSizes old new
+  pub here : has new j i ≡ mark
+  pub others : (l k : ℕ) → ¬ ((l ≡ j) × (k ≡ i)) → has new l k ≡ has old l k
 
--- each number of the rows, in w columns, is marked or 0
-abbrev pub AreMarked : ℕ → List Bool → List Row → Type 0
-AreMarked w marks rows =
-    (i : ℕ) → i < length rows → (j : ℕ) → j < w
-    → is_marked marks (length rows) j i ≡ false → number_in_row rows i j ≡ zero_ℚ
+-- a column is marked where it or another was, and all other marks stay
+pub record IsJoined (from to : ℕ) (old new : Marks) : Type 0 where
+  pub sizes : SameSizes old new
+  pub here : (i : ℕ) → has new to i ≡ (has old to i || has old from i)
+  pub others : (j i : ℕ) → ¬ (j ≡ to) → has new j i ≡ has old j i
 
--- what is marked stays so
-abbrev pub KeepMarks : List Bool → List Bool → Type 0
-KeepMarks old new =
-    (p : ℕ) → slice_index_or old p false ≡ true → slice_index_or new p false ≡ true
-
--- the rows other than r that are marked in column q are worked out
-abbrev pub ArePrepared : ℕ → ℕ → Step → List Bool → List Row → Type 0
-ArePrepared r q step marks rows =
-    (i : ℕ) → i < length rows → ¬ (i ≡ r) → is_marked marks (length rows) q i ≡ true
-    → IsPreparedAt q step (slice_get rows i)
-
--- in a row that was marked in column q each of the w units is marked or 0
-abbrev pub MarksUnits : ℕ → ℕ → ℕ → (ℕ → Rational) → List Bool → List Bool → Type 0
-MarksUnits w q m units old new =
-    (i : ℕ) → i < m → is_marked old m q i ≡ true
-    → (j : ℕ) → j < w → is_marked new m j i ≡ false → units j ≡ zero_ℚ
+-- no row from `from` on below `to` is marked in column j
+abbrev pub AreUnmarked : Marks → ℕ → ℕ → ℕ → Type 0
+AreUnmarked marks j from to = (i : ℕ) → from ≤ i → i < to → has marks j i ≡ false

@@ -1,16 +1,17 @@
 -- A pivot worked out beside what stands.
-use Rattle.std.specs.Prelude.{◌≡◌, ℕ, ◌<◌, Bool, IsTrue, List}
+use Rattle.std.specs.Prelude.{◌≡◌, ℕ, ◌<◌, IsTrue, List}
 use Rattle.tableau_core.specs.Numbers.{quotient_at}
 use Rattle.sparse_board.specs.declared.cost_rows.CostRows.{CostRows}
+use Rattle.sparse_board.specs.declared.marks.Marks.{Marks}
 use Rattle.sparse_board.specs.declared.row.Row.{Row}
 use Rattle.sparse_board.specs.declared.step.Step.{Step}
 use Rattle.sparse_board.specs.Mixed.{IsBoth, units_of}
 use Rattle.sparse_board.specs.Lowering.{IsPrepared}
 use Rattle.sparse_board.specs.Rows.{number_in_row}
-use Rattle.sparse_board.specs.Marks.{ArePrepared}
+use Rattle.sparse_board.specs.Marking.{ArePrepared}
 
 -- the pivot's new row stands in the room for it, and each other row that changes is worked out
-pub record IsBoardReady (rows : List Row) (r q : ℕ) (marks : List Bool) (costs : CostRows)
+pub record IsBoardReady (rows : List Row) (r q : ℕ) (marks : Marks) (costs : CostRows)
     (step : Step) : Type 0 where
   pub both : IsBoth step
   pub divided : (j : ℕ) → j < step.width →

@@ -1,7 +1,8 @@
 //! The sparse board.
 use crate::cost_rows::CostRows;
 use crate::leaving::leaving;
-use crate::marks::marks_of;
+use crate::marking::marks_of;
+use crate::marks::Marks;
 use crate::pivoting::{prepare_pivot, settle_pivot};
 use crate::row::Row;
 use crate::scan::{first_negative, first_nonzero};
@@ -22,8 +23,8 @@ pub struct Board {
     costs: CostRows,
     // room for a pivot's new row
     step: Step,
-    // where a row may have a number other than 0, column by column
-    marks: Vec<bool>,
+    // where a row may have a number other than 0
+    marks: Marks,
     basis: Vec<usize>,
 }
 
@@ -87,7 +88,7 @@ impl Tableau for Board {
     }
 
     fn entry(&self, r: usize, q: usize) -> Ratio {
-        if !self.marks[q * self.rows.len() + r] {
+        if !self.marks.has(q, r) {
             return Ratio::zero();
         }
         self.rows[r].now.number(q as u32)
@@ -130,7 +131,7 @@ impl Tableau for Board {
             &mut self.rows,
             &mut self.costs,
             &mut self.step,
-            &self.marks,
+            &mut self.marks,
             r,
             q as u32,
         )?;

@@ -1,15 +1,16 @@
 //! The row that leaves, by whole numbers where two rows have them.
-ghost use Rattle.std.specs.Prelude.{◌≡◌, ◌+◌, ◌*◌, ◌<◌, IsTrue, IfSome, Some, false, if◌then◌else◌, length};
+ghost use Rattle.std.specs.Prelude.{◌≡◌, ◌+◌, ◌<◌, IsTrue, IfSome, Some, false, if◌then◌else◌, length};
 ghost use Rattle.ratio_core.specs.Rational.{zero_ℚ, ◌/ℚ◌, ◌‹ℚ◌};
 ghost use Rattle.simplex_form.specs.Search.{best_below, better_of};
 ghost use Rattle.simplex_form.specs.Turns.{is_below};
 ghost use Rattle.tableau_core.specs.Leaving.{comes_before};
 ghost use Rattle.sparse_board.specs.Leaving.{IsCandidate, leaves_before, may_leave};
 ghost use Rattle.sparse_board.specs.Mixed.{number_of, width_of};
-ghost use Rattle.sparse_board.specs.Marks.{AreMarked};
+ghost use Rattle.sparse_board.specs.Marking.{AreMarked};
 ghost use Rattle.sparse_board.specs.Rows.{AreWide};
 ghost use Rattle.whole_rows.specs.Rows as whole;
 
+use crate::marks::Marks;
 use crate::mixed_row::MixedRow;
 use crate::row::Row;
 use std::cmp::Ordering;
@@ -22,24 +23,27 @@ use whole_rows::{has_positive, is_before};
 pub(crate) fn leaving(
     rows: &[Row],
     basis: &[usize],
-    marks: &[bool],
+    marks: &Marks,
     side: usize,
     q: usize,
 ) -> Option<usize>
     requires wide { AreWide (side + 1) rows.now }
     requires column { q < side }
     requires basis { length basis.now ≡ length rows.now }
-    requires long { length marks.now ≡ (side + 1) * length rows.now }
+    requires columns { marks.now.columns ≡ side + 1 }
+    requires count { marks.now.rows ≡ length rows.now }
     requires marked { AreMarked (side + 1) marks.now rows.now }
     ensures value { result ≡ best_below (length rows.now) (may_leave rows.now q)
         (leaves_before rows.now basis.now side q) }
     ensures candidate { IfSome result (λ r. IsCandidate rows.now q r) }
 {
     let mut best = None;
-    for i in 0..rows.len() {
-        if leaves_first(rows, basis, marks, side, q, i, best) {
+    let mut i = marks.next_row(q, 0);
+    while i < rows.len() {
+        if leaves_first(rows, basis, side, q, i, best) {
             best = Some(i);
         }
+        i = marks.next_row(q, i + 1);
     }
     best
 }
@@ -48,7 +52,6 @@ pub(crate) fn leaving(
 fn leaves_first(
     rows: &[Row],
     basis: &[usize],
-    marks: &[bool],
     side: usize,
     q: usize,
     i: usize,
@@ -57,17 +60,12 @@ fn leaves_first(
     requires wide { AreWide (side + 1) rows.now }
     requires column { q < side }
     requires basis { length basis.now ≡ length rows.now }
-    requires long { length marks.now ≡ (side + 1) * length rows.now }
-    requires marked { AreMarked (side + 1) marks.now rows.now }
     requires row { i < length rows.now }
     requires best { IfSome best (λ k. IsCandidate rows.now q k) }
     ensures value { better_of (may_leave rows.now q) (leaves_before rows.now basis.now side q) best i
         ≡ (if result then Some i else best) }
     ensures candidate { IsTrue result → IsCandidate rows.now q i }
 {
-    if !marks[q * rows.len() + i] {
-        return false;
-    }
     let row = &rows[i];
     if !is_entry_positive(&row.now, q) {
         return false;

@@ -7,6 +7,7 @@ mod cost_rows;
 mod entry;
 mod leaving;
 mod lowering;
+mod marking;
 mod marks;
 mod mixed_row;
 mod narrowing;
@@ -18,5 +19,6 @@ mod sparse_row;
 mod spreading;
 mod start;
 mod step;
+mod words;
 
 pub use board::Board;

@@ -1,35 +1,38 @@
 //! A pivot worked out beside what stands.
-ghost use Rattle.std.specs.Prelude.{◌≡◌, ◌≢◌, ◌+◌, ◌*◌, ◌<◌, ℕ, length, OnOk};
+ghost use Rattle.std.specs.Prelude.{◌≡◌, ◌≢◌, ◌+◌, ◌<◌, ℕ, length, OnOk};
 ghost use Rattle.ratio_core.specs.Rational.{zero_ℚ};
 ghost use Rattle.tableau_core.specs.Numbers.{IsSettled, numbers_fit, quotient_at, quotients_fit};
 ghost use Rattle.sparse_board.specs.Mixed.{IsBoth, units_of, width_of};
 ghost use Rattle.sparse_board.specs.Rows.{AreWide, SameNow, number_in_row, numbers_in};
-ghost use Rattle.sparse_board.specs.Marks.{AreMarked};
+ghost use Rattle.sparse_board.specs.Marks.{SameSizes};
+ghost use Rattle.sparse_board.specs.Marking.{AreMarked};
 ghost use Rattle.sparse_board.specs.Pivoting.{IsBoardReady};
 ghost use Rattle.sparse_board.specs.Testing.{IsTest};
 
 use crate::cost_rows::CostRows;
-use crate::marks::mark_step;
+use crate::marking::{mark_step, unmark_zeros};
+use crate::marks::Marks;
 use crate::row::Row;
-use crate::rows::{has_wide, prepare_rows, settle_rows};
+use crate::rows::{prepare_rows, settle_rows};
 use crate::step::Step;
 use ratio_core::NumberFault;
 
 // Works out what a pivot makes of the rows and of the cost rows in use, and changes nothing that
-// stands. The pivot's new row goes into `step`.
+// stands but marks of zeros. The pivot's new row goes into `step`.
 pub(crate) fn prepare_pivot(
     rows: &mut [Row],
     costs: &mut CostRows,
     step: &mut Step,
-    marks: &[bool],
+    marks: &mut Marks,
     r: usize,
     q: u32,
 ) -> Result<(), NumberFault>
     requires row { r < length rows.old }
     requires column { q + 1 < step.old.width }
     requires wide { AreWide step.old.width rows.old }
-    requires marks_long { length marks.now ≡ step.old.width * length rows.old }
-    requires marked { AreMarked step.old.width marks.now rows.old }
+    requires columns { marks.old.columns ≡ step.old.width }
+    requires count { marks.old.rows ≡ length rows.old }
+    requires marked { AreMarked step.old.width marks.old rows.old }
     requires step_wide { step.old.width ≡ width_of costs.old.second.now + 1 }
     requires first_wide { width_of costs.old.first.now ≡ width_of costs.old.second.now }
     requires nonzero { number_in_row rows.old r q ≢ zero_ℚ }
@@ -38,11 +41,14 @@ pub(crate) fn prepare_pivot(
     ensures first_stays { costs.new.first.now ≡ costs.old.first.now }
     ensures second_stays { costs.new.second.now ≡ costs.old.second.now }
     ensures step_wide { step.new.width ≡ step.old.width }
+    ensures sizes { SameSizes marks.old marks.new }
+    ensures marked { AreMarked step.old.width marks.new rows.old }
     ensures fits { IsTest (numbers_fit (width_of costs.old.second.now) r q costs.old.in_first
         (numbers_in rows.old costs.old.first.now costs.old.second.now)) result }
-    ensures ok { OnOk result (IsBoardReady rows.new r q marks.now costs.new step.new) }
+    ensures ok { OnOk result (IsBoardReady rows.new r q marks.new costs.new step.new) }
 {
-    let asked = costs.first.now.is_wide || costs.second.now.is_wide || has_wide(rows, r, q, marks);
+    let has_wide = unmark_zeros(rows, q, marks);
+    let asked = has_wide || costs.first.now.is_wide || costs.second.now.is_wide;
     divide_row(rows, r, q, asked, step)?;
     prepare_rows(rows, r, q, step, marks)?;
     costs.prepare(q, step)
@@ -76,14 +82,15 @@ pub(crate) fn settle_pivot(
     rows: &mut [Row],
     costs: &mut CostRows,
     step: &mut Step,
-    marks: &mut [bool],
+    marks: &mut Marks,
     r: usize,
     q: u32,
 )
     requires row { r < length rows.old }
     requires column { q + 1 < step.old.width }
     requires wide { AreWide step.old.width rows.old }
-    requires marks_long { length marks.old ≡ step.old.width * length rows.old }
+    requires columns { marks.old.columns ≡ step.old.width }
+    requires count { marks.old.rows ≡ length rows.old }
     requires marked { AreMarked step.old.width marks.old rows.old }
     requires ready { IsBoardReady rows.old r q marks.old costs.old step.old }
     ensures wide { AreWide step.old.width rows.new }
@@ -96,10 +103,11 @@ pub(crate) fn settle_pivot(
         → IsSettled w r q costs.old.in_first
         (numbers_in rows.old costs.old.first.now costs.old.second.now)
         (numbers_in rows.new costs.new.first.now costs.new.second.now) }
+    ensures sizes { SameSizes marks.old marks.new }
     ensures marked { AreMarked step.old.width marks.new rows.new }
 {
     settle_rows(rows, r, q, step, marks);
-    mark_step(step, q, rows.len(), marks);
+    mark_step(step, q, marks);
     costs.settle(q, step);
     let row = &mut rows[r];
     row.exchange(step);

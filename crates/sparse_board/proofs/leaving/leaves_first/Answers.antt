@@ -1,22 +1,11 @@
-use Rattle.std.proofs.Common.{◌≡◌, ◌+◌, ◌<◌, ◌∙◌, ap, arith, false, length, nat_lt, rules, slice_index_or, subst, sym, IfSome}
+use Rattle.std.proofs.Common.{◌≡◌, ◌+◌, ◌<◌, ◌∙◌, ap, arith, nat_lt, slice_index_or, subst, sym, IfSome}
 use Rattle.ratio_core.specs.Rational.{zero_ℚ, ◌/ℚ◌, ◌‹ℚ◌}
 use Rattle.simplex_form.specs.Turns.{is_below}
 use Rattle.tableau_core.specs.Leaving.{comes_before}
 use Rattle.sparse_board.specs.Leaving.{IsCandidate, leaves_before, may_leave}
-use Rattle.sparse_board.specs.Marks.{is_marked}
-use Rattle.sparse_board.proofs.LeavingSteps.{better_none, better_some, item_number, item_width, passed_better, zero_below}
+use Rattle.sparse_board.proofs.LeavingSteps.{better_none, better_some, item_number, item_width, passed_better}
 use Rattle.sparse_board.proofs.leaving.leaves_first.Goals as goal
 use Rattle.sparse_board.proofs.leaving.leaves_first.Goals.{After-is_entry_positive, After-index-rows-k}
-
-pub returns-then-not-marks-q-clause-value : goal.returns-then-not-marks-q-clause-value
-returns-then-not-marks-q-clause-value c =
-    let rows = c.args.rows.now in
-    let unmarked : is_marked c.args.marks.now (length rows) c.args.q c.args.i ≡ false =
-    search rules in
-    passed_better (may_leave rows c.args.q)
-    (leaves_before rows c.args.basis.now c.args.side c.args.q) c.args.best c.args.i
-    (zero_below _ (c.requires.marked c.args.i c.requires.row c.args.q
-    (omega (arith, c.requires.column)) unmarked))
 
 pub is_entry_positive-requires : goal.is_entry_positive-requires
 is_entry_positive-requires c =

@@ -1,6 +1,7 @@
-use Rattle.std.proofs.Common.{◌≡◌, ◌<◌, false, subst, sym, true, ◌∙◌}
+use Rattle.std.proofs.Common.{◌≡◌, ◌<◌, arith, false, subst, sym, true, ◌∙◌}
 use Rattle.tableau_core.specs.Numbers.{quotients_fit}
 use Rattle.tableau_core.specs.TestLaws.{costs-decide, others-refused}
+use Rattle.sparse_board.specs.Marking.{AreMarked}
 use Rattle.sparse_board.specs.Mixed.{units_of, width_of}
 use Rattle.sparse_board.specs.Rows.{number_in_row, numbers_in, rows_fit}
 use Rattle.sparse_board.proofs.TestSteps.{left_fails, refused_on, test_same}
@@ -43,3 +44,35 @@ returns-clause-fits c =
     (subst (λ n. rows_fit n c.args.r c.args.q (units_of c.divide_row.new.step) rows ≡ true)
     (c.in_ok-divide_row.ensures.width ∙ c.requires.step_wide)
     c.in_ok-prepare_rows.ensures.fits)) c.prepare.ensures.fits
+
+pub unmark_zeros-has_wide-requires-clause-column :
+    goal.unmark_zeros-has_wide-requires-clause-column
+unmark_zeros-has_wide-requires-clause-column c =
+    omega (arith, c.requires.columns, c.requires.column)
+
+pub prepare_rows-requires-clause-columns : goal.prepare_rows-requires-clause-columns
+prepare_rows-requires-clause-columns c =
+    c.unmark_zeros-has_wide.ensures.sizes.columns ∙ c.requires.columns
+    ∙ sym c.in_ok-divide_row.ensures.width
+
+pub prepare_rows-requires-clause-count : goal.prepare_rows-requires-clause-count
+prepare_rows-requires-clause-count c =
+    c.unmark_zeros-has_wide.ensures.sizes.rows ∙ c.requires.count
+
+pub prepare_rows-requires-clause-marked : goal.prepare_rows-requires-clause-marked
+prepare_rows-requires-clause-marked c =
+    subst (λ n. AreMarked n c.unmark_zeros-has_wide.new.marks c.args.rows.now)
+    (sym c.in_ok-divide_row.ensures.width)
+    (c.unmark_zeros-has_wide.ensures.marked c.args.step.now.width c.requires.marked)
+
+pub returns-in_err-divide_row-clause-marked : goal.returns-in_err-divide_row-clause-marked
+returns-in_err-divide_row-clause-marked c =
+    c.unmark_zeros-has_wide.ensures.marked c.args.step.now.width c.requires.marked
+
+pub returns-in_err-prepare_rows-clause-marked : goal.returns-in_err-prepare_rows-clause-marked
+returns-in_err-prepare_rows-clause-marked c =
+    c.unmark_zeros-has_wide.ensures.marked c.args.step.now.width c.requires.marked
+
+pub returns-clause-marked : goal.returns-clause-marked
+returns-clause-marked c =
+    c.unmark_zeros-has_wide.ensures.marked c.args.step.now.width c.requires.marked

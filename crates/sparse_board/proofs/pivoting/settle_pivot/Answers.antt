@@ -1,9 +1,8 @@
 use Rattle.std.proofs.Common.{◌<◌, ◌≡◌, ◌∙◌, ap, arith, slice_index_or, subst, sym}
-use Rattle.sparse_board.specs.Marks.{MarksUnits}
 use Rattle.sparse_board.specs.Mixed.{units_of}
 use Rattle.sparse_board.specs.Mixed as mixed
 use Rattle.sparse_board.specs.Rows.{AreWide, width_at}
-use Rattle.sparse_board.proofs.MarkSteps.{marked_after}
+use Rattle.sparse_board.proofs.MarkingSteps.{marked_after}
 use Rattle.sparse_board.proofs.PivotSteps.{settled-all, settled-wide}
 use Rattle.sparse_board.proofs.RowsSteps.{row_is}
 use Rattle.sparse_board.proofs.pivoting.settle_pivot.Goals as goal
@@ -36,6 +35,9 @@ returns-clause-settled c = λ w long first second.
     c.settle_rows.ensures.lowered first second
     c.settle.ensures.first_lowered c.settle.ensures.second_lowered
 
+pub returns-clause-sizes : goal.returns-clause-sizes
+returns-clause-sizes c = c.mark_step.ensures.kept.sizes
+
 pub returns-clause-marked : goal.returns-clause-marked
 returns-clause-marked c =
     let step = c.args.step.now in
@@ -46,7 +48,6 @@ returns-clause-marked c =
     (λ j b. c.exchange.ensures.now j (subst (λ n. j < n) (sym (row_width c)) b))
     c.requires.wide column
     c.requires.marked c.mark_step.ensures.kept
-    (subst (λ n. MarksUnits step.width c.args.q n (units_of step) c.args.marks.now
-    c.mark_step.new.marks) c.settle_rows.auto.rows c.mark_step.ensures.marked)
+    c.mark_step.ensures.marked
     c.requires.ready.divided
     c.settle_rows.ensures.lowered

@@ -1,6 +1,10 @@
+use Rattle.std.specs.Prelude.{◌-◌, length}
 use Rattle.sparse_board.proofs.RowsSteps.{ArePreparedTo}
 use Rattle.sparse_board.proofs.rows.prepare_rows.Given as goal
 
 abbrev pub invariant-loop-i : goal.invariant-loop-i
 invariant-loop-i l =
     ArePreparedTo l.step.width l.r l.q l.step l.marks l.fn.rows l.rows l.i
+
+abbrev pub decreases-loop-i : goal.decreases-loop-i
+decreases-loop-i l = length l.fn.rows - l.i

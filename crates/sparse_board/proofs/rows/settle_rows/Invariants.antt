@@ -1,5 +1,13 @@
+use Rattle.std.specs.Prelude.{◌≡◌, ◌-◌, ◌<◌, length, true}
+use Rattle.sparse_board.specs.Marks.{has}
 use Rattle.sparse_board.proofs.RowsSteps.{AreSettledTo}
 use Rattle.sparse_board.proofs.rows.settle_rows.Given as goal
 
 abbrev pub invariant-loop-i : goal.invariant-loop-i
-invariant-loop-i l = AreSettledTo l.r l.q l.step l.marks l.fn.rows l.rows l.i
+invariant-loop-i l = record {
+  settled : AreSettledTo l.r l.q l.step l.fn.rows l.rows l.i;
+  here : l.i < length l.fn.rows → has l.marks l.q l.i ≡ true;
+}
+
+abbrev pub decreases-loop-i : goal.decreases-loop-i
+decreases-loop-i l = length l.fn.rows - l.i

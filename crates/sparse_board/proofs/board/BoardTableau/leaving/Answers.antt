@@ -2,12 +2,13 @@ use Rattle.std.proofs.Common.{◌+◌, ◌≡◌, ◌∙◌, ap, length, subst, 
 use Rattle.simplex_form.specs.Search.{best_below}
 use Rattle.sparse_board.specs.Kept.{columns_of}
 use Rattle.sparse_board.specs.Leaving.{leaves_before, may_leave}
+use Rattle.sparse_board.specs.Marking.{AreMarked}
 use Rattle.sparse_board.specs.Rows.{AreWide}
 use Rattle.sparse_board.proofs.BoardSteps.{column_within, leaving_is, leaving_row, vec_count}
 use Rattle.sparse_board.proofs.board.BoardTableau.leaving.Goals as goal
-use Rattle.sparse_board.proofs.board.BoardTableau.leaving.Goals.{After-deref-3}
+use Rattle.sparse_board.proofs.board.BoardTableau.leaving.Goals.{After-deref-2}
 
-side_is : (c : After-deref-3) → c.self.inside.reals + c.len.result ≡ columns_of c.self.inside
+side_is : (c : After-deref-2) → c.self.inside.reals + c.len.result ≡ columns_of c.self.inside
 side_is c =
     ap (λ n. c.self.inside.reals + n) (vec_count c.self.inside c.len.result c.len.ensures)
 
@@ -15,7 +16,24 @@ pub leaving-requires-clause-wide : goal.leaving-requires-clause-wide
 leaving-requires-clause-wide c =
     subst (λ l. AreWide (c.self.inside.reals + c.len.result + 1) l) (sym c.deref.ensures.value)
     (subst (λ n. AreWide (n + 1) c.self.inside.rows.items)
-    (sym (side_is (goal.at.leaving-requires-clause-wide c).After-deref-3)) c.self.invariant.wide)
+    (sym (side_is (goal.at.leaving-requires-clause-wide c).After-deref-2)) c.self.invariant.wide)
+
+pub leaving-requires-clause-columns : goal.leaving-requires-clause-columns
+leaving-requires-clause-columns c =
+    c.self.invariant.mark_columns
+    ∙ ap (λ n. n + 1) (sym (side_is (goal.at.leaving-requires-clause-columns c).After-deref-2))
+
+pub leaving-requires-clause-count : goal.leaving-requires-clause-count
+leaving-requires-clause-count c =
+    c.self.invariant.mark_rows ∙ ap length (sym c.deref.ensures.value)
+
+pub leaving-requires-clause-marked : goal.leaving-requires-clause-marked
+leaving-requires-clause-marked c =
+    let a = c.self.inside in
+    subst (AreMarked (a.reals + c.len.result + 1) a.marks) (sym c.deref.ensures.value)
+    (subst (λ n. AreMarked (n + 1) a.marks a.rows.items)
+    (sym (side_is (goal.at.leaving-requires-clause-marked c).After-deref-2))
+    c.self.invariant.marked)
 
 pub returns-clause-value : goal.returns-clause-value
 returns-clause-value c =

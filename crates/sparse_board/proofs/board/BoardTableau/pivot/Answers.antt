@@ -5,11 +5,13 @@ use Rattle.sparse_board.proofs.TestSteps.{barred}
 use Rattle.tableau_core.specs.Numbers.{IsSettled, numbers_fit}
 use Rattle.sparse_board.specs.Mixed.{width_of}
 use Rattle.sparse_board.specs.Rows.{AreWide, now_at, number_in_row, numbers_in}
-use Rattle.sparse_board.specs.Marks.{AreMarked}
+use Rattle.sparse_board.specs.Marking.{AreMarked}
 use Rattle.sparse_board.specs.Kept.{columns_of}
 use Rattle.tableau_core.specs.KeptLaws.{refused}
+use Rattle.sparse_board.proofs.MarkingSteps.{sizes_more}
 use Rattle.sparse_board.proofs.BoardSteps.{column_within, kept_after, marked_same, numbers_same, pivoted_all, read_entry, ready_same, tests_same, view_same, wide_after}
 use Rattle.sparse_board.proofs.board.BoardTableau.pivot.Goals as goal
+use Rattle.sparse_board.proofs.board.BoardTableau.pivot.Goals.{After-prepare_pivot}
 
 pub prepare_pivot-requires-clause-nonzero : goal.prepare_pivot-requires-clause-nonzero
 prepare_pivot-requires-clause-nonzero c = λ e.
@@ -29,14 +31,29 @@ prepare_pivot-requires-clause-wide c =
     (subst (AreWide (columns_of c.self.inside + 1)) (sym c.deref_mut.ensures.value)
     c.self.invariant.wide)
 
+pub prepare_pivot-requires-clause-columns : goal.prepare_pivot-requires-clause-columns
+prepare_pivot-requires-clause-columns c =
+    c.self.invariant.mark_columns ∙ sym c.self.invariant.spare
+
+pub prepare_pivot-requires-clause-count : goal.prepare_pivot-requires-clause-count
+prepare_pivot-requires-clause-count c =
+    c.self.invariant.mark_rows ∙ ap length (sym c.deref_mut.ensures.value)
+
 pub prepare_pivot-requires-clause-marked : goal.prepare_pivot-requires-clause-marked
 prepare_pivot-requires-clause-marked c =
-    let w = columns_of c.self.inside + 1 in
-    subst (λ n. AreMarked n c.deref.result.now c.deref_mut.result.now)
-    (sym c.self.invariant.spare)
-    (subst (λ l. AreMarked w l c.deref_mut.result.now) (sym c.deref.ensures.value)
-    (subst (AreMarked w c.self.inside.marks.items) (sym c.deref_mut.ensures.value)
-    c.self.invariant.marked))
+    let a = c.self.inside in
+    subst (λ n. AreMarked n a.marks c.deref_mut.result.now) (sym c.self.invariant.spare)
+    (subst (AreMarked (columns_of a + 1) a.marks) (sym c.deref_mut.ensures.value)
+    c.self.invariant.marked)
+
+-- the marks that are left, of the rows as they stood
+left_marked : (c : After-prepare_pivot)
+    → AreMarked (columns_of c.self.inside + 1) c.prepare_pivot.new.marks c.self.inside.rows.items
+left_marked c =
+    subst (AreMarked (columns_of c.self.inside + 1) c.prepare_pivot.new.marks)
+    c.deref_mut.ensures.value
+    (subst (λ n. AreMarked n c.prepare_pivot.new.marks c.deref_mut.result.now)
+    c.self.invariant.spare c.prepare_pivot.ensures.marked)
 
 pub returns-in_err-prepare_pivot-clause-overflow : goal.returns-in_err-prepare_pivot-clause-overflow
 returns-in_err-prepare_pivot-clause-overflow c = λ of.
@@ -67,10 +84,11 @@ invariant_of-self c =
     c.self.invariant.wide)
     (ap width_of c.prepare_pivot.ensures.first_stays)
     (ap width_of c.prepare_pivot.ensures.second_stays) c.prepare_pivot.ensures.step_wide refl
-    refl
-    (marked_same (columns_of a + 1) a.marks.items a.rows.items _ count
+    c.prepare_pivot.ensures.sizes
+    (marked_same (columns_of a + 1) c.prepare_pivot.new.marks a.rows.items _ count
     (λ i. ap (λ l. now_at l i) rows ∙ c.prepare_pivot.ensures.rows_stay i
-    ∙ ap (λ l. now_at l i) c.deref_mut.ensures.value) c.self.invariant.marked)
+    ∙ ap (λ l. now_at l i) c.deref_mut.ensures.value)
+    (left_marked (goal.at.invariant_of-self c).After-prepare_pivot))
 
 pub returns-in_err-prepare_pivot-clause-board : goal.returns-in_err-prepare_pivot-clause-board
 returns-in_err-prepare_pivot-clause-board c =
@@ -83,7 +101,7 @@ returns-in_err-prepare_pivot-clause-board c =
       rows = with_items a.rows c.prepare_pivot.new.rows;
       costs = c.prepare_pivot.new.costs;
       step = c.prepare_pivot.new.step;
-      marks = a.marks;
+      marks = c.prepare_pivot.new.marks;
       basis = a.basis;
     }) refl c.prepare_pivot.ensures.use_stays (ap length rows ∙ c.prepare_pivot.auto.rows
     ∙ ap length c.deref_mut.ensures.value) refl
@@ -103,19 +121,32 @@ settle_pivot-requires-clause-wide c =
     (λ i. ap (λ l. now_at l i) rows ∙ c.prepare_pivot.ensures.rows_stay i
     ∙ ap (λ l. now_at l i) c.deref_mut.ensures.value) c.self.invariant.wide)
 
+pub settle_pivot-requires-clause-columns : goal.settle_pivot-requires-clause-columns
+settle_pivot-requires-clause-columns c =
+    c.prepare_pivot.ensures.sizes.columns ∙ c.self.invariant.mark_columns
+    ∙ sym (c.prepare_pivot.ensures.step_wide ∙ c.self.invariant.spare)
+
+pub settle_pivot-requires-clause-count : goal.settle_pivot-requires-clause-count
+settle_pivot-requires-clause-count c =
+    let a = c.self.inside in
+    let rows = c.deref_mut-2.ensures.value ∙ with_items_is a.rows c.prepare_pivot.new.rows
+    (c.prepare_pivot.auto.rows ∙ c.deref_mut.ensures.len) in
+    c.prepare_pivot.ensures.sizes.rows ∙ c.self.invariant.mark_rows
+    ∙ sym (ap length rows ∙ c.prepare_pivot.auto.rows ∙ ap length c.deref_mut.ensures.value)
+
 pub settle_pivot-requires-clause-marked : goal.settle_pivot-requires-clause-marked
 settle_pivot-requires-clause-marked c =
     let a = c.self.inside in
     let rows = c.deref_mut-2.ensures.value ∙ with_items_is a.rows c.prepare_pivot.new.rows
     (c.prepare_pivot.auto.rows ∙ c.deref_mut.ensures.len) in
-    subst (λ n. AreMarked n c.deref_mut-3.result.now c.deref_mut-2.result.now)
+    subst (λ n. AreMarked n c.prepare_pivot.new.marks c.deref_mut-2.result.now)
     (sym (c.prepare_pivot.ensures.step_wide ∙ c.self.invariant.spare))
-    (marked_same (columns_of a + 1) c.deref_mut-3.result.now a.rows.items c.deref_mut-2.result.now
+    (marked_same (columns_of a + 1) c.prepare_pivot.new.marks a.rows.items
+    c.deref_mut-2.result.now
     (ap length rows ∙ c.prepare_pivot.auto.rows ∙ ap length c.deref_mut.ensures.value)
     (λ i. ap (λ l. now_at l i) rows ∙ c.prepare_pivot.ensures.rows_stay i
     ∙ ap (λ l. now_at l i) c.deref_mut.ensures.value)
-    (subst (λ l. AreMarked (columns_of a + 1) l a.rows.items) (sym c.deref_mut-3.ensures.value)
-    c.self.invariant.marked))
+    (left_marked (goal.at.settle_pivot-requires-clause-marked c).After-prepare_pivot))
 
 pub settle_pivot-requires-clause-ready : goal.settle_pivot-requires-clause-ready
 settle_pivot-requires-clause-ready c =
@@ -123,10 +154,8 @@ settle_pivot-requires-clause-ready c =
     let prepared = c.prepare_pivot.new in
     let rows = c.deref_mut-2.ensures.value ∙ with_items_is a.rows prepared.rows
     (c.prepare_pivot.auto.rows ∙ c.deref_mut.ensures.len) in
-    ready_same c.deref_mut-2.result.now prepared.rows c.args.r c.args.q c.deref_mut-3.result.now
-    c.deref.result.now prepared.costs prepared.step rows
-    (c.deref_mut-3.ensures.value ∙ sym c.deref.ensures.value)
-    c.in_ok-prepare_pivot.ensures.ok
+    ready_same c.deref_mut-2.result.now prepared.rows c.args.r c.args.q prepared.marks
+    prepared.costs prepared.step rows c.in_ok-prepare_pivot.ensures.ok
 
 pub invariant_of-self-2 : goal.invariant_of-self-2
 invariant_of-self-2 c =
@@ -138,8 +167,6 @@ invariant_of-self-2 c =
     (c.prepare_pivot.auto.rows ∙ c.deref_mut.ensures.len) in
     let last = with_items_is (with_items a.rows prepared.rows) settled.rows
     (c.settle_pivot.auto.rows ∙ c.deref_mut-2.ensures.len) in
-    let marks = with_items_is a.marks settled.marks (c.settle_pivot.auto.marks
-    ∙ c.deref_mut-3.ensures.len) in
     kept_after a _ refl (ap length last ∙ c.settle_pivot.auto.rows ∙ ap length rows
     ∙ c.prepare_pivot.auto.rows ∙ ap length c.deref_mut.ensures.value) c.self.invariant
     (subst (AreWide (columns_of a + 1)) (sym last)
@@ -148,12 +175,10 @@ invariant_of-self-2 c =
     (c.settle_pivot.ensures.second_wide ∙ ap width_of c.prepare_pivot.ensures.second_stays)
     (c.settle_pivot.ensures.step_wide ∙ c.prepare_pivot.ensures.step_wide)
     (length-set a.basis.items c.args.r c.args.q)
-    (ap length marks ∙ c.settle_pivot.auto.marks ∙ ap length c.deref_mut-3.ensures.value)
-    (subst (λ l. AreMarked (columns_of a + 1) l (with_items (with_items a.rows prepared.rows)
-    settled.rows).items) (sym marks)
+    (sizes_more a.marks prepared.marks settled.marks c.prepare_pivot.ensures.sizes
+    c.settle_pivot.ensures.sizes)
     (subst (AreMarked (columns_of a + 1) settled.marks) (sym last)
-    (subst (λ n. AreMarked n settled.marks settled.rows) wide
-    c.settle_pivot.ensures.marked)))
+    (subst (λ n. AreMarked n settled.marks settled.rows) wide c.settle_pivot.ensures.marked))
 
 pub returns-clause-board : goal.returns-clause-board
 returns-clause-board c =
@@ -171,7 +196,7 @@ returns-clause-board c =
       rows = with_items (with_items a.rows prepared.rows) settled.rows;
       costs = settled.costs;
       step = settled.step;
-      marks = with_items a.marks settled.marks;
+      marks = settled.marks;
       basis = with_item a.basis c.args.r c.args.q;
     })
     refl (ap length last ∙ c.settle_pivot.auto.rows ∙ count)

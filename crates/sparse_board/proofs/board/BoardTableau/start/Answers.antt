@@ -1,4 +1,4 @@
-use Rattle.std.proofs.Common.{◌+◌, ◌*◌, ◌<◌, ◌∙◌, [], ap, arith, length, subst, sym, true}
+use Rattle.std.proofs.Common.{◌+◌, ◌<◌, ◌∙◌, [], ap, arith, length, subst, sym, true}
 use Rattle.std.proofs.lemmas.List.FromFn.{length-range_with_len}
 use Rattle.simplex_form.specs.Basis.{start}
 use Rattle.simplex_form.specs.Board.{price}
@@ -6,7 +6,7 @@ use Rattle.simplex_form.specs.Form.{Form, first_cost, second_cost}
 use Rattle.tableau_core.specs.KeptLaws.{started_read}
 use Rattle.tableau_core.specs.Start.{IsListOf, form_of}
 use Rattle.sparse_board.specs.declared.board.Board.TheInside.{Inside}
-use Rattle.sparse_board.specs.Marks.{AreMarked}
+use Rattle.sparse_board.specs.Marking.{AreMarked}
 use Rattle.sparse_board.specs.Kept.{contents_of}
 use Rattle.sparse_board.proofs.BoardSteps.{numbers_of, value_agrees}
 use Rattle.sparse_board.proofs.StartSteps.{costs_are, start-kept}
@@ -60,9 +60,9 @@ invariant_of-result c =
     (c.in_ok-second.ensures.wide ∙ ap length c.deref-2.ensures.value ∙ (second_listed c).long)
     c.in_ok-step.ensures
     (ap length c.in_ok-basis.ensures ∙ length-range_with_len c.args.c c.args.m)
-    (c.in_ok-marks.ensures.long ∙ ap (λ l. (c.args.c + c.args.m + 1) * length l)
-    c.deref-3.ensures.value)
-    (subst (AreMarked (c.args.c + c.args.m + 1) c.in_ok-marks.marks.items) c.deref-3.ensures.value
+    c.in_ok-marks.ensures.columns
+    (c.in_ok-marks.ensures.rows ∙ ap length c.deref-3.ensures.value)
+    (subst (AreMarked (c.args.c + c.args.m + 1) c.in_ok-marks.marks) c.deref-3.ensures.value
     c.in_ok-marks.ensures.marked)
 
 pub returns-clause-board : goal.returns-clause-board

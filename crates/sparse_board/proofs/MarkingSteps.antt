@@ -1,0 +1,344 @@
+-- Marks that are set or taken away one after another.
+use Rattle.std.specs.Prelude.{◌≡◌, ℕ, ◌+◌, ◌<◌, ◌≤◌, Bool, true, false, ◌⊎◌, List, length, min, pos, slice_index, slice_index_or, slice_set, take, Some, refl}
+use Rattle.std.proofs.Common.{sym, ◌∙◌, ap, arith, subst, inl, inr, true≢false}
+use Rattle.std.proofs.lemmas.List.{get_or-take, get_or_default, length-set, length-take}
+use Rattle.std.proofs.lemmas.Bool.{cases_lt, or_left, or_right}
+use Rattle.ratio_core.specs.Rational.{Rational, inverse_ℚ, reduce, zero_ℚ, ◌*ℚ◌, ◌/ℚ◌}
+use Rattle.rational_laws.specs.Field.{zero-*ℚ}
+use Rattle.rational_laws.specs.Over.{over-zero_ℚ}
+use Rattle.simplex_laws.specs.BoundedSumLaws.{same_or_other}
+use Rattle.tableau_core.specs.LoweringLaws.{lowered-zero, step-zero, zero-step}
+use Rattle.sparse_board.specs.declared.marks.Marks.{Marks}
+use Rattle.sparse_board.specs.declared.row.Row.{Row}
+use Rattle.sparse_board.specs.declared.mixed_row.MixedRow.{MixedRow}
+use Rattle.sparse_board.specs.declared.sparse_row.SparseRow.{SparseRow}
+use Rattle.sparse_board.specs.Mixed as mixed
+use Rattle.whole_rows.specs.Rows as whole
+use Rattle.whole_rows.specs.declared.step.NarrowStep.{NarrowStep}
+use Rattle.sparse_board.specs.Numbers.{number_of, row_columns, row_values, width_of}
+use Rattle.sparse_board.specs.Rows.{AreLowered, AreWide, now_at, now_of, number_in_row, numbers}
+use Rattle.sparse_board.specs.Marks.{IsJoined, IsPut, SameSizes, has}
+use Rattle.sparse_board.specs.Marking.{AreMarked, KeepMarks, MarksNumbers, MarksRow, MarksUnits}
+use Rattle.tableau_core.specs.Numbers.{quotient_at}
+use Rattle.sparse_board.proofs.NumberLemmas.{number_missing, sought}
+use Rattle.tableau_core.specs.ItemLaws.{written_at, written_off}
+
+-- what isn't marked afterwards wasn't before
+pub was_not : (old new : Marks) → KeepMarks old new → (j i : ℕ) → has new j i ≡ false
+    → has old j i ≡ false
+was_not old new keep j i e = by_test (has old j i) refl
+  where
+    by_test : (b : Bool) → has old j i ≡ b → b ≡ false
+    by_test true f = absurd (true≢false (sym (keep.kept j i f) ∙ e))
+    by_test false f = refl
+
+pub sizes_none : (marks : Marks) → SameSizes marks marks
+sizes_none marks = record { columns = refl; rows = refl }
+
+pub sizes_more : (a b c : Marks) → SameSizes a b → SameSizes b c → SameSizes a c
+sizes_more a b c h k = record { columns = k.columns ∙ h.columns; rows = k.rows ∙ h.rows }
+
+pub keep_none : (marks : Marks) → KeepMarks marks marks
+keep_none marks = record { sizes = sizes_none marks; kept = λ j i e. e }
+
+pub keep_more : (a b c : Marks) → KeepMarks a b → KeepMarks b c → KeepMarks a c
+keep_more a b c h k = record {
+  sizes = sizes_more a b c h.sizes k.sizes;
+  kept = λ j i e. k.kept j i (h.kept j i e);
+}
+
+pub put_keeps : (j i : ℕ) (old new : Marks) → IsPut j i true old new → KeepMarks old new
+put_keeps j i old new put = record {
+  sizes = put.sizes;
+  kept = λ l k e. same_or_other (has new l k ≡ true) l j
+      (λ f. same_or_other (has new l k ≡ true) k i
+      (λ g. (λ z. has new (f z) (g z)) ∙ put.here)
+      (λ n. put.others l k (λ b. n b.1) ∙ e))
+      (λ n. put.others l k (λ b. n b.0) ∙ e);
+}
+
+pub join_keeps : (from to : ℕ) (old new : Marks) → IsJoined from to old new → KeepMarks old new
+join_keeps from to old new join = record {
+  sizes = join.sizes;
+  kept = λ j i e. same_or_other (has new j i ≡ true) j to
+      (λ f. ap (λ n. has new n i) f ∙ join.here i
+      ∙ or_left (has old to i) (has old from i) (ap (λ n. has old n i) (sym f) ∙ e))
+      (λ n. join.others j i n ∙ e);
+}
+
+-- ---- marks that are taken away
+
+-- each number is marked still, or 0
+pub record KeepsMarked (rows : List Row) (old now : Marks) : Type 0 where
+  pub sizes : SameSizes old now
+  pub marked : (w : ℕ) → AreMarked w old rows → AreMarked w now rows
+
+pub unmarked_none : (rows : List Row) (marks : Marks) → KeepsMarked rows marks marks
+unmarked_none rows marks = record { sizes = sizes_none marks; marked = λ w h. h }
+
+module _ (rows : List Row) (old now new : Marks) (q i : ℕ) (h : KeepsMarked rows old now)
+    (row : i < length rows) (sizes : SameSizes now new)
+    (others : (l k : ℕ) → ¬ ((l ≡ q) × (k ≡ i)) → has new l k ≡ has now l k)
+    (zero : has now q i ≡ true → has new q i ≡ false → number_in_row rows i q ≡ zero_ℚ) where
+  left_zero : (w : ℕ) → AreMarked w old rows → q < w → has new q i ≡ false
+      → number_in_row rows i q ≡ zero_ℚ
+  left_zero w marked b e = by_test (has now q i) refl
+    where
+      by_test : (t : Bool) → has now q i ≡ t → number_in_row rows i q ≡ zero_ℚ
+      by_test true f = zero f e
+      by_test false f = h.marked w marked i row q b f
+
+  pub unmarked_more : KeepsMarked rows old new
+  unmarked_more = record {
+    sizes = sizes_more old now new h.sizes sizes;
+    marked = λ w marked k c j d e. same_or_other (number_in_row rows k j ≡ zero_ℚ) j q
+        (λ f. same_or_other (number_in_row rows k j ≡ zero_ℚ) k i
+        (λ g. (λ z. number_in_row rows (g z) (f z))
+        ∙ left_zero w marked (subst (λ n. n < w) f d) ((λ z. has new (sym f z) (sym g z)) ∙ e))
+        (λ n. h.marked w marked k c j d (sym (others j k (λ b. n b.1)) ∙ e)))
+        (λ n. h.marked w marked k c j d (sym (others j k (λ b. n b.0)) ∙ e));
+  }
+
+-- ---- a row marked in its first k columns
+
+pub record IsMarkedTo (columns : List ℕ) (i : ℕ) (old marks : Marks) (k : ℕ) : Type 0 where
+  pub keep : KeepMarks old marks
+  pub marked : (l : ℕ) → l < k → has marks (slice_index columns l) i ≡ true
+
+pub marked_none : (columns : List ℕ) (i : ℕ) (old : Marks) → IsMarkedTo columns i old old 0
+marked_none columns i old =
+    record { keep = keep_none old; marked = λ l b. absurd (omega (arith, b)) }
+
+pub marked_more : (columns : List ℕ) (i : ℕ) (old marks new : Marks) (k : ℕ)
+    → IsMarkedTo columns i old marks k → IsPut (slice_index columns k) i true marks new
+    → IsMarkedTo columns i old new (k + 1)
+marked_more columns i old marks new k h put =
+    let keep = put_keeps (slice_index columns k) i marks new put in
+    record {
+      keep = keep_more old marks new h.keep keep;
+      marked =
+          λ l c. same_or_other (has new (slice_index columns l) i ≡ true) l k
+          (λ e. ap (λ n. has new (slice_index columns n) i) e ∙ put.here)
+          (λ n. keep.kept (slice_index columns l) i (h.marked l (omega (arith, c, n))));
+    }
+
+pub marked_all : (row : SparseRow) (i : ℕ) (old marks : Marks) (k : ℕ)
+    → k ≡ length (row_columns row) → IsMarkedTo (row_columns row) i old marks k
+    → MarksNumbers (width_of row) (number_of row) i marks
+marked_all row i old marks k all h j b e = by_place (sought (row_columns row) j k)
+  where
+    by_place : ((l : ℕ) × (l < k) × (slice_index (row_columns row) l ≡ j)) ⊎ ((l : ℕ) → l < k
+        → ¬ (slice_index (row_columns row) l ≡ j)) → number_of row j ≡ zero_ℚ
+    by_place (inl f) =
+        absurd (true≢false (sym (subst (λ c. has marks c i ≡ true) f.2 (h.marked f.0 f.1)) ∙ e))
+    by_place (inr none) =
+        number_missing (row_columns row) (row_values row) j
+        (λ l c. none l (subst (λ n. l < n) (sym all) c))
+
+-- ---- the rows below i marked
+
+pub record AreMarkedTo (w : ℕ) (marks : Marks) (rows : List Row) (i : ℕ) : Type 0 where
+  pub columns : marks.columns ≡ w
+  pub count : marks.rows ≡ length rows
+  pub marked : (k : ℕ) → k < i → (j : ℕ) → j < w → has marks j k ≡ false
+      → number_in_row rows k j ≡ zero_ℚ
+
+pub rows_marked_more : (w : ℕ) (marks new : Marks) (rows : List Row) (i : ℕ) (row : MixedRow)
+    → AreMarkedTo w marks rows i → now_at rows i ≡ Some row → mixed.width_of row ≡ w
+    → KeepMarks marks new → MarksRow row i new → AreMarkedTo w new rows (i + 1)
+rows_marked_more w marks new rows i row h is wide keep marked = record {
+  columns = keep.sizes.columns ∙ h.columns;
+  count = keep.sizes.rows ∙ h.count;
+  marked = λ k b j c e. same_or_other (number_in_row rows k j ≡ zero_ℚ) k i
+      (λ f. subst (λ n. number_in_row rows n j ≡ zero_ℚ) (sym f) (ap (λ o. numbers o j) is
+      ∙ marked j (subst (λ n. j < n) (sym wide) c) (subst (λ n. has new j n ≡ false) f e)))
+      (λ m. h.marked k (omega (arith, b, m)) j c (was_not marks new keep j k e));
+}
+
+-- ---- the step's first k columns marked where column q is
+
+pub record IsStepMarkedTo (columns : List ℕ) (q : ℕ) (old marks : Marks) (k : ℕ) : Type 0 where
+  pub keep : KeepMarks old marks
+  pub marked : (l : ℕ) → l < k → (i : ℕ) → has old q i ≡ true
+      → has marks (slice_index columns l) i ≡ true
+
+pub step_marked_none : (columns : List ℕ) (q : ℕ) (old : Marks)
+    → IsStepMarkedTo columns q old old 0
+step_marked_none columns q old =
+    record { keep = keep_none old; marked = λ l b. absurd (omega (arith, b)) }
+
+-- a column that is joined with column q is marked where that is
+pub joined_marked : (q column : ℕ) (old marks new : Marks) → KeepMarks old marks
+    → IsJoined q column marks new → (i : ℕ) → has old q i ≡ true → has new column i ≡ true
+joined_marked q column old marks new keep join i e =
+    join.here i ∙ or_right (has marks column i) (has marks q i) (keep.kept q i e)
+
+pub step_marked_more : (columns : List ℕ) (q : ℕ) (old marks new : Marks) (k : ℕ)
+    → IsStepMarkedTo columns q old marks k → IsJoined q (slice_index columns k) marks new
+    → IsStepMarkedTo columns q old new (k + 1)
+step_marked_more columns q old marks new k h join =
+    let keep = join_keeps q (slice_index columns k) marks new join in
+    record {
+      keep = keep_more old marks new h.keep keep;
+      marked = λ l b i e. same_or_other (has new (slice_index columns l) i ≡ true) l k
+          (λ f. ap (λ n. has new (slice_index columns n) i) f
+          ∙ joined_marked q (slice_index columns k) old marks new h.keep join i e)
+          (λ n. keep.kept (slice_index columns l) i (h.marked l (omega (arith, b, n)) i e));
+    }
+
+pub step_marked_all : (step : SparseRow) (w q : ℕ) (old marks : Marks) (k : ℕ)
+    → k ≡ length (row_columns step) → IsStepMarkedTo (row_columns step) q old marks k
+    → MarksUnits w q (number_of step) old marks
+step_marked_all step w q old marks k all h i p j c e = by_place (sought (row_columns step) j k)
+  where
+    by_place : ((l : ℕ) × (l < k) × (slice_index (row_columns step) l ≡ j)) ⊎ ((l : ℕ) → l < k
+        → ¬ (slice_index (row_columns step) l ≡ j)) → number_of step j ≡ zero_ℚ
+    by_place (inl f) =
+        absurd (true≢false (sym (subst (λ n. has marks n i ≡ true) f.2 (h.marked f.0 f.1 i p)) ∙ e))
+    by_place (inr none) =
+        number_missing (row_columns step) (row_values step) j
+        (λ l d. none l (subst (λ n. l < n) (sym all) d))
+
+-- ---- after a pivot
+
+module _ (w r q : ℕ) (before middle : List Row) (units : ℕ → Rational) (new : Row)
+    (old marks : Marks) (count : length middle ≡ length before) (row : r < length before)
+    (is : (j : ℕ) → j < w → mixed.number_of new.now j ≡ units j)
+    (wide : AreWide w before) (column : q < w)
+    (marked : AreMarked w old before) (keep : KeepMarks old marks)
+    (made : MarksUnits w q units old marks) where
+  no_product : (i : ℕ) → i < length before → (j : ℕ) → j < w → has marks j i ≡ false
+      → number_in_row before i q *ℚ units j ≡ zero_ℚ
+  no_product i b j c e = by_test (has old q i) refl
+    where
+      by_test : (t : Bool) → has old q i ≡ t → number_in_row before i q *ℚ units j ≡ zero_ℚ
+      by_test true f = step-zero (number_in_row before i q) (units j) (made i f j c e)
+      by_test false f = zero-step (number_in_row before i q) (units j) (marked i b q column f)
+
+  pub marked_after : ((j : ℕ) → j < w → units j ≡ quotient_at (number_in_row before) r q j)
+      → AreLowered r q units before middle → AreMarked w marks (slice_set middle r new)
+  marked_after divided low i b j c e =
+      let here : i < length before = subst (λ n. i < n) (length-set middle r new ∙ count) b in
+      let was : has old j i ≡ false = was_not old marks keep j i e in
+      same_or_other (number_in_row (slice_set middle r new) i j ≡ zero_ℚ) i r
+      (λ f. subst (λ n. number_in_row (slice_set middle r new) n j ≡ zero_ℚ) (sym f)
+      (ap (λ o. numbers (now_of o) j) (written_at middle r new (subst (λ n. r < n) (sym count) row))
+      ∙ is j c ∙ divided j c
+      ∙ ap (λ x. x /ℚ number_in_row before r q)
+      (marked r row j c (subst (λ n. has old j n ≡ false) f was))
+      ∙ zero-*ℚ (inverse_ℚ (number_in_row before r q))))
+      (λ m. ap (λ o. numbers (now_of o) j) (written_off middle r i new m)
+      ∙ low i here m j (subst (λ n. j < n) (sym (wide i here)) c)
+      ∙ lowered-zero (number_in_row before i j) (number_in_row before i q) (units j)
+      (no_product i here j c e)
+      ∙ marked i here j c was)
+
+-- ---- whole numbers marked up to a column
+
+pub record AreNumbersMarkedTo (numbers : ℕ → Rational) (i : ℕ) (old marks : Marks) (k : ℕ) :
+    Type 0 where
+  pub keep : KeepMarks old marks
+  pub marked : (j : ℕ) → j < k → has marks j i ≡ false → numbers j ≡ zero_ℚ
+
+pub numbers_marked_none : (numbers : ℕ → Rational) (i : ℕ) (old : Marks)
+    → AreNumbersMarkedTo numbers i old old 0
+numbers_marked_none numbers i old =
+    record { keep = keep_none old; marked = λ j b. absurd (omega (arith, b)) }
+
+pub numbers_marked_more : (numbers : ℕ → Rational) (i : ℕ) (old marks new : Marks) (k : ℕ)
+    → AreNumbersMarkedTo numbers i old marks k → KeepMarks marks new
+    → (has new k i ≡ false → numbers k ≡ zero_ℚ) → AreNumbersMarkedTo numbers i old new (k + 1)
+numbers_marked_more numbers i old marks new k h keep zero = record {
+  keep = keep_more old marks new h.keep keep;
+  marked = λ j c e. same_or_other (numbers j ≡ zero_ℚ) j k
+      (λ f. ap numbers f ∙ zero (ap (λ n. has new n i) (sym f) ∙ e))
+      (λ n. h.marked j (omega (arith, c, n)) (was_not marks new keep j i e));
+}
+
+-- columns of zeros are passed over
+pub numbers_marked_past : (numbers : ℕ → Rational) (i : ℕ) (old marks : Marks) (k to : ℕ)
+    → AreNumbersMarkedTo numbers i old marks k
+    → ((j : ℕ) → k ≤ j → j < to → numbers j ≡ zero_ℚ)
+    → AreNumbersMarkedTo numbers i old marks to
+numbers_marked_past numbers i old marks k to h zeros = record {
+  keep = h.keep;
+  marked = λ j c e. by_place j c e (cases_lt j k);
+}
+  where
+    by_place : (j : ℕ) → j < to → has marks j i ≡ false → (j < k) ⊎ (k ≤ j)
+        → numbers j ≡ zero_ℚ
+    by_place j c e (inl b) = h.marked j b e
+    by_place j c e (inr b) = zeros j b c
+
+-- the same units, in as many columns
+pub units_marked : (v w q : ℕ) (units others : ℕ → Rational) (old new : Marks) → v ≡ w
+    → ((j : ℕ) → others j ≡ units j) → MarksUnits v q units old new
+    → MarksUnits w q others old new
+units_marked v w q units others old new e is h i p j c f =
+    is j ∙ h i p j (subst (λ n. j < n) (sym e) c) f
+
+-- the step's listed columns, and its right side
+module _ (step : NarrowStep) (q : ℕ) (old marks new : Marks) (k : ℕ) (all : k ≡ step.used)
+    (h : IsStepMarkedTo step.columns.items q old marks k)
+    (join : IsJoined q (whole.width_of step.row) marks new) where
+  listed_is : (l : ℕ) → l < length (take step.used step.columns.items)
+      → (l < step.used) × (slice_index (take step.used step.columns.items) l
+      ≡ slice_index step.columns.items l)
+  listed_is l b =
+      let c : l < step.used = below_lem l (subst (λ n. l < n)
+      (length-take step.used step.columns.items) b) in
+      (c, get_or-take step.used step.columns.items l 0 c)
+    where
+      below_lem : (l : ℕ) → l < min step.used (length step.columns.items) → l < step.used
+      below_lem l c = omega (arith, c)
+
+  zero_numerator : (j : ℕ) → j < whole.width_of step.row
+      → slice_index_or step.row.numbers.items j (pos 0) ≡ pos 0
+      → whole.number_of step.row j ≡ zero_ℚ
+  zero_numerator j b z =
+      ap (λ n. reduce n step.row.den)
+      (get_or_default step.row.numbers.items j step.row.side (pos 0) b ∙ z)
+      ∙ sym (over-zero_ℚ step.row.den step.row.above)
+
+  join_kept : KeepMarks marks new
+  join_kept = join_keeps q (whole.width_of step.row) marks new join
+
+  pub narrow_kept : KeepMarks old new
+  narrow_kept = keep_more old marks new h.keep join_kept
+
+  pub narrow_marked : MarksUnits (whole.width_of step.row + 1) q (whole.number_of step.row) old new
+  narrow_marked i p j c e = by_end (cases_lt j (whole.width_of step.row))
+    where
+      column : List ℕ
+      column = take step.used step.columns.items
+
+      by_place : j < whole.width_of step.row
+          → ((l : ℕ) × (l < length column) × (slice_index column l ≡ j))
+          ⊎ ((l : ℕ) → l < length column → ¬ (slice_index column l ≡ j))
+          → whole.number_of step.row j ≡ zero_ℚ
+      by_place d (inr none) = zero_numerator j d (step.lists.others j d none)
+      by_place d (inl f) =
+          let is = listed_is f.0 f.1 in
+          absurd (true≢false (sym (join_kept.kept j i (subst (λ n. has marks n i ≡ true)
+          (sym is.1 ∙ f.2) (h.marked f.0 (subst (λ n. f.0 < n) (sym all) is.0) i p))) ∙ e))
+
+      by_end : (j < whole.width_of step.row) ⊎ (whole.width_of step.row ≤ j)
+          → whole.number_of step.row j ≡ zero_ℚ
+      by_end (inl d) = by_place d (sought column j (length column))
+      by_end (inr d) =
+          absurd (true≢false (sym (subst (λ n. has new n i ≡ true) (end_lem j _ c d)
+          (joined_marked q (whole.width_of step.row) old marks new h.keep join i p)) ∙ e))
+        where
+          end_lem : (j w : ℕ) → j < w + 1 → w ≤ j → w ≡ j
+          end_lem j w x y = omega (arith, x, y)
+
+-- a listed column is one of the step's
+pub listed_below : (step : NarrowStep) (k : ℕ) → k < step.used
+    → slice_index step.columns.items k < whole.width_of step.row
+listed_below step k b =
+    subst (λ n. n < whole.width_of step.row) (get_or-take step.used step.columns.items k 0 b)
+    (step.lists.within k (subst (λ n. k < n) (sym (length-take step.used step.columns.items
+    ∙ min_lem step.used (length step.columns.items) step.fits)) b))
+  where
+    min_lem : (a b : ℕ) → a ≤ b → min a b ≡ a
+    min_lem a b c = omega (arith, c)

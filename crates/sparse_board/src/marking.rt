@@ -1,0 +1,172 @@
+//! Which numbers of the rows may differ from 0: a row isn't looked at for another.
+ghost use Rattle.std.specs.Prelude.{◌≡◌, ◌+◌, ◌<◌, ◌^◌, ℕ, IsTrue, IfOk, false, length, true};
+ghost use Rattle.ratio_core.specs.Rational.{zero_ℚ};
+ghost use Rattle.sparse_board.specs.Mixed as mixed;
+ghost use Rattle.sparse_board.specs.Numbers.{number_of, width_of};
+ghost use Rattle.sparse_board.specs.Rows.{AreWide};
+ghost use Rattle.sparse_board.specs.Marks.{SameSizes, has};
+ghost use Rattle.sparse_board.specs.Marking.{AreMarked, KeepMarks, MarksNumbers, MarksRow, MarksUnits};
+ghost use Rattle.whole_rows.specs.Rows as whole;
+
+use crate::marks::Marks;
+use crate::mixed_row::MixedRow;
+use crate::row::Row;
+use crate::sparse_row::SparseRow;
+use crate::step::Step;
+use std::alloc::{AllocError, Global};
+use whole_rows::{NarrowRow, NarrowStep, is_nonzero_at};
+
+// The marks of the numbers of rows with this number of columns.
+pub(crate) fn marks_of(alloc: Global, rows: &[Row], width: usize) -> Result<Marks, AllocError>
+    requires wide { AreWide width rows.now }
+    requires few { width < 2 ^ 32 }
+    requires few_rows { length rows.now < 2 ^ 32 }
+    ensures columns { IfOk result (λ marks. marks.columns ≡ width) }
+    ensures rows { IfOk result (λ marks. marks.rows ≡ length rows.now) }
+    ensures marked { IfOk result (λ marks. AreMarked width marks rows.now) }
+{
+    let mut marks = Marks::none(alloc, width, rows.len())?;
+    for i in 0..rows.len() {
+        mark(&rows[i].now, i, &mut marks);
+    }
+    Ok(marks)
+}
+
+// Marks the numbers of row i that aren't 0.
+fn mark(row: &MixedRow, i: usize, marks: &mut Marks)
+    requires row { i < marks.old.rows }
+    requires columns { marks.old.columns ≡ mixed.width_of row.now }
+    ensures marked { MarksRow row.now i marks.new }
+    ensures kept { KeepMarks marks.old marks.new }
+{
+    if row.is_wide {
+        mark_entries(&row.wide, i, marks);
+    } else {
+        mark_numbers(&row.narrow, i, row.width, marks);
+    }
+}
+
+// The same of fractions.
+fn mark_entries(row: &SparseRow, i: usize, marks: &mut Marks)
+    requires row { i < marks.old.rows }
+    requires columns { marks.old.columns ≡ width_of row.now }
+    ensures marked { MarksNumbers (width_of row.now) (number_of row.now) i marks.new }
+    ensures kept { KeepMarks marks.old marks.new }
+{
+    for k in 0..row.entries.len() {
+        marks.set(row.entries[k].column as usize, i);
+    }
+}
+
+// The same of whole numbers in this number of columns.
+fn mark_numbers(row: &NarrowRow, i: usize, width: usize, marks: &mut Marks)
+    requires row { i < marks.old.rows }
+    requires columns { marks.old.columns ≡ width }
+    ensures marked { MarksNumbers width (whole.number_of row.now) i marks.new }
+    ensures kept { KeepMarks marks.old marks.new }
+{
+    let mut j = row.next_marked(0);
+    while j < width {
+        mark_number(row, j, i, marks);
+        j = row.next_marked(j + 1);
+    }
+}
+
+// The same of the number of column j.
+#[inline]
+fn mark_number(row: &NarrowRow, j: usize, i: usize, marks: &mut Marks)
+    requires row { i < marks.old.rows }
+    requires column { j < marks.old.columns }
+    ensures marked { has marks.new j i ≡ false → whole.number_of row.now j ≡ zero_ℚ }
+    ensures kept { KeepMarks marks.old marks.new }
+{
+    if is_nonzero_at(row, j) {
+        marks.set(j, i);
+    }
+}
+
+// Takes the marks of column q off the rows that have no number there: what was marked may have
+// become 0, and each marked row is looked at. Tells whether one that stays marked is of fractions.
+pub(crate) fn unmark_zeros(rows: &[Row], q: u32, marks: &mut Marks) -> bool
+    requires column { q < marks.old.columns }
+    requires rows { marks.old.rows ≡ length rows.now }
+    ensures sizes { SameSizes marks.old marks.new }
+    ensures marked { (w : ℕ) → AreMarked w marks.old rows.now → AreMarked w marks.new rows.now }
+{
+    let mut has_wide = false;
+    let mut i = marks.next_row(q as usize, 0);
+    while i < rows.len() {
+        let stays_wide = unmark_zero(&rows[i].now, q, i, marks);
+        has_wide = has_wide | stays_wide;
+        i = marks.next_row(q as usize, i + 1);
+    }
+    has_wide
+}
+
+// The same of the mark of row i.
+#[inline]
+fn unmark_zero(row: &MixedRow, q: u32, i: usize, marks: &mut Marks) -> bool
+    requires column { q < marks.old.columns }
+    requires row { i < marks.old.rows }
+    ensures sizes { SameSizes marks.old marks.new }
+    ensures others { (l k : ℕ) → ¬ ((l ≡ q) × (k ≡ i))
+        → has marks.new l k ≡ has marks.old l k }
+    ensures zero { has marks.old q i ≡ true → has marks.new q i ≡ false
+        → mixed.number_of row.now q ≡ zero_ℚ }
+{
+    if !is_zero_at(row, q) {
+        return row.is_wide;
+    }
+    marks.unset(q as usize, i);
+    false
+}
+
+// Whether the row's number of column q is 0.
+#[inline]
+fn is_zero_at(row: &MixedRow, q: u32) -> bool
+    ensures { IsTrue result → mixed.number_of row.now q ≡ zero_ℚ }
+{
+    if row.is_wide {
+        row.wide.number(q).is_zero()
+    } else {
+        !is_nonzero_at(&row.narrow, q as usize)
+    }
+}
+
+// Marks where the rows that are marked in column q may differ from 0 once they are lowered by
+// multiples of the step.
+pub(crate) fn mark_step(step: &Step, q: u32, marks: &mut Marks)
+    requires column { q < step.now.width }
+    requires columns { marks.old.columns ≡ step.now.width }
+    ensures kept { KeepMarks marks.old marks.new }
+    ensures marked { MarksUnits step.now.width q (mixed.units_of step.now) marks.old marks.new }
+{
+    if step.is_narrow {
+        return mark_narrow(&step.narrow, q, marks);
+    }
+    mark_wide(&step.wide, q, marks);
+}
+
+fn mark_wide(step: &SparseRow, q: u32, marks: &mut Marks)
+    requires column { q < width_of step.now }
+    requires columns { marks.old.columns ≡ width_of step.now }
+    ensures kept { KeepMarks marks.old marks.new }
+    ensures marked { MarksUnits (width_of step.now) q (number_of step.now) marks.old marks.new }
+{
+    for k in 0..step.entries.len() {
+        marks.join(q as usize, step.entries[k].column as usize);
+    }
+}
+
+fn mark_narrow(step: &NarrowStep, q: u32, marks: &mut Marks)
+    requires column { q < whole.width_of step.now.row + 1 }
+    requires columns { marks.old.columns ≡ whole.width_of step.now.row + 1 }
+    ensures kept { KeepMarks marks.old marks.new }
+    ensures marked { MarksUnits (whole.width_of step.now.row + 1) q
+        (whole.number_of step.now.row) marks.old marks.new }
+{
+    for k in 0..step.used {
+        marks.join(q as usize, step.columns[k] as usize);
+    }
+    marks.join(q as usize, step.row.numbers.len());
+}

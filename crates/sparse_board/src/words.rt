@@ -1,0 +1,61 @@
+//! Bits of words.
+ghost use Rattle.std.specs.Prelude.{◌≡◌, ◌≢◌, ◌+◌, ◌<◌, ◌≤◌, ◌⊎◌, ℕ, length, nat_eq};
+ghost use Rattle.std.specs.Int.{bit_at};
+ghost use Rattle.sparse_board.specs.Words.{AreJoined};
+
+// Whether bit k is set.
+#[inline]
+pub(crate) fn has_bit(word: u64, k: usize) -> bool
+    requires { k < 64 }
+    ensures { result ≡ nat_eq (bit_at word k) 1 }
+{
+    (word >> k) & 1 == 1
+}
+
+// The word with bit k set.
+#[inline]
+pub(crate) fn with_bit(word: u64, k: usize) -> u64
+    requires { k < 64 }
+    ensures set { bit_at result k ≡ 1 }
+    ensures others { (i : ℕ) → i ≢ k → bit_at result i ≡ bit_at word i }
+{
+    word | 1u64 << k
+}
+
+// The word with bit k cleared.
+#[inline]
+pub(crate) fn without_bit(word: u64, k: usize) -> u64
+    requires { k < 64 }
+    ensures cleared { bit_at result k ≡ 0 }
+    ensures others { (i : ℕ) → i < 64 → i ≢ k → bit_at result i ≡ bit_at word i }
+{
+    word & !(1u64 << k)
+}
+
+// The first bit from this one on that is set, or 64.
+#[inline]
+pub(crate) fn next_bit(word: u64, from: usize) -> usize
+    requires { from < 64 }
+    ensures from { from ≤ result }
+    ensures passed { (k : ℕ) → from ≤ k → k < result → bit_at word k ≡ 0 }
+    ensures set { result < 64 → bit_at word result ≡ 1 }
+{
+    let rest = word >> from;
+    if rest == 0 {
+        return 64;
+    }
+    from + rest.trailing_zeros() as usize
+}
+
+// Sets the bits of `count` words from place `to` on that are set in those from place `from` on.
+pub(crate) fn join_words(words: &mut [u64], from: usize, to: usize, count: usize)
+    requires from { from + count ≤ length words.old }
+    requires to { to + count ≤ length words.old }
+    requires apart { (to ≤ from) ⊎ (from + count ≤ to) }
+    ensures { AreJoined from to count words.old words.new }
+{
+    for k in 0..count {
+        let joined = words[to + k] | words[from + k];
+        words[to + k] = joined;
+    }
+}
