@@ -1,12 +1,13 @@
 -- Marks of blocks, and the numbers of blocks that aren't marked.
-use Rattle.std.specs.Prelude.{◌≡◌, ℕ, zero, suc, ◌+◌, ◌*◌, ◌/◌, ◌<◌, ◌≤◌, ◌⊎◌, Bool, ◌||◌, true, false, List, length, slice_index_or, slice_set, ℤ, pos, negsuc, ◌+ℤ◌, ◌*ℤ◌, neg_ℤ, unsigned_abs, refl}
+use Rattle.std.specs.Prelude.{◌≡◌, ℕ, zero, suc, ◌+◌, ◌*◌, ◌/◌, ◌<◌, ◌≤◌, ◌⊎◌, Bool, ◌||◌, true, false, List, length, slice_index, slice_index_or, slice_set, ℤ, pos, negsuc, ◌+ℤ◌, ◌*ℤ◌, neg_ℤ, unsigned_abs, refl}
 use Rattle.std.proofs.Common.{inl, inr, sym, ◌∙◌, ap, ap₂, arith, subst, true≢false}
 use Rattle.std.proofs.Math.IntN.{*ℤ-zero, *ℤ_comm}
 use Rattle.std.proofs.lemmas.Bool.{cases_lt}
 use Rattle.std.proofs.lemmas.Int.{unsigned_abs-mul}
 use Rattle.std.proofs.lemmas.List.{get_or-set_other, get_or-set_same, get_or_default, get_or_past, length-set}
 use Rattle.simplex_laws.specs.BoundedSumLaws.{same_or_other}
-use Rattle.whole_rows.specs.Blocks.{AreScaled, AreUnmarked, Covers, Joins, blocks_of}
+use Rattle.whole_rows.specs.Blocks.{AreMarked, AreScaled, AreScaledIn, AreUnmarked, Covers, Joins, KeepsMarks, blocks_of}
+use Rattle.whole_rows.specs.Listed.{Lists}
 use Rattle.whole_rows.specs.Numerators.{AreDivided, AreLowered, AreMade, AreShrunk, numerator}
 use Rattle.whole_rows.specs.Over.{lowered_num}
 
@@ -63,6 +64,26 @@ or_false a b e = (left_lem a b e, right_lem a b e)
     right_lem : (a b : Bool) → (a || b) ≡ false → b ≡ false
     right_lem a b e = grind arith
 
+-- numbers that are worked out of those of two rows, and are 0 where these are: under marks of the
+-- first row that stay, and those of the second
+pub covers_made : (R : ℤ → ℤ → ℤ → Type 0) → ((x : ℤ) → R (pos 0) (pos 0) x → x ≡ pos 0)
+    → (blocks new : List Bool) (numbers step made : List ℤ) → KeepsMarks blocks new
+    → Covers blocks numbers → Covers new step → length made ≡ length numbers
+    → ((j : ℕ) → j < length numbers → R (slice_index_or numbers j (pos 0))
+    (slice_index_or step j (pos 0)) (slice_index_or made j (pos 0)))
+    → Covers new made
+covers_made R zeros blocks new numbers step made kept covers step_covers count is = record {
+  unmarked = λ j e. by_end j e (cases_lt j (length numbers));
+}
+  where
+    by_end : (j : ℕ) → slice_index_or new (j / 8) false ≡ false
+        → (j < length numbers) ⊎ (length numbers ≤ j) → slice_index_or made j (pos 0) ≡ pos 0
+    by_end j e (inl b) =
+        zeros _ (subst (λ y. R (pos 0) y (slice_index_or made j (pos 0))) (step_covers.unmarked j e)
+        (subst (λ x. R x (slice_index_or step j (pos 0)) (slice_index_or made j (pos 0)))
+        (covers.unmarked j (kept (j / 8) e)) (is j b)))
+    by_end j e (inr h) = get_or_past made j (pos 0) (subst (λ n. n ≤ j) (sym count) h)
+
 -- a block that isn't marked then was marked in neither row
 module _ (others old new : List Bool) (joins : Joins (length old) others old new)
     (long : length others ≡ length old) where
@@ -80,25 +101,69 @@ module _ (others old new : List Bool) (joins : Joins (length old) others old new
         get_or_past others b false (subst (λ n. n ≤ b) (sym long) h),
       )
 
-  -- numbers that are worked out of those of both rows, and are 0 where these are
-  pub covers_joined : (R : ℤ → ℤ → ℤ → Type 0) → ((x : ℤ) → R (pos 0) (pos 0) x → x ≡ pos 0)
-      → (numbers step made : List ℤ) → Covers old numbers → Covers others step
-      → length made ≡ length numbers
-      → ((j : ℕ) → j < length numbers → R (slice_index_or numbers j (pos 0))
-      (slice_index_or step j (pos 0)) (slice_index_or made j (pos 0)))
-      → Covers new made
-  covers_joined R zeros numbers step made covers step_covers count is = record {
-    unmarked = λ j e. by_end j e (cases_lt j (length numbers));
+  pub joins_keep : KeepsMarks old new
+  joins_keep b e = (unmarked_both b e).0
+
+  pub joins_cover : (numbers : List ℤ) → Covers others numbers → Covers new numbers
+  joins_cover numbers covers = record {
+    unmarked = λ j e. covers.unmarked j (unmarked_both (j / 8) e).1;
   }
-    where
-      by_end : (j : ℕ) → slice_index_or new (j / 8) false ≡ false
-          → (j < length numbers) ⊎ (length numbers ≤ j) → slice_index_or made j (pos 0) ≡ pos 0
-      by_end j e (inl b) =
-          zeros _ (subst (λ y. R (pos 0) y (slice_index_or made j (pos 0)))
-          (step_covers.unmarked j (unmarked_both (j / 8) e).1)
-          (subst (λ x. R x (slice_index_or step j (pos 0)) (slice_index_or made j (pos 0)))
-          (covers.unmarked j (unmarked_both (j / 8) e).0) (is j b)))
-      by_end j e (inr h) = get_or_past made j (pos 0) (subst (λ n. n ≤ j) (sym count) h)
+
+-- ---- the marks of listed columns
+
+pub marked_none : (columns : List ℕ) (old : List Bool) → AreMarked columns 0 old old
+marked_none columns old = record {
+  long = refl;
+  kept = λ b e. e;
+  marked = λ k b. absurd (omega (arith, b));
+}
+
+pub marked_more : (columns : List ℕ) (n : ℕ) (old now : List Bool) → AreMarked columns n old now
+    → slice_index columns n / 8 < length now
+    → AreMarked columns (n + 1) old (slice_set now (slice_index columns n / 8) true)
+marked_more columns n old now h within = record {
+  long = length-set now (slice_index columns n / 8) true ∙ h.long;
+  kept = λ b e. same_or_other (slice_index_or old b false ≡ false) b (slice_index columns n / 8)
+      (λ f. absurd (true≢false (sym (get_or-set_same now (slice_index columns n / 8) true false
+      within)
+      ∙ subst (λ i. slice_index_or (slice_set now (slice_index columns n / 8) true) i false
+      ≡ false) f e)))
+      (λ m. h.kept b
+      (sym (get_or-set_other now (slice_index columns n / 8) b true false m) ∙ e));
+  marked = λ k b. same_or_other
+      (slice_index_or (slice_set now (slice_index columns n / 8) true) (slice_index columns k / 8)
+      false ≡ true)
+      (slice_index columns k / 8) (slice_index columns n / 8)
+      (λ f. subst (λ i. slice_index_or (slice_set now (slice_index columns n / 8) true) i false
+      ≡ true) (sym f) (get_or-set_same now (slice_index columns n / 8) true false within))
+      (λ m. get_or-set_other now (slice_index columns n / 8) (slice_index columns k / 8) true false m
+      ∙ h.marked k (less_lem k n b (λ e. m (ap (λ i. slice_index columns i / 8) e))));
+}
+  where
+    less_lem : (k n : ℕ) → k < n + 1 → ¬ (k ≡ n) → k < n
+    less_lem k n b m = omega (arith, b, m)
+
+-- a listed column has a block
+pub column_block : (columns : List ℕ) (numbers : List ℤ) (k n : ℕ) → Lists columns numbers
+    → k < length columns → n ≡ blocks_of (length numbers) → slice_index columns k / 8 < n
+column_block columns numbers k n lists b e =
+    within_lem (slice_index columns k) (length numbers) n (lists.within k b) e
+  where
+    within_lem : (j w m : ℕ) → j < w → m ≡ (w + 7) / 8 → j / 8 < m
+    within_lem j w m b e = omega (arith, b, e)
+
+pub marked_covers : (columns : List ℕ) (numbers : List ℤ) (old new : List Bool)
+    → Lists columns numbers → AreMarked columns (length columns) old new → Covers new numbers
+marked_covers columns numbers old new lists h = record {
+  unmarked = λ j e. by_end j e (cases_lt j (length numbers));
+}
+  where
+    by_end : (j : ℕ) → slice_index_or new (j / 8) false ≡ false
+        → (j < length numbers) ⊎ (length numbers ≤ j) → slice_index_or numbers j (pos 0) ≡ pos 0
+    by_end j e (inl b) =
+        lists.others j b (λ k c f. true≢false
+        (sym (subst (λ i. slice_index_or new (i / 8) false ≡ true) f (h.marked k c)) ∙ e))
+    by_end j e (inr h) = get_or_past numbers j (pos 0) h
 
 -- ---- products that are 0
 
@@ -128,28 +193,49 @@ lowered_zeros over by = ap₂ (λ x y. x +ℤ neg_ℤ y) (zero_times (pos over))
 
 -- ---- numbers that are multiplied
 
-pub scaled_none : (over : ℤ) (old : List ℤ) → AreScaled over 0 old old
-scaled_none over old = record {
+pub scaled_in_none : (over : ℤ) (start : ℕ) (old : List ℤ) → AreScaledIn over start start old old
+scaled_in_none over start old = record {
   long = refl;
-  scaled = λ j b. absurd (omega (arith, b));
-  others = λ j b. refl;
+  scaled = λ j a b. absurd (omega (arith, a, b));
+  before = λ j b. refl;
+  after = λ j b. refl;
 }
 
-pub scaled_here : (over : ℤ) (old now : List ℤ) (j : ℕ) (x : ℤ) → AreScaled over j old now
-    → j < length now → x ≡ slice_index_or now j (pos 0) *ℤ over
-    → AreScaled over (j + 1) old (slice_set now j x)
-scaled_here over old now j x h within is = record {
-  long = length-set now j x ∙ h.long;
-  scaled = λ k b.
-      same_or_other _ k j
-      (λ e. subst (λ i. slice_index_or (slice_set now j x) i (pos 0)
+pub scaled_in_more : (over : ℤ) (start k : ℕ) (old now : List ℤ) (x : ℤ)
+    → AreScaledIn over start k old now → start ≤ k → k < length now
+    → x ≡ slice_index_or now k (pos 0) *ℤ over
+    → AreScaledIn over start (k + 1) old (slice_set now k x)
+scaled_in_more over start k old now x h order within is = record {
+  long = length-set now k x ∙ h.long;
+  scaled = λ j a b.
+      same_or_other _ j k
+      (λ e. subst (λ i. slice_index_or (slice_set now k x) i (pos 0)
       ≡ slice_index_or old i (pos 0) *ℤ over) (sym e)
-      (get_or-set_same now j x (pos 0) within ∙ is
-      ∙ ap (λ y. y *ℤ over) (h.others j (omega arith))))
-      (λ n. get_or-set_other now j k x (pos 0) n ∙ h.scaled k (omega (arith, b, n)));
-  others = λ k b. get_or-set_other now j k x (pos 0) (λ e. absurd (omega (arith, e, b)))
-      ∙ h.others k (omega (arith, b));
+      (get_or-set_same now k x (pos 0) within ∙ is
+      ∙ ap (λ y. y *ℤ over) (h.after k (omega arith))))
+      (λ n. get_or-set_other now k j x (pos 0) n ∙ h.scaled j a (omega (arith, b, n)));
+  before = λ j b. get_or-set_other now k j x (pos 0) (λ e. absurd (omega (arith, e, b, order)))
+      ∙ h.before j b;
+  after = λ j b. get_or-set_other now k j x (pos 0) (λ e. absurd (omega (arith, e, b)))
+      ∙ h.after j (omega (arith, b));
 }
+
+-- what was multiplied so far, and a block more
+pub scaled_block : (over : ℤ) (old now next : List ℤ) (start end : ℕ) → AreScaled over start old now
+    → AreScaledIn over start end now next → start ≤ end → AreScaled over end old next
+scaled_block over old now next start end h block order = record {
+  long = block.long ∙ h.long;
+  scaled = λ j b. by_place j b (cases_lt j start);
+  others = λ j b. block.after j b ∙ h.others j (at_most_lem start end j order b);
+}
+  where
+    at_most_lem : (a b c : ℕ) → a ≤ b → b ≤ c → a ≤ c
+    at_most_lem a b c x y = omega (arith, x, y)
+
+    by_place : (j : ℕ) → j < end → (j < start) ⊎ (start ≤ j)
+        → slice_index_or next j (pos 0) ≡ slice_index_or old j (pos 0) *ℤ over
+    by_place j b (inl l) = block.before j l ∙ h.scaled j l
+    by_place j b (inr l) = block.scaled j l b ∙ ap (λ x. x *ℤ over) (h.others j l)
 
 -- the numbers that are passed over are 0, and stay so
 pub scaled_past : (over : ℤ) (old now : List ℤ) (j to : ℕ) → AreScaled over j old now → j ≤ to
@@ -189,26 +275,23 @@ pub covers_zeros : (blocks : List Bool) (numbers : List ℤ)
     → ((j : ℕ) → slice_index_or numbers j (pos 0) ≡ pos 0) → Covers blocks numbers
 covers_zeros blocks numbers h = record { unmarked = λ j e. h j }
 
--- numbers that are lowered, and blocks that are joined
-pub covers_lowered : (over : ℕ) (by : ℤ) (others blocks new : List Bool) (numbers step made : List ℤ)
-    → Joins (length blocks) others blocks new → length others ≡ length blocks
-    → Covers blocks numbers → Covers others step
+-- numbers that are lowered
+pub covers_lowered : (over : ℕ) (by : ℤ) (blocks new : List Bool) (numbers step made : List ℤ)
+    → KeepsMarks blocks new → Covers blocks numbers → Covers new step
     → AreLowered over by step (length numbers) numbers made → Covers new made
-covers_lowered over by others blocks new numbers step made joins long covers step_covers lowered =
-    covers_joined others blocks new joins long (λ a b x. x ≡ lowered_num a over by b)
-    (λ x e. e ∙ lowered_zeros over by) numbers step made covers step_covers lowered.long
-    lowered.lowered
+covers_lowered over by blocks new numbers step made kept covers step_covers lowered =
+    covers_made (λ a b x. x ≡ lowered_num a over by b) (λ x e. e ∙ lowered_zeros over by) blocks new
+    numbers step made kept covers step_covers lowered.long lowered.lowered
 
-pub covers_shrunk : (over : ℕ) (by : ℤ) (common : ℕ) (others blocks new : List Bool)
-    (numbers step made : List ℤ) → 0 < common → Joins (length blocks) others blocks new
-    → length others ≡ length blocks → Covers blocks numbers → Covers others step
-    → AreShrunk over by step common (length numbers) numbers made → Covers new made
-covers_shrunk over by common others blocks new numbers step made above joins long covers step_covers
-    shrunk =
-    covers_joined others blocks new joins long
-    (λ a b x. lowered_num a over by b ≡ x *ℤ pos common)
+pub covers_shrunk : (over : ℕ) (by : ℤ) (common : ℕ) (blocks new : List Bool)
+    (numbers step made : List ℤ) → 0 < common → KeepsMarks blocks new → Covers blocks numbers
+    → Covers new step → AreShrunk over by step common (length numbers) numbers made
+    → Covers new made
+covers_shrunk over by common blocks new numbers step made above kept covers step_covers shrunk =
+    covers_made (λ a b x. lowered_num a over by b ≡ x *ℤ pos common)
     (λ x e. factor_zero x (pos common) (sym e ∙ lowered_zeros over by)
-    (λ z. zero_lem common above z)) numbers step made covers step_covers shrunk.long shrunk.shrunk
+    (λ z. zero_lem common above z)) blocks new numbers step made kept covers step_covers shrunk.long
+    shrunk.shrunk
   where
     zero_lem : (n : ℕ) → 0 < n → pos n ≡ pos 0 → ⊥
     zero_lem n h e = omega (arith, h, ap unsigned_abs e)

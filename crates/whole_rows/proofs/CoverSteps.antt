@@ -1,45 +1,35 @@
 -- Rows whose marks are those of their numbers, after a step. The lists are given as the code has
 -- them, with equations that say what they are.
-use Rattle.std.specs.Prelude.{◌≡◌, ℕ, ◌+◌, ◌*◌, ◌/◌, ◌^◌, ◌<◌, ◌≤◌, ◌⊎◌, Bool, ◌&&◌, true, false, is_some, List, length, MatchOption, Option, Some, None, slice_index_or, ℤ, pos, unsigned_abs}
+use Rattle.std.specs.Prelude.{◌≡◌, ℕ, ◌+◌, ◌*◌, ◌/◌, ◌^◌, ◌<◌, ◌≤◌, ◌⊎◌, Bool, ◌&&◌, true, is_some, List, length, MatchOption, Option, Some, None, slice_index_or, ℤ, pos, unsigned_abs}
 use Rattle.std.proofs.Common.{inl, inr, sym, ◌∙◌, ap, ap₂, arith, div-le_self, mul-le-mul_left, mul-le-mul_right, subst, subst₂, true≢false}
 use Rattle.std.proofs.lemmas.Bool.{cases_lt, eq-eqb, lt-ltb}
 use Rattle.std.proofs.lemmas.List.{get_or_default, get_or_past}
 use Rattle.ratio_core.specs.Gcd.{gcd}
 use Rattle.ratio_core.specs.Rational.{reduce, zero_ℚ}
 use Rattle.rational_laws.specs.Over.{over-zero_ℚ}
-use Rattle.whole_rows.specs.Blocks.{Covers, Joins, blocks_of}
+use Rattle.whole_rows.specs.Blocks.{Covers, KeepsMarks, blocks_of}
 use Rattle.whole_rows.specs.declared.narrow_row.NarrowRow.{NarrowRow}
 use Rattle.whole_rows.specs.Numerators.{AreDivided, AreLowered, AreMade, AreShrunk, numerator}
 use Rattle.whole_rows.specs.Rows.{can_stay, number_of, numerator_of, width_of}
 use Rattle.whole_rows.proofs.BlockSteps.{covers_divided, covers_lowered, covers_shrunk}
 
-module _ (row step : NarrowRow) (same : width_of step ≡ width_of row) (N n N' items : List ℤ)
-    (B others B' blocks : List Bool) (N_is : N ≡ row.numbers.items) (n_is : n ≡ step.numbers.items)
-    (items_are : items ≡ N') (B_is : B ≡ row.blocks.items) (others_are : others ≡ step.blocks.items)
-    (joins : Joins (length B) others B B') (blocks_are : blocks ≡ B') where
-  long : length others ≡ length B
-  long =
-      ap length others_are ∙ step.blocks_long ∙ ap blocks_of same ∙ sym row.blocks_long
-      ∙ sym (ap length B_is)
-
+module _ (row : NarrowRow) (N n N' items : List ℤ) (B B' blocks : List Bool)
+    (N_is : N ≡ row.numbers.items) (items_are : items ≡ N') (B_is : B ≡ row.blocks.items)
+    (blocks_are : blocks ≡ B') (kept : KeepsMarks B B') (step_covers : Covers B' n) where
   row_covers : Covers B N
   row_covers = subst₂ Covers (sym B_is) (sym N_is) row.covers
-
-  step_covers : Covers others n
-  step_covers = subst₂ Covers (sym others_are) (sym n_is) step.covers
 
   pub lowered_covers : (over : ℕ) (by : ℤ) → AreLowered over by n (length N) N N'
       → Covers blocks items
   lowered_covers over by lowered =
       subst₂ Covers (sym blocks_are) (sym items_are)
-      (covers_lowered over by others B B' N n N' joins long row_covers step_covers lowered)
+      (covers_lowered over by B B' N n N' kept row_covers step_covers lowered)
 
   pub shrunk_covers : (over : ℕ) (by : ℤ) (common : ℕ) → 0 < common
       → AreShrunk over by n common (length N) N N' → Covers blocks items
   shrunk_covers over by common above shrunk =
       subst₂ Covers (sym blocks_are) (sym items_are)
-      (covers_shrunk over by common others B B' N n N' above joins long row_covers step_covers
-      shrunk)
+      (covers_shrunk over by common B B' N n N' above kept row_covers step_covers shrunk)
 
 pub divided_covers : (row : NarrowRow) (by : ℤ) (N N' items : List ℤ) → N ≡ row.numbers.items
     → items ≡ N' → ¬ (by ≡ pos 0) → AreDivided by (length N) N N' → Covers row.blocks.items items

@@ -1,6 +1,6 @@
 -- Numerators that are lowered at listed columns, one after another.
 use Rattle.std.specs.Prelude.{◌≡◌, ℕ, zero, suc, ◌+◌, ◌*◌, ◌^◌, ◌<◌, ◌≤◌, List, length, min, refl, slice_index, slice_index_or, slice_set, take, ◌⊎◌, ℤ, pos, ◌+ℤ◌, ◌-ℤ◌, ◌*ℤ◌, neg_ℤ, unsigned_abs}
-use Rattle.std.proofs.Common.{inl, inr, sym, ◌∙◌, ap, ap₂, arith, subst, to_z, of_z, w64, FitsSigned}
+use Rattle.std.proofs.Common.{inl, inr, sym, ◌∙◌, add-zero, ap, ap₂, arith, subst, subst₂, to_z, of_z, w64, FitsSigned}
 use Rattle.std.proofs.Math.IntN.{*ℤ-zero, +ℤ_idr}
 use Rattle.std.proofs.lemmas.Bool.{cases_lt}
 use Rattle.std.proofs.lemmas.Int.{to_z-of_z, unsigned_abs-mul}
@@ -223,6 +223,54 @@ noted_here numbers columns used j x h b x_is nonzero = record {
         × (slice_index new k ≡ i))
     by_old i (inl z) = inl z
     by_old i (inr f) = inr (f.0, omega (arith, f.1), off f.0 (λ e. omega (arith, f.1, e)) ∙ f.2)
+
+-- a column that is written behind those that are noted
+pub noted_spare : (numbers : List ℤ) (columns : List ℕ) (used j x : ℕ)
+    → IsNotedTo numbers columns used j → IsNotedTo numbers (slice_set columns used x) used j
+noted_spare numbers columns used j x h = record {
+  few = h.few;
+  row_end = h.row_end;
+  room = subst (λ n. length numbers ≤ n) (sym (length-set columns used x)) h.room;
+  within = λ k c. subst (λ n. n < j) (sym (off k c)) (h.within k c);
+  rising = λ k l a c. subst₂ (λ m n. m < n) (sym (off k (less_lem k l used a c))) (sym (off l c))
+      (h.rising k l a c);
+  nonzero = λ k c. subst (λ n. ¬ (slice_index_or numbers n (pos 0) ≡ pos 0)) (sym (off k c))
+      (h.nonzero k c);
+  found = λ i c. by_old i (h.found i c);
+}
+  where
+    new : List ℕ
+    new = slice_set columns used x
+
+    less_lem : (k l n : ℕ) → k < l → l < n → k < n
+    less_lem k l n a b = omega (arith, a, b)
+
+    apart_lem : (k n : ℕ) → k < n → k ≡ n → ⊥
+    apart_lem k n b e = omega (arith, b, e)
+
+    off : (k : ℕ) → k < used → slice_index new k ≡ slice_index columns k
+    off k c = get_or-set_other columns used k x 0 (apart_lem k used c)
+
+    by_old : (i : ℕ) → (slice_index_or numbers i (pos 0) ≡ pos 0) ⊎ ((k : ℕ) × (k < used)
+        × (slice_index columns k ≡ i))
+        → (slice_index_or numbers i (pos 0) ≡ pos 0) ⊎ ((k : ℕ) × (k < used)
+        × (slice_index new k ≡ i))
+    by_old i (inl z) = inl z
+    by_old i (inr f) = inr (f.0, f.1, off f.0 f.1 ∙ f.2)
+
+-- a column that is written, and counted where its number isn't 0
+pub noted_next : (numbers : List ℤ) (columns : List ℕ) (used j count : ℕ)
+    → IsNotedTo numbers columns used j → j < length numbers → count ≤ 1
+    → (count ≡ 0 → slice_index_or numbers j (pos 0) ≡ pos 0)
+    → (count ≡ 1 → ¬ (slice_index_or numbers j (pos 0) ≡ pos 0))
+    → IsNotedTo numbers (slice_set columns used j) (used + count) (j + 1)
+noted_next numbers columns used j zero h b few none one =
+    subst (λ n. IsNotedTo numbers (slice_set columns used j) n (j + 1)) (sym (add-zero used))
+    (noted_past numbers (slice_set columns used j) used j (noted_spare numbers columns used j j h) b
+    (none refl))
+noted_next numbers columns used j (suc zero) h b few none one =
+    noted_here numbers columns used j j h b refl (one refl)
+noted_next numbers columns used j (suc (suc count)) h b few none one = absurd (omega (arith, few))
 
 pub noted_all : (numbers : List ℤ) (columns : List ℕ) (used j : ℕ)
     → IsNotedTo numbers columns used j → j ≡ length numbers → Lists (take used columns) numbers

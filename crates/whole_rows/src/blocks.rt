@@ -1,7 +1,10 @@
 //! Blocks of eight columns: a row of many columns has few numbers other than 0, and a block without
 //! a mark isn't read. Eight numbers are as much as a read of memory brings.
-ghost use Rattle.std.specs.Prelude.{◌≡◌, ◌+◌, ◌*◌, ◌<◌, ◌≤◌, ◌^◌, ℕ, ◌*ℤ◌, length, pos, slice_index_or, unsigned_abs};
-ghost use Rattle.whole_rows.specs.Blocks.{AreScaled, AreUnmarked, Covers, Joins, blocks_of};
+ghost use Rattle.std.specs.Prelude.{◌≡◌, ◌+◌, ◌*◌, ◌/◌, ◌<◌, ◌≤◌, ◌^◌, ℕ, ◌*ℤ◌, length, pos, slice_index, slice_index_or, unsigned_abs};
+ghost use Rattle.whole_rows.specs.Blocks.{AreMarked, AreScaled, AreScaledIn, AreUnmarked, Covers, Joins, KeepsMarks, blocks_of};
+ghost use Rattle.whole_rows.specs.Listed.{Lists};
+
+use crate::narrow_row::NarrowRow;
 
 // How many columns a block has.
 pub(crate) const BLOCK: usize = 8;
@@ -18,6 +21,7 @@ pub(crate) fn block_count(width: usize) -> usize
 }
 
 // The first of `width` columns, from this one on, that is of a marked block, or else `width`.
+// Within a block it is the column itself: the block's mark isn't read again.
 #[inline]
 pub(crate) fn next_marked(blocks: &[bool], from: usize, width: usize) -> usize
     requires long { length blocks.now ≡ blocks_of width }
@@ -26,25 +30,46 @@ pub(crate) fn next_marked(blocks: &[bool], from: usize, width: usize) -> usize
     ensures within { result ≤ width }
     ensures unmarked { AreUnmarked from result blocks.now }
 {
+    let is_within = from % BLOCK != 0;
+    if is_within {
+        return from;
+    }
     for b in from / BLOCK..blocks.len() {
         if blocks[b] {
-            return later(from, b * BLOCK);
+            return b * BLOCK;
         }
     }
     width
 }
 
-#[inline]
-fn later(a: usize, b: usize) -> usize
-    ensures left { a ≤ result }
-    ensures right { (k : ℕ) → a ≤ k → k < result → k < b }
-    ensures within { (k : ℕ) → a ≤ k → b ≤ k → result ≤ k }
+// Marks the blocks in which a row with these columns isn't 0: one by one where they are few.
+pub(crate) fn mark_blocks(blocks: &mut [bool], row: &NarrowRow, columns: &[u32])
+    requires lists { Lists columns.now row.now.numbers.items }
+    requires long { length row.now.blocks.items ≡ length blocks.old }
+    ensures kept { KeepsMarks blocks.old blocks.new }
+    ensures covers { Covers blocks.new row.now.numbers.items }
 {
-    if a < b { b } else { a }
+    let are_few = columns.len() < blocks.len() / 8 + 8;
+    if are_few {
+        mark_columns(blocks, columns);
+        return;
+    }
+    join_blocks(blocks, &row.blocks);
+}
+
+// Marks the block of each column.
+fn mark_columns(blocks: &mut [bool], columns: &[u32])
+    requires { (k : ℕ) → k < length columns.now
+        → slice_index columns.now k / 8 < length blocks.old }
+    ensures { AreMarked columns.now (length columns.now) blocks.old blocks.new }
+{
+    for k in 0..columns.len() {
+        blocks[columns[k] as usize / BLOCK] = true;
+    }
 }
 
 // Marks the blocks that another row has marked.
-pub(crate) fn join_blocks(blocks: &mut [bool], others: &[bool])
+fn join_blocks(blocks: &mut [bool], others: &[bool])
     requires { length others.now ≡ length blocks.old }
     ensures { Joins (length blocks.old) others.now blocks.old blocks.new }
 {
@@ -64,8 +89,34 @@ pub(crate) fn scale_marked(numbers: &mut [i64], blocks: &[bool], over: i64)
 {
     let mut j = next_marked(blocks, 0, numbers.len());
     while j < numbers.len() {
-        numbers[j] = scaled(numbers[j], over);
-        j = next_marked(blocks, j + 1, numbers.len());
+        let end = block_end(j, numbers.len());
+        scale_to(numbers, j, end, over);
+        j = next_marked(blocks, end, numbers.len());
+    }
+}
+
+// Where the block of column j ends.
+#[inline]
+fn block_end(j: usize, width: usize) -> usize
+    requires { j < width }
+    ensures after { j < result }
+    ensures within { result ≤ width }
+{
+    let last = j / BLOCK * BLOCK + (BLOCK - 1);
+    if last < width { last + 1 } else { width }
+}
+
+// Multiplies the numbers from `start` on below `end`.
+#[inline]
+fn scale_to(numbers: &mut [i64], start: usize, end: usize, over: i64)
+    requires order { start ≤ end }
+    requires within { end ≤ length numbers.old }
+    requires fits { (k : ℕ) → start ≤ k → k < end
+        → unsigned_abs (slice_index_or numbers.old k (pos 0)) * unsigned_abs over < 2 ^ 63 }
+    ensures { AreScaledIn over start end numbers.old numbers.new }
+{
+    for k in start..end {
+        numbers[k] = scaled(numbers[k], over);
     }
 }
 

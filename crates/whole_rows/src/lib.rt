@@ -10,6 +10,7 @@ mod listed;
 mod lowering;
 mod narrow_row;
 mod plan;
+mod quotients;
 mod ratio;
 mod shrinking;
 mod step;

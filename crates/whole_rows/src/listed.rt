@@ -1,12 +1,13 @@
 //! The columns where a row isn't 0: a row is lowered there alone, which a pivot does most.
-ghost use Rattle.std.specs.Prelude.{◌≡◌, ◌<◌, ◌+◌, ◌*◌, ◌≤◌, ◌^◌, length, take, unsigned_abs};
+ghost use Rattle.std.specs.Prelude.{◌≡◌, ◌≢◌, ◌<◌, ◌+◌, ◌*◌, ◌≤◌, ◌^◌, length, pos, take, unsigned_abs};
 ghost use Rattle.whole_rows.specs.Listed.{Lists, lowered_once};
 ghost use Rattle.whole_rows.specs.Blocks.{Covers, blocks_of};
 ghost use Rattle.whole_rows.specs.Numerators.{AreLowered, LoweringFits};
 
 use crate::blocks::next_marked;
 
-// Notes the columns of the numbers that aren't 0, and tells how many there are.
+// Notes the columns of the numbers that aren't 0, and tells how many there are. A column is written
+// before its number is read: which are 0 can't be foreseen.
 pub(crate) fn note_columns(numbers: &[i64], blocks: &[bool], columns: &mut [u32]) -> usize
     requires covers { Covers blocks.now numbers.now }
     requires blocks { length blocks.now ≡ blocks_of (length numbers.now) }
@@ -18,13 +19,22 @@ pub(crate) fn note_columns(numbers: &[i64], blocks: &[bool], columns: &mut [u32]
     let mut used = 0;
     let mut j = next_marked(blocks, 0, numbers.len());
     while j < numbers.len() {
-        if numbers[j] != 0 {
-            columns[used] = j as u32;
-            used += 1;
-        }
+        columns[used] = j as u32;
+        let count = nonzero_count(numbers[j]);
+        used += count;
         j = next_marked(blocks, j + 1, numbers.len());
     }
     used
+}
+
+// 1 for a number other than 0.
+#[inline]
+fn nonzero_count(number: i64) -> usize
+    ensures few { result ≤ 1 }
+    ensures none { result ≡ 0 → number ≡ pos 0 }
+    ensures one { result ≡ 1 → number ≢ pos 0 }
+{
+    if number != 0 { 1 } else { 0 }
 }
 
 // Lowers the numbers of the listed columns by a multiple of the step's, in place. The row's

@@ -4,12 +4,13 @@ ghost use Rattle.whole_rows.specs.Blocks.{Covers, blocks_of};
 ghost use Rattle.whole_rows.specs.Numerators.{AreWithin};
 
 use crate::arithmetic::{common_divisor, exact, lowered, next_bound, next_den, part};
-use crate::blocks::{BLOCK, block_count, join_blocks, next_marked};
+use crate::blocks::{BLOCK, block_count, mark_blocks, next_marked};
 use crate::clearing::{clear_numbers, copy_marked};
 use crate::dividing::{divide_numbers, measured, quotient, with_sign};
 use crate::lowering::lower_numbers;
 use crate::plan::{Division, LongPlan, LoweringPlan};
-use crate::shrinking::{bound_of, common_of, shrink_numbers, shrunk};
+use crate::quotients::inverse_of;
+use crate::shrinking::{shrink_numbers, shrunk, shrunk_measure};
 use crate::step::NarrowStep;
 use crate::widening::numerator;
 use std::alloc::{AllocError, Global};
@@ -134,10 +135,11 @@ impl NarrowRow {
         if self.numbers[q] == 0 {
             return true;
         }
-        if self.lower_short(&step.row, &step.columns[..step.used], q) {
+        let columns = &step.columns[..step.used];
+        if self.lower_short(&step.row, columns, q) {
             return true;
         }
-        self.lower_long(&step.row, q)
+        self.lower_long(&step.row, columns, q)
     }
 
     /// Whether the row may not stay narrow when it is lowered by its number of column q times the
@@ -182,7 +184,7 @@ impl NarrowRow {
             &step.numbers,
             columns,
         );
-        join_blocks(&mut self.blocks, &step.blocks);
+        mark_blocks(&mut self.blocks, step, columns);
         self.side = lowered(self.side, plan.over, plan.by, step.side);
         self.den = plan.den;
         self.bound = plan.bound;
@@ -190,24 +192,35 @@ impl NarrowRow {
     }
 
     // The same in 128 bits, where the row stays narrow once it is divided by what divides it.
-    fn lower_long(&mut self, step: &NarrowRow, q: usize) -> bool
+    #[inline(never)]
+    fn lower_long(&mut self, step: &NarrowRow, columns: &[u32], q: usize) -> bool
         requires column { q < width_of self.old }
         requires width { width_of step.now ≡ width_of self.old }
+        requires lists { Lists columns.now step.now.numbers.items }
         ensures lowered { IsTrue result → IsLowered q step.now self.old self.new }
         ensures kept { result ≡ false → self.new ≡ self.old }
     {
         let Some(plan) = self.long_plan(step, q) else {
             return false;
         };
+        let inverse = inverse_of(plan.common);
         shrink_numbers(
             &mut self.numbers,
             plan.over,
             plan.by,
             &step.numbers,
             plan.common,
+            inverse,
         );
-        join_blocks(&mut self.blocks, &step.blocks);
-        self.side = shrunk(self.side, plan.over, plan.by, step.side, plan.common);
+        mark_blocks(&mut self.blocks, step, columns);
+        self.side = shrunk(
+            self.side,
+            plan.over,
+            plan.by,
+            step.side,
+            plan.common,
+            inverse,
+        );
         self.den = plan.den;
         self.bound = plan.bound;
         true
@@ -221,14 +234,13 @@ impl NarrowRow {
         let divisor = common_divisor(entry.unsigned_abs(), step.den);
         let over = part(step.den, divisor);
         let by = exact(entry, divisor);
-        let common = common_of(self, step, over, by);
-        let bound = bound_of(self, step, over, by, common)?;
-        let den = next_den(part(self.den, common), over)?;
+        let measure = shrunk_measure(self, step, over, by)?;
+        let den = next_den(part(self.den, measure.common), over)?;
         Some(LongPlan {
             over,
             by,
-            common,
-            bound,
+            common: measure.common,
+            bound: measure.greatest,
             den,
         })
     }

@@ -67,13 +67,14 @@ pub(crate) fn lowered_long(number: i64, over: u64, by: i64, unit: i64) -> i128
     scaled(number, over) - product(by, unit)
 }
 
+// Signed numbers are multiplied by one instruction.
 #[inline]
 pub(crate) fn scaled(a: i64, by: u64) -> i128
     requires { by < 2 ^ 63 }
     ensures value { result ≡ a *ℤ pos by }
     ensures fits { unsigned_abs result < 2 ^ 126 }
 {
-    a as i128 * by as i128
+    a as i128 * (by as i64) as i128
 }
 
 #[inline]

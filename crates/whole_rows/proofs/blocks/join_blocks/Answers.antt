@@ -1,4 +1,3 @@
-use Rattle.std.proofs.Common.{refl}
 use Rattle.whole_rows.proofs.BlockSteps.{joins_none}
 use Rattle.whole_rows.proofs.blocks.join_blocks.Goals as goal
 

@@ -1,25 +1,29 @@
-use Rattle.std.proofs.Common.{◌<◌, ◌+◌, ◌*ℤ◌, ◌≤◌, ◌∙◌, ℤ, FitsSigned, length, subst, of_z, pos, rules, slice_index_or, to_z, w64}
+use Rattle.std.proofs.Common.{◌<◌, ◌≤◌, ◌*◌, ◌^◌, ℤ, arith, length, of_z, subst, subst₂, sym, to_z, unsigned_abs, w64}
 use Rattle.std.proofs.lemmas.Int.{to_z-of_z}
-use Rattle.std.proofs.lemmas.List.{length-set}
-use Rattle.whole_rows.proofs.BlockSteps.{scaled_here, scaled_past, skipped_zero}
+use Rattle.whole_rows.specs.Blocks.{AreScaled}
+use Rattle.whole_rows.proofs.BlockSteps.{scaled_block, scaled_past, skipped_zero}
 use Rattle.whole_rows.proofs.blocks.scale_marked.Goals as goal
+
+pub scale_to-requires-clause-fits : goal.scale_to-requires-clause-fits
+scale_to-requires-clause-fits c = λ k a b.
+    let within : k < length c.args.numbers.now =
+    omega (arith, b, c.block_end-end.ensures.within, c.loop-j.auto.numbers) in
+    subst₂ (λ x y. unsigned_abs x * unsigned_abs y < 2 ^ 63)
+    (sym (c.loop-j.invariant.1.others k a)) (sym (to_z-of_z w64 c.args.over c.ranges.over))
+    (c.requires.fits k within)
 
 pub loop-j-preserved : goal.loop-j-preserved
 loop-j-preserved c =
     let over : ℤ = to_z w64 (of_z w64 c.args.over) in
-    let n : ℤ = slice_index_or c.loop-j.numbers c.loop-j.j (pos 0) in
-    let n_fits : FitsSigned w64 n = search rules in
-    let result_fits : FitsSigned w64 c.scaled.result = search rules in
-    let within : c.loop-j.j < length c.loop-j.numbers = search rules in
-    let to = c.next_marked-j-in-loop-j.result in (
-      subst (λ n. to ≤ n) (length-set c.loop-j.numbers c.loop-j.j _ ∙ c.loop-j.auto.numbers)
-          c.next_marked-j-in-loop-j.ensures.within,
-      scaled_past over c.args.numbers.now _ (c.loop-j.j + 1) to
-          (scaled_here over c.args.numbers.now c.loop-j.numbers c.loop-j.j _
-          c.loop-j.invariant.1 within
-          (to_z-of_z w64 c.scaled.result result_fits ∙ c.scaled.ensures
-          ∙ (λ i. to_z-of_z w64 n n_fits i *ℤ over)))
+    let end = c.block_end-end.result in
+    let to = c.next_marked-j-in-loop-j.result in
+    let order : c.loop-j.j ≤ end = omega (arith, c.block_end-end.ensures.after) in
+    let scaled : AreScaled over end c.args.numbers.now c.scale_to.new.numbers =
+    scaled_block over c.args.numbers.now c.loop-j.numbers c.scale_to.new.numbers c.loop-j.j end
+    c.loop-j.invariant.1 c.scale_to.ensures order in (
+      subst (λ n. to ≤ n) scaled.long c.next_marked-j-in-loop-j.ensures.within,
+      scaled_past over c.args.numbers.now c.scale_to.new.numbers end to scaled
           c.next_marked-j-in-loop-j.ensures.from
-          (skipped_zero c.args.blocks.now c.args.numbers.now (c.loop-j.j + 1) to
-          c.requires.covers c.next_marked-j-in-loop-j.ensures.unmarked),
+          (skipped_zero c.args.blocks.now c.args.numbers.now end to c.requires.covers
+          c.next_marked-j-in-loop-j.ensures.unmarked),
     )

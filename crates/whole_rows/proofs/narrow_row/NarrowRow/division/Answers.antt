@@ -1,4 +1,4 @@
-use Rattle.std.proofs.Common.{◌≡◌, ◌<◌, ◌^◌, ◌∙◌, ℕ, FitsSigned, ap, arith, pos, refl, rules, slice_index_or, subst, subst₂, sym, unsigned_abs, length, w64}
+use Rattle.std.proofs.Common.{◌≡◌, ◌<◌, ◌^◌, ◌∙◌, ℕ, FitsSigned, ap, arith, pos, rules, slice_index_or, subst, subst₂, sym, unsigned_abs, length, w64}
 use Rattle.std.proofs.lemmas.Int.{to_z-of_z}
 use Rattle.std.specs.Int.{is_negative}
 use Rattle.ratio_core.specs.Rational.{signed}

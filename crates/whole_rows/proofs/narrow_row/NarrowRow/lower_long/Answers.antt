@@ -1,7 +1,8 @@
-use Rattle.std.proofs.Common.{◌∙◌, FitsSigned, ap, length, pos, ◌*ℤ◌, refl, rules, sym, w64}
+use Rattle.std.proofs.Common.{◌∙◌, FitsSigned, ap, length, pos, ◌*ℤ◌, refl, rules, subst, sym, w64}
 use Rattle.std.proofs.lemmas.Int.{to_z-of_z}
 use Rattle.std.proofs.lemmas.List.{with_items_is}
 use Rattle.whole_rows.proofs.DivisionSteps.{side_is_lem}
+use Rattle.whole_rows.specs.Blocks.{Covers}
 use Rattle.whole_rows.proofs.CoverSteps.{long_kept, shrunk_covers}
 use Rattle.whole_rows.proofs.LongSteps.{long_above, long_fits, long_lowered, long_side_exact, long_side_small, long_within}
 use Rattle.whole_rows.proofs.narrow_row.NarrowRow.lower_long.Goals as goal
@@ -63,24 +64,26 @@ returns-clause-lowered c t =
 
 pub invariant_of-self-clause-covers : goal.invariant_of-self-clause-covers
 invariant_of-self-clause-covers c =
-    shrunk_covers c.args.self.now c.args.step.now c.requires.width c.deref_mut.result.now
-    c.deref.result.now c.shrink_numbers.new.numbers _ c.deref_mut-2.result.now
-    c.deref-2.result.now c.join_blocks.new.blocks _ c.deref_mut.ensures.value
-    c.deref.ensures.value
+    shrunk_covers c.args.self.now c.deref_mut.result.now c.deref.result.now
+    c.shrink_numbers.new.numbers _ c.deref_mut-2.result.now c.mark_blocks.new.blocks _
+    c.deref_mut.ensures.value
     (with_items_is c.args.self.now.numbers c.shrink_numbers.new.numbers
     (c.shrink_numbers.auto.numbers ∙ c.deref_mut.ensures.len))
-    c.deref_mut-2.ensures.value c.deref-2.ensures.value c.join_blocks.ensures
-    (with_items_is c.args.self.now.blocks c.join_blocks.new.blocks
-    (c.join_blocks.auto.blocks ∙ c.deref_mut-2.ensures.len))
+    c.deref_mut-2.ensures.value
+    (with_items_is c.args.self.now.blocks c.mark_blocks.new.blocks
+    (c.mark_blocks.auto.blocks ∙ c.deref_mut-2.ensures.len))
+    c.mark_blocks.ensures.kept
+    (subst (Covers c.mark_blocks.new.blocks) (sym c.deref.ensures.value)
+    c.mark_blocks.ensures.covers)
     c.in-Some.plan.over _ c.in-Some.plan.common c.in-Some.ensures.divides.positive
     c.shrink_numbers.ensures
 
 pub invariant_of-self-clause-blocks_long : goal.invariant_of-self-clause-blocks_long
 invariant_of-self-clause-blocks_long c =
     let row = c.args.self.now in
-    long_kept row _ _ (ap length (with_items_is row.blocks c.join_blocks.new.blocks
-    (c.join_blocks.auto.blocks ∙ c.deref_mut-2.ensures.len))
-    ∙ c.join_blocks.auto.blocks ∙ ap length c.deref_mut-2.ensures.value)
+    long_kept row _ _ (ap length (with_items_is row.blocks c.mark_blocks.new.blocks
+    (c.mark_blocks.auto.blocks ∙ c.deref_mut-2.ensures.len))
+    ∙ c.mark_blocks.auto.blocks ∙ ap length c.deref_mut-2.ensures.value)
     (ap length (with_items_is row.numbers c.shrink_numbers.new.numbers
     (c.shrink_numbers.auto.numbers ∙ c.deref_mut.ensures.len))
     ∙ c.shrink_numbers.auto.numbers ∙ ap length c.deref_mut.ensures.value)
