@@ -24,7 +24,7 @@ pub record IsInStep (r : Reader) : Type 0 where
   pub begun : ForSome r.lacking (IsNext r.maps)
   pub uses : All (NamesMap r.maps) r.uses
 
--- a line is right, and leads on; or it is wrong, and what was read stands
+-- a line is right, and leads on; or it is wrong, and what was read is kept
 abbrev pub Moves : Bool → Reader → Reader → Option Progress → Type 0
 Moves true old new after = IsInStep new × (after ≡ Some (progress_of new))
 Moves false old new after = (new.maps ≡ old.maps) × (new.uses ≡ old.uses) × (after ≡ None)

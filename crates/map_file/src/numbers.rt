@@ -9,7 +9,7 @@ use ratio_core::{Ratio, Ratios};
 use script_tokens::Pieces;
 use std::alloc::Global;
 
-// The numbers of a line, with one space between one and the next.
+/// The numbers of a line, with one space between one and the next.
 pub(crate) fn read_numbers(alloc: Global, line: &[u8]) -> Result<Option<Ratios>, Memory>
     ensures { IfOk result (λ numbers. numbers ≡ numbers_in line.now) }
 {

@@ -76,7 +76,7 @@ impl Reader {
         MapFile { maps, uses, wrong }
     }
 
-    /// Reads a line, and tells whether it is right.
+    /// Reads a line, and says whether it is right.
     pub(crate) fn line(&mut self, line: &[u8], number: u32) -> Result<bool, Memory>
         requires { IsInStep self.old }
         ensures { IfOk result (λ right. Moves right self.old self.new

@@ -7,7 +7,7 @@ ghost use Rattle.map_file.specs.Lines.{size_of};
 use script_tokens::is_digits;
 use std::str;
 
-// A dimension: decimal digits, of value from 1 to 64.
+/// A dimension: decimal digits, of value from 1 to 64.
 pub(crate) fn read_size(word: &[u8]) -> Option<usize>
     ensures value { result ≡ size_of word.now }
     ensures some { IfSome result (λ n. 1 ≤ n) }

@@ -4,7 +4,7 @@ ghost use Rattle.map_file.specs.Lines.{map_name_of, unless_empty};
 
 use std::str;
 
-// The name of a map: UTF-8 of one byte or more.
+/// The name of a map: UTF-8 of one byte or more.
 pub(crate) fn map_name(word: &[u8]) -> Option<&str>
     ensures { option_map (λ name. name.now) result ≡ map_name_of word.now }
 {

@@ -2,6 +2,10 @@
 pub mod SeenRow
 pub mod Seen
 pub mod GoodSeen
+pub mod ShowsSeen
 pub mod TakenBack
+pub mod StandLaws
 pub mod TakenBackLaws
+pub mod ShowsSeenLaws
+pub mod UnmappedLaws
 pub mod Law

@@ -15,13 +15,9 @@ use Rattle.mapped_certificates.specs.SeenRow.{SeenRow}
 
 -- ---- rows that stand for others
 
--- the row in its own set
-pub record IsAsItWas (own row : Row) : Type 0 where
-  pub functions : functions_of own.func ≡ functions_of row.func
-  pub set : own.set ≡ row.set
-
--- M f in the cone, where M has an inverse
+-- M f in the cone under the row's name, where M has an inverse
 pub record IsMappedRow (s : MappedSet) (own row : Row) : Type 0 where
+  pub name : own.name ≡ row.name
   pub functions : functions_of own.func ≡ mapped s.matrix (functions_of row.func)
   pub set : own.set ≡ s.cone
   pub cone : is_scalar s.cone ≡ false
@@ -29,8 +25,9 @@ pub record IsMappedRow (s : MappedSet) (own row : Row) : Type 0 where
   pub inverse : AreInverse s.matrix s.inverse
   pub size : length (functions_of row.func) ≡ length s.matrix
 
+-- the row itself, where it isn't mapped
 abbrev pub StandsBy : Option MappedSet → Row → Row → Type 0
-StandsBy None own row = IsAsItWas own row
+StandsBy None own row = own ≡ row
 StandsBy (Some s) own row = IsMappedRow s own row
 
 -- the rows of a model, each of which stands for one that is seen so

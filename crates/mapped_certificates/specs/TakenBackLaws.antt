@@ -8,13 +8,12 @@ use Rattle.rational_laws.specs.Dot.{dot}
 use Rattle.rational_laws.specs.Sums.{sum_by_ℚ, sum_by_ℚ-append}
 use Rattle.aff_core.specs.Address.{Address}
 use Rattle.aff_core.specs.Function.{Function}
-use Rattle.aff_core.specs.FunctionLists.{coefficients, constants, slopes, values}
+use Rattle.aff_core.specs.FunctionLists.{coefficients, constants}
 use Rattle.dual_laws.specs.Held.{adjoint, gap, gap_of}
 use Rattle.set_core.specs.declared.set.Set.{Set}
 use Rattle.set_core.specs.declared.set.Set.TheVariants.{LessThan, GreaterThan, EqualTo, Interval}
-use Rattle.set_core.specs.Membership.{Dual, In, low_of, recession}
+use Rattle.set_core.specs.Membership.{Dual, low_of}
 use Rattle.set_core.specs.Shapes.{is_scalar}
-use Rattle.set_map.specs.CombinationLaws.{slopes-mapped, values-mapped}
 use Rattle.set_map.specs.Combinations.{mapped}
 use Rattle.set_map.specs.MappedSet.{CarriesBack, MappedSet}
 use Rattle.set_map.specs.MappedSetLaws.{carries_back}
@@ -24,12 +23,12 @@ use Rattle.user_model.specs.Model.{ModelValue}
 use Rattle.certificates.specs.declared.certificate.Certificate.{Certificate}
 use Rattle.certificates.specs.declared.certificate.Certificate.TheVariants.{Optimal, Infeasible, Unbounded}
 use Rattle.certificates.specs.Duals.{AreDuals, HasDuals, adjoint_of_rows, dual_gap, dual_value, groups_with, reduced_cost, row_with, rows_with}
-use Rattle.certificates.specs.Feasible.{IsFeasible, IsRay}
 use Rattle.certificates.specs.Good.{Cancels, Good, HasReducedCost}
 use Rattle.certificates.specs.Points.{all_addresses, at_point, functions_of, objective_coefficient, objective_constant, sense_of}
 use Rattle.mapped_certificates.specs.GoodSeen.{CancelsSeen, GoodSeen, HasSeenCost}
-use Rattle.mapped_certificates.specs.Seen.{AreDualsSeen, HasSeenDuals, IsFeasibleSeen, IsRaySeen, adjoint_of_seen, adjoint_seen, gap_of_seen, gap_seen, with_seen}
-use Rattle.mapped_certificates.specs.SeenRow.{DualBy, InBy, InSeen, RecBy, RecSeen, SeenRow, low_by}
+use Rattle.mapped_certificates.specs.Seen.{AreDualsSeen, HasSeenDuals, adjoint_of_seen, adjoint_seen, gap_of_seen, gap_seen, with_seen}
+use Rattle.mapped_certificates.specs.SeenRow.{DualBy, SeenRow, low_by}
+use Rattle.mapped_certificates.specs.StandLaws.{feasible_seen, ray_seen}
 use Rattle.mapped_certificates.specs.TakenBack.{StandFor, StandsBy, all_taken, taken_back, taken_by}
 
 cone_low : (set : Set) (w : List Rational) → is_scalar set ≡ false → low_of set w ≡ zero_ℚ
@@ -48,25 +47,6 @@ module _ (own row : Row) where
   abbrev gs : List Function
   gs = functions_of own.func
 
-  in_seen : (seen : Option MappedSet) → StandsBy seen own row → (x : Address → Rational)
-      → In own.set (values gs x) → InBy row.set seen (values fs x)
-  in_seen None same x h =
-      subst (λ s. In s (values fs x)) same.set
-      (subst (λ hs. In own.set (values hs x)) same.functions h)
-  in_seen (Some s) is x h =
-      subst (λ c. In c (applied s.matrix (values fs x))) is.set
-      (subst (In own.set) (ap (λ hs. values hs x) is.functions ∙ values-mapped s.matrix fs x) h)
-
-  rec_seen : (seen : Option MappedSet) → StandsBy seen own row → (x : Address → Rational)
-      → In (recession own.set) (slopes gs x) → RecBy row.set seen (slopes fs x)
-  rec_seen None same x h =
-      subst (λ s. In (recession s) (slopes fs x)) same.set
-      (subst (λ hs. In (recession own.set) (slopes hs x)) same.functions h)
-  rec_seen (Some s) is x h =
-      subst (λ c. In (recession c) (applied s.matrix (slopes fs x))) is.set
-      (subst (In (recession own.set))
-      (ap (λ hs. slopes hs x) is.functions ∙ slopes-mapped s.matrix fs x) h)
-
   -- what a row's duals, taken back, say of it
   record TakesBack (seen : Option MappedSet) (y : List Rational) : Type 0 where
     size : length (taken_by seen y) ≡ length fs
@@ -80,10 +60,11 @@ module _ (own row : Row) where
   takes_back : (seen : Option MappedSet) → StandsBy seen own row → (y : List Rational)
       → length y ≡ length gs → Dual own.set y → TakesBack seen y
   takes_back None same y e d = record {
-    size = e ∙ ap length same.functions;
-    dual = subst (λ s. Dual s y) same.set d;
-    adjoint = λ v. ap (λ hs. dot y (coefficients hs v)) (sym same.functions);
-    gap = ap₂ (λ s hs. low_of s y -ℚ dot y (constants hs)) (sym same.set) (sym same.functions);
+    size = e ∙ ap (λ (r : Row). length (functions_of r.func)) same;
+    dual = subst (λ (r : Row). Dual r.set y) same d;
+    adjoint = λ v.
+        ap (λ (r : Row). dot y (coefficients (functions_of r.func) v)) (sym same);
+    gap = ap (λ (r : Row). low_of r.set y -ℚ dot y (constants (functions_of r.func))) (sym same);
   }
   takes_back (Some s) is y e d =
       let long : length y ≡ length s.matrix =
@@ -104,32 +85,6 @@ module _ (own row : Row) where
       rows_lem (r ∷ m) = ap (λ k. suc k) (rows_lem m)
 
 -- ---- all rows
-
-module _ (x : Address → Rational) where
-  all_in : (owns : List Row) (rows : List SeenRow) → StandFor owns rows
-      → All (λ r. In r.set (values (functions_of r.func) x)) owns
-      → All (λ r. InSeen r (values (functions_of r.row.func) x)) rows
-  all_in [] [] stand h = All-nil (λ r. InSeen r (values (functions_of r.row.func) x))
-  all_in [] (r ∷ rows) stand h = absurd stand
-  all_in (own ∷ owns) [] stand h = absurd stand
-  all_in (own ∷ owns) (r ∷ rows) stand h =
-      All-cons (λ r. InSeen r (values (functions_of r.row.func) x)) r rows
-      (in_seen own r.row r.seen stand.0 x
-      (All-head (λ r. In r.set (values (functions_of r.func) x)) own owns h))
-      (all_in owns rows stand.1 (All-tail (λ r. In r.set (values (functions_of r.func) x)) own owns h))
-
-  all_along : (owns : List Row) (rows : List SeenRow) → StandFor owns rows
-      → All (λ r. In (recession r.set) (slopes (functions_of r.func) x)) owns
-      → All (λ r. RecSeen r (slopes (functions_of r.row.func) x)) rows
-  all_along [] [] stand h = All-nil (λ r. RecSeen r (slopes (functions_of r.row.func) x))
-  all_along [] (r ∷ rows) stand h = absurd stand
-  all_along (own ∷ owns) [] stand h = absurd stand
-  all_along (own ∷ owns) (r ∷ rows) stand h =
-      All-cons (λ r. RecSeen r (slopes (functions_of r.row.func) x)) r rows
-      (rec_seen own r.row r.seen stand.0 x
-      (All-head (λ r. In (recession r.set) (slopes (functions_of r.func) x)) own owns h))
-      (all_along owns rows stand.1
-      (All-tail (λ r. In (recession r.set) (slopes (functions_of r.func) x)) own owns h))
 
 -- what the duals of rows, taken back, say of them
 record AllTakeBack (owns : List Row) (rows : List SeenRow) (ys : List (List Rational)) : Type 0 where
@@ -172,20 +127,6 @@ all_take_back (own ∷ owns) (r ∷ rows) (y ∷ ys) stand e h =
 -- ---- the three kinds
 
 module _ (model : ModelValue) (rows : List SeenRow) (stand : StandFor model.rows rows) where
-  feasible_seen : (x : List Rational) → IsFeasible model x → IsFeasibleSeen model.groups rows x
-  feasible_seen x h = record {
-    size = h.size;
-    of_groups = h.groups;
-    of_rows = all_in (at_point model x) model.rows rows stand h.rows;
-  }
-
-  ray_seen : (d : List Rational) → IsRay model d → IsRaySeen model.groups rows d
-  ray_seen d h = record {
-    size = h.size;
-    of_groups = h.groups;
-    of_rows = all_along (at_point model d) model.rows rows stand h.rows;
-  }
-
   module _ (ys : List (List Rational)) (vars : List Rational) (duals : AreDuals model ys vars) where
     abbrev of_model : List Rational → Address → Rational
     of_model = at_point model
@@ -204,11 +145,11 @@ module _ (model : ModelValue) (rows : List SeenRow) (stand : StandFor model.rows
           (groups_with (of_model vars) model.groups) duals.duals;
     }
 
-    adjoints_agree : (v : Address)
+    pub adjoints_agree : (v : Address)
         → adjoint_of_rows model ys v ≡ adjoint_seen model.groups rows (all_taken rows ys) v
     adjoints_agree v = sym (back.adjoint v)
 
-    gaps_agree : dual_gap model ys vars ≡ gap_seen model.groups rows (all_taken rows ys) vars
+    pub gaps_agree : dual_gap model ys vars ≡ gap_seen model.groups rows (all_taken rows ys) vars
     gaps_agree =
         sum_by_ℚ-append gap_of (rows_with ys model.rows)
         (groups_with (of_model vars) model.groups)
@@ -218,7 +159,7 @@ module _ (model : ModelValue) (rows : List SeenRow) (stand : StandFor model.rows
   pub good_seen : (c : Certificate) → Good model c
       → GoodSeen model.groups rows model.objective (taken_back rows c)
   good_seen (Optimal value x ys vars) good = record {
-    feasible = feasible_seen x good.feasible;
+    feasible = feasible_seen model rows stand x good.feasible;
     are_duals = duals_seen ys vars good.duals;
     equations = All-weaker (HasReducedCost model ys vars)
         (HasSeenCost model.groups rows model.objective (all_taken rows ys) vars)
@@ -242,7 +183,7 @@ module _ (model : ModelValue) (rows : List SeenRow) (stand : StandFor model.rows
     positive = good.positive;
   }
   good_seen (Unbounded x d) good = record {
-    feasible = feasible_seen x good.feasible;
-    ray = ray_seen d good.ray;
+    feasible = feasible_seen model rows stand x good.feasible;
+    ray = ray_seen model rows stand d good.ray;
     improves = good.improves;
   }

@@ -14,14 +14,14 @@ use Rattle.mapped_certificates.specs.GoodSeen.{Use}
 use Rattle.mapped_model.proofs.Pairs.{map_here, matrix_at}
 use Rattle.mapped_model.proofs.Standing.{IsGoodUse, all_good, stands}
 use Rattle.mapped_model.specs.Answers.{MapsRows}
-use Rattle.mapped_model.specs.Edits.{IsPlan, MakesEdits, Plans, Pushes}
+use Rattle.mapped_model.specs.Edits.{IsPlan, MakesEdits, Plans, Pushes, TellsUnmade}
 use Rattle.mapped_model.specs.Mapping.{AreBefore, AreEditsFor, Exceeds, Fits, FitsMap, IsRefused, Made, Mapped, Maps, MapsBy, edits_by, edits_for, edits_of, is_lone, mapped_by}
 use Rattle.mapped_model.specs.Stands.{StandsFor}
 use Rattle.mapped_model.specs.Tells.{AreRight, TellsMaps, TellsUses}
 use Rattle.mapped_model.specs.Uses.{map_at, matrix_of, used, uses_in, wrong_line, wrong_use}
 use Rattle.mapped_model.specs.declared.fault.MappingFault.{MappingFault}
 use Rattle.mapped_model.specs.declared.fault.MappingFault.TheVariants as fault
-use Rattle.mapped_model.specs.declared.mapping.Plan.{Plan}
+use Rattle.mapped_model.specs.declared.mapping.MappingPlan.{MappingPlan}
 use Rattle.model_load.specs.Loads.{after_edits}
 use Rattle.model_store.specs.Store.{Stored}
 use Rattle.mof_write.specs.Written.{naming}
@@ -224,7 +224,7 @@ module _ (old : Stored) (file : MapFile) where
   pub unused_failed : (reason : MappingFault) → TellsUses old.model file (Err reason)
       → Plans old.model file (Err reason)
   unused_failed (fault.BadMaps line) h = h
-  unused_failed (fault.BadMap place) h = absurd h
+  unused_failed (fault.BadMap name) h = absurd h
   unused_failed (fault.Refused refusal) h = absurd h
   unused_failed (fault.Overflow row) h = absurd h
   unused_failed fault.Memory h = tt
@@ -232,7 +232,7 @@ module _ (old : Stored) (file : MapFile) where
   pub maps_failed : (reason : MappingFault) → wrong_line old.model file ≡ None
       → TellsMaps file.maps (Err reason) → Plans old.model file (Err reason)
   maps_failed (fault.BadMaps line) none h = absurd h
-  maps_failed (fault.BadMap place) none h = (none, h)
+  maps_failed (fault.BadMap name) none h = (none, h)
   maps_failed (fault.Refused refusal) none h = absurd h
   maps_failed (fault.Overflow row) none h = absurd h
   maps_failed fault.Memory none h = tt
@@ -240,7 +240,7 @@ module _ (old : Stored) (file : MapFile) where
   pub unplanned : (reason : MappingFault) (new : Stored) → Plans old.model file (Err reason)
       → MapsRows old file (Err reason) new
   unplanned (fault.BadMaps line) new h = h
-  unplanned (fault.BadMap place) new h = h
+  unplanned (fault.BadMap name) new h = h
   unplanned (fault.Refused refusal) new h = (
     h.0,
     subst (λ b. MapsBy b old.model (uses_in old.model file) (IsRefused refusal))
@@ -249,7 +249,7 @@ module _ (old : Stored) (file : MapFile) where
   unplanned (fault.Overflow row) new h = absurd h
   unplanned fault.Memory new h = tt
 
-  module _ (plan : Plan) (is : IsPlan old.model file plan) where
+  module _ (plan : MappingPlan) (is : IsPlan old.model file plan) where
     maps_each : (what : Mapped)
         → what ≡ mapped_by plan.edits.exceeds (after_edits old.model plan.edits.edits.items)
         → Maps old.model (uses_in old.model file) what
@@ -266,7 +266,7 @@ module _ (old : Stored) (file : MapFile) where
         → MakesEdits old plan.edits.edits.items (Err reason) between
         → MapsRows old file (Err reason) new
     unmade (fault.BadMaps line) between new h = absurd h
-    unmade (fault.BadMap place) between new h = absurd h
+    unmade (fault.BadMap name) between new h = absurd h
     unmade (fault.Refused refusal) between new h = (
       is.right,
       maps_each (IsRefused refusal) (refused_by plan.edits.exceeds refusal
@@ -275,19 +275,28 @@ module _ (old : Stored) (file : MapFile) where
     unmade (fault.Overflow row) between new h = absurd h
     unmade fault.Memory between new h = tt
 
-    pub exceeded : (row : List ℕ) (new : Stored)
-        → MakesEdits old plan.edits.edits.items (Ok tt) new → plan.edits.exceeds ≡ Some row
-        → MapsRows old file (Err (fault.Overflow row)) new
-    exceeded row new h some = (
+    pub exceeded : (row : List ℕ) (reason : MappingFault) (new : Stored)
+        → TellsUnmade old.model plan.edits.edits.items row reason → plan.edits.exceeds ≡ Some row
+        → MapsRows old file (Err reason) new
+    exceeded row (fault.BadMaps line) new h some = absurd h
+    exceeded row (fault.BadMap name) new h some = absurd h
+    exceeded row (fault.Refused refusal) new h some = (
       is.right,
-      maps_each (Exceeds row) (ap₂ mapped_by (sym some) (sym h.0)),
+      maps_each (IsRefused refusal) (refused_by plan.edits.exceeds refusal
+          ∙ ap (mapped_by plan.edits.exceeds) (sym h)),
     )
-
-    pub made : (new : Stored) → MakesEdits old plan.edits.edits.items (Ok tt) new
-        → plan.edits.exceeds ≡ None → MapsRows old file (Ok plan.maps.items) new
-    made new h none = (
+    exceeded row (fault.Overflow name) new h some = (
       is.right,
-      is.maps,
+      maps_each (Exceeds name) (ap Exceeds h.1 ∙ ap₂ mapped_by (sym some) (sym h.0.1)),
+    )
+    exceeded row fault.Memory new h some = tt
+
+    pub made : (mapped : MapFile) (new : Stored)
+        → MakesEdits old plan.edits.edits.items (Ok tt) new → plan.edits.exceeds ≡ None
+        → mapped ≡ file → MapsRows old file (Ok mapped) new
+    made mapped new h none same = (
+      is.right,
+      same,
       maps_each (Made new.model) (ap₂ mapped_by (sym none) (sym h.0)),
       h.1,
     )

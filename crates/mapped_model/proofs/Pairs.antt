@@ -1,5 +1,5 @@
 -- The matrices of a map that has all its lines, and those of a list of maps.
-use Rattle.std.specs.Prelude.{◌≡◌, ℕ, ◌+◌, ◌<◌, ◌≤◌, zero, suc, List, [], ◌∷◌, ◌++◌, All, Some, length, map, take, refl}
+use Rattle.std.specs.Prelude.{◌≡◌, ℕ, ◌+◌, ◌<◌, ◌≤◌, zero, suc, List, [], ◌∷◌, ◌++◌, All, Some, Err, length, map, take, refl}
 use Rattle.std.proofs.Common.{ap, arith, get_or, subst, sym, ◌∙◌}
 use Rattle.std.proofs.lemmas.List.{length-drop, length-map, length-take, take_all, take_more}
 use Rattle.std.proofs.lemmas.List.Elements.{All-drop, All-push, All-take}
@@ -8,7 +8,10 @@ use Rattle.map_laws.specs.LoopLaws.{map-take_more}
 use Rattle.map_file.specs.declared.map_text.MapText.{MapText}
 use Rattle.map_file.specs.declared.use_text.UseText.{UseText}
 use Rattle.map_file.specs.Shaped.{IsWhole, NamesMap}
-use Rattle.mapped_model.specs.Uses.{IsFirstBad, IsMap, inverse_of, map_at, matrix_of}
+use Rattle.mapped_model.specs.Tells.{TellsBad, TellsMap, TellsMaps}
+use Rattle.mapped_model.specs.Uses.{IsMap, inverse_of, map_at, matrix_of}
+use Rattle.mapped_model.specs.declared.fault.MappingFault.{MappingFault}
+use Rattle.mapped_model.specs.declared.fault.MappingFault.TheVariants as fault
 use Rattle.set_map.specs.Fitting.{ProductsFit}
 use Rattle.set_map.specs.Matrices.{AreInverse, ArePair, Matrix}
 
@@ -63,14 +66,23 @@ module _ (maps : List MapText) where
     h.same ∙ ap (map matrix_of) (take_all i maps le),
   )
 
-  pub first_bad : (i : ℕ) (matrices : List Matrix) (m : MapText) → AreRead i matrices
-      → m ≡ get_or maps i m → i < length maps → ¬ (IsMap m) → IsFirstBad maps i
-  first_bad i matrices m h at lt none = record {
-    bad = m;
-    here = slice_get-get_or maps i m lt ∙ ap Some (sym at);
-    none = none;
-    before = h.right;
-  }
+  pub map_failed : (i : ℕ) (matrices : List Matrix) (m : MapText) (reason : MappingFault)
+      → AreRead i matrices → m ≡ get_or maps i m → i < length maps → TellsMap m (Err reason)
+      → TellsMaps maps (Err reason)
+  map_failed i matrices m (fault.BadMaps line) h at lt tells = absurd tells
+  map_failed i matrices m (fault.BadMap name) h at lt tells = (
+    m,
+    record {
+      place = i;
+      here = slice_get-get_or maps i m lt ∙ ap Some (sym at);
+      none = tells.0;
+      before = h.right;
+    },
+    tells.1,
+  )
+  map_failed i matrices m (fault.Refused refusal) h at lt tells = absurd tells
+  map_failed i matrices m (fault.Overflow row) h at lt tells = absurd tells
+  map_failed i matrices m fault.Memory h at lt tells = tt
 
 -- ---- the matrix at a place
 
@@ -108,6 +120,15 @@ module _ (m : MapText) (a b : Matrix) (is : a ≡ matrix_of m) (inverse : b ≡ 
   not_fit not map =
       not (subst (λ c. ProductsFit c b) (sym is)
       (subst (ProductsFit (matrix_of m)) (sym inverse) map.fits))
+
+-- a map that isn't one is reported
+pub told_bad : (m : MapText) (reason : MappingFault) → ¬ (IsMap m) → TellsBad m reason
+    → TellsMap m (Err reason)
+told_bad m (fault.BadMaps line) not tells = absurd tells
+told_bad m (fault.BadMap name) not tells = (not, tells)
+told_bad m (fault.Refused refusal) not tells = absurd tells
+told_bad m (fault.Overflow row) not tells = absurd tells
+told_bad m fault.Memory not tells = tt
 
 -- the map of a use is there
 pub map_there : (maps : List MapText) (matrices : List Matrix) (uses : List UseText) (i : ℕ)

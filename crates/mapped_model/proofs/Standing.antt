@@ -149,7 +149,7 @@ stand_beside : (rows : List Row) (owns : List Row) (uses : List Use)
     ++ map (λ u. record { row = u.row; seen = Some u.set }) uses)
 stand_beside [] owns uses h = h
 stand_beside (r ∷ rows) owns uses h =
-    (record { functions = refl; set = refl }, stand_beside rows owns uses h)
+    (refl, stand_beside rows owns uses h)
 
 -- ---- one use
 
@@ -285,6 +285,7 @@ module _ (model : ModelValue) (valid : IsValid model) (maps : List MapText)
 
     mapped_now : IsMappedRow (used model maps u).set own row
     mapped_now = record {
+      name = refl;
       functions = ap functions_of again;
       set = refl;
       cone = (passed (edited m delete) add two.accepted).shaped;

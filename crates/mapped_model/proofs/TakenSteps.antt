@@ -122,7 +122,7 @@ module _ (maps : List MapText) (uses : List UseText) (ys : List (List Rational))
     pub each_failed : (reason : MappingFault) → TellsDual matrix u.row y (Err reason)
         → TellsEach maps uses ys before (Err reason)
     each_failed (fault.BadMaps line) tells = absurd tells
-    each_failed (fault.BadMap place) tells = absurd tells
+    each_failed (fault.BadMap map) tells = absurd tells
     each_failed (fault.Refused refusal) tells = absurd tells
     each_failed (fault.Overflow name) tells =
         subst (λ n. TakesEach maps uses ys (Some n)) (sym tells.1)

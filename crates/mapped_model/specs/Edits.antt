@@ -1,13 +1,13 @@
 -- What the steps to the model with the mapped rows answer.
-use Rattle.std.specs.Prelude.{◌≡◌, ◌++◌, Bool, true, false, List, Option, Some, None, Result, Ok, Err, map}
+use Rattle.std.specs.Prelude.{◌≡◌, ◌++◌, ℕ, Bool, true, false, List, Option, Some, None, Result, Ok, Err, map}
 use Rattle.std.specs.List.{list_any}
 use Rattle.map_file.specs.declared.file.MapFile.{MapFile}
 use Rattle.mapped_model.specs.Mapping.{AreEditsFor, FitsMap, is_lone, mapped_functions}
 use Rattle.mapped_model.specs.Tells.{AreRight}
-use Rattle.mapped_model.specs.Uses.{IsFirstBad, matrix_of, uses_in, wrong_line}
+use Rattle.mapped_model.specs.Uses.{NamesBad, matrix_of, uses_in, wrong_line}
 use Rattle.mapped_model.specs.declared.fault.MappingFault.{MappingFault}
 use Rattle.mapped_model.specs.declared.fault.MappingFault.TheVariants as fault
-use Rattle.mapped_model.specs.declared.mapping.Plan.{Plan}
+use Rattle.mapped_model.specs.declared.mapping.MappingPlan.{MappingPlan}
 use Rattle.model_load.specs.Loads.{after_edits}
 use Rattle.model_store.specs.Store.{Stored}
 use Rattle.set_map.specs.Matrices.{Matrix}
@@ -31,18 +31,18 @@ Pushes true matrix row before more after = FitsMap matrix row × (after ≡ befo
 Pushes false matrix row before more after = (¬ (FitsMap matrix row)) × (after ≡ before)
 
 -- what is to be done to the model with its maps
-pub record IsPlan (model : ModelValue) (file : MapFile) (plan : Plan) : Type 0 where
+pub record IsPlan (model : ModelValue) (file : MapFile) (plan : MappingPlan) : Type 0 where
   pub valid : IsValid model
   pub right : AreRight model file
   pub many : list_any (λ u. is_lone u.set) file.uses ≡ false
   pub maps : plan.maps.items ≡ map matrix_of file.maps
   pub edits : AreEditsFor model (uses_in model file) plan.edits.edits.items plan.edits.exceeds
 
-abbrev pub Plans : ModelValue → MapFile → Result Plan MappingFault → Type 0
+abbrev pub Plans : ModelValue → MapFile → Result MappingPlan MappingFault → Type 0
 Plans model file (Ok plan) = IsPlan model file plan
 Plans model file (Err (fault.BadMaps line)) = wrong_line model file ≡ Some line
-Plans model file (Err (fault.BadMap place)) =
-    (wrong_line model file ≡ None) × IsFirstBad file.maps place
+Plans model file (Err (fault.BadMap name)) =
+    (wrong_line model file ≡ None) × NamesBad file.maps name
 Plans model file (Err (fault.Refused refusal)) =
     AreRight model file × (list_any (λ u. is_lone u.set) file.uses ≡ true)
     × (refusal ≡ BadDimension)
@@ -56,3 +56,12 @@ MakesEdits old edits (Ok done) new =
 MakesEdits old edits (Err (fault.Refused refusal)) new = after_edits old.model edits ≡ Err refusal
 MakesEdits old edits (Err fault.Memory) new = Unit {0}
 MakesEdits old edits (Err other) new = ⊥
+
+-- why edits before a row whose numbers exceed 128 bits aren't made: the first that is refused, or else
+-- that row
+abbrev pub TellsUnmade : ModelValue → List Edit → List ℕ → MappingFault → Type 0
+TellsUnmade model edits row (fault.Refused refusal) = after_edits model edits ≡ Err refusal
+TellsUnmade model edits row (fault.Overflow name) =
+    ((new : ModelValue) × (after_edits model edits ≡ Ok new)) × (name ≡ row)
+TellsUnmade model edits row fault.Memory = Unit {0}
+TellsUnmade model edits row other = ⊥

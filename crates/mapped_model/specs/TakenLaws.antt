@@ -1,5 +1,5 @@
 -- A good certificate of the model with the mapped rows, with the duals of the uses taken back, is good for
--- the rows as they are seen.
+-- the rows as they are seen, and shows what it says.
 use Rattle.std.specs.Prelude.{◌≡◌, suc, ◌+◌, ◌-◌, List, [], ◌∷◌, ◌++◌, Some, None, All, drop, filter, length, map, not, take, refl}
 use Rattle.std.proofs.Common.{ap, ap₂, arith, subst, ◌∙◌}
 use Rattle.std.proofs.lemmas.List.{length-append, length-map}
@@ -15,6 +15,8 @@ use Rattle.map_file.specs.declared.map_text.MapText.{MapText}
 use Rattle.map_file.specs.declared.use_text.UseText.{UseText}
 use Rattle.mapped_certificates.specs.GoodSeen.{GoodMapped, GoodSeen, Use, is_used, rows_seen}
 use Rattle.mapped_certificates.specs.SeenRow.{SeenRow}
+use Rattle.mapped_certificates.specs.ShowsSeen.{ShowsMapped, ShowsSeen}
+use Rattle.mapped_certificates.specs.ShowsSeenLaws.{good_shows_seen}
 use Rattle.mapped_certificates.specs.TakenBack.{StandFor, all_taken, taken_back}
 use Rattle.mapped_certificates.specs.TakenBackLaws.{good_seen}
 use Rattle.mapped_model.specs.Stands.{StandsFor}
@@ -23,6 +25,7 @@ use Rattle.mapped_model.specs.Uses.{used, uses_in}
 use Rattle.ratio_core.specs.Rational.{Rational}
 use Rattle.user_model.specs.declared.row.Row.{Row}
 use Rattle.user_model.specs.Model.{ModelValue}
+use Rattle.user_model.specs.Valid.{IsValid}
 
 abbrev by_themselves : List Row → List SeenRow
 by_themselves rows = map (λ r. record { row = r; seen = None }) rows
@@ -89,12 +92,15 @@ module _ (model : ModelValue) (maps : List MapText) where
 
 module _ (model : ModelValue) (file : MapFile) (new : ModelValue)
     (stands : StandsFor model (uses_in model file) new) where
+  abbrev as_seen : List SeenRow
+  as_seen = rows_seen model.rows (uses_in model file)
+
   abbrev rest : List Row
   rest = filter (λ r. not (is_used (uses_in model file) r)) model.rows
 
   count : length new.rows ≡ length rest + length file.uses
   count =
-      stand_length new.rows (rows_seen model.rows (uses_in model file)) stands.rows
+      stand_length new.rows as_seen stands.rows
       ∙ length-append (by_themselves rest) (as_used (uses_in model file))
       ∙ ap₂ ◌+◌ (length-map rest _)
       (length-map (uses_in model file) _ ∙ length-map file.uses (used model file.maps))
@@ -116,7 +122,7 @@ module _ (model : ModelValue) (file : MapFile) (new : ModelValue)
           (groups_with (at_point new vars) new.groups) duals.duals));
     }
 
-    same : all_taken (rows_seen model.rows (uses_in model file)) ys ≡ taken_in file ys
+    same : all_taken as_seen ys ≡ taken_in file ys
     same =
         taken_behind model file.maps rest file.uses ys many
         ∙ ap (λ n. take n ys ++ taken_each file.maps file.uses (drop n ys)) at
@@ -127,7 +133,7 @@ module _ (model : ModelValue) (file : MapFile) (new : ModelValue)
   has_duals_for (Unbounded x d) good = tt
 
   taken_so : (c : Certificate) → Good new c
-      → taken_back (rows_seen model.rows (uses_in model file)) c ≡ taken_from file c
+      → taken_back as_seen c ≡ taken_from file c
   taken_so (Optimal value x ys vars) good =
       ap (λ zs. Optimal value x zs vars) (same ys vars good.duals)
   taken_so (Infeasible gap ys vars) good =
@@ -138,8 +144,14 @@ module _ (model : ModelValue) (file : MapFile) (new : ModelValue)
       → GoodMapped model (uses_in model file) (taken_from file c)
   good_mapped c good =
       subst (GoodMapped model (uses_in model file)) (taken_so c good)
-      (subst (λ gs. GoodSeen gs (rows_seen model.rows (uses_in model file)) model.objective
-      (taken_back (rows_seen model.rows (uses_in model file)) c)) stands.groups
-      (subst (λ o. GoodSeen new.groups (rows_seen model.rows (uses_in model file)) o
-      (taken_back (rows_seen model.rows (uses_in model file)) c)) stands.objective
-      (good_seen new (rows_seen model.rows (uses_in model file)) stands.rows c good)))
+      (subst (λ gs. GoodSeen gs as_seen model.objective (taken_back as_seen c)) stands.groups
+      (subst (λ o. GoodSeen new.groups as_seen o (taken_back as_seen c)) stands.objective
+      (good_seen new as_seen stands.rows c good)))
+
+  pub good_shows : IsValid new → (c : Certificate) → GoodMapped model (uses_in model file) c
+      → ShowsMapped model (uses_in model file) c
+  good_shows valid c =
+      subst (λ gs. GoodSeen gs as_seen model.objective c → ShowsSeen gs as_seen model.objective c)
+      stands.groups
+      (subst (λ o. GoodSeen new.groups as_seen o c → ShowsSeen new.groups as_seen o c) stands.objective
+      (good_shows_seen new as_seen stands.rows valid c))

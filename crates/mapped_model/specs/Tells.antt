@@ -5,7 +5,7 @@ use Rattle.certificates.specs.declared.certificate.Certificate.TheVariants.{Infe
 use Rattle.map_file.specs.declared.file.MapFile.{MapFile}
 use Rattle.map_file.specs.declared.map_text.MapText.{MapText}
 use Rattle.map_file.specs.declared.use_text.UseText.{UseText}
-use Rattle.mapped_model.specs.Uses.{IsFirstBad, IsMap, map_at, matrix_of, uses_in, wrong_line}
+use Rattle.mapped_model.specs.Uses.{IsMap, NamesBad, map_at, matrix_of, uses_in, wrong_line}
 use Rattle.mapped_model.specs.declared.fault.MappingFault.{MappingFault}
 use Rattle.mapped_model.specs.declared.fault.MappingFault.TheVariants as fault
 use Rattle.ratio_core.specs.Rational.{Rational}
@@ -22,14 +22,26 @@ TellsUses model file (Err (fault.BadMaps line)) = wrong_line model file ≡ Some
 TellsUses model file (Err fault.Memory) = Unit {0}
 TellsUses model file (Err other) = ⊥
 
--- the matrices, or the first map that is none
+-- the matrix of a map, or that it is bad
+abbrev pub TellsBad : MapText → MappingFault → Type 0
+TellsBad m (fault.BadMap name) = name ≡ m.name
+TellsBad m fault.Memory = Unit {0}
+TellsBad m other = ⊥
+
+abbrev pub TellsMap : MapText → Result Matrix MappingFault → Type 0
+TellsMap m (Ok matrix) = IsMap m × (matrix ≡ matrix_of m)
+TellsMap m (Err (fault.BadMap name)) = (¬ (IsMap m)) × (name ≡ m.name)
+TellsMap m (Err fault.Memory) = Unit {0}
+TellsMap m (Err other) = ⊥
+
+-- the matrices, or the first bad map
 abbrev pub TellsMaps : List MapText → Result (List Matrix) MappingFault → Type 0
 TellsMaps maps (Ok matrices) = All IsMap maps × (matrices ≡ map matrix_of maps)
-TellsMaps maps (Err (fault.BadMap place)) = IsFirstBad maps place
+TellsMaps maps (Err (fault.BadMap name)) = NamesBad maps name
 TellsMaps maps (Err fault.Memory) = Unit {0}
 TellsMaps maps (Err other) = ⊥
 
--- no line is wrong, and no map is none
+-- no line is wrong, and no map is bad
 pub record AreRight (model : ModelValue) (file : MapFile) : Type 0 where
   pub lines : wrong_line model file ≡ None
   pub maps : All IsMap file.maps

@@ -1,8 +1,8 @@
 -- The rows that a file of maps uses, each with the set that it is to be in; the file's first wrong line,
--- and its first map that is none.
+-- and its first map whose matrices aren't inverse to each other or whose products exceed 128 bits.
 --
 --     uses_in model file       the uses, in their order
---     wrong_line model file    a use's, or else that of the wrong form: it stands behind all uses
+--     wrong_line model file    a use's, or else that of the wrong form, which comes after all uses
 use Rattle.std.specs.Prelude.{◌≡◌, ℕ, Bool, false, not, List, [], ◌∷◌, Option, Some, None, All, bytes_eq, drop, filter, find, length, map, slice_get, slice_index_or, take, unwrap_or, ◌==◌, if◌then◌else◌}
 use Rattle.std.specs.Option.{option_map_or, option_or}
 use Rattle.map_file.specs.declared.file.MapFile.{MapFile}
@@ -38,16 +38,20 @@ pub record IsMap (m : MapText) : Type 0 where
   pub inverse : AreInverse (matrix_of m) (inverse_of m)
   pub fits : ProductsFit (matrix_of m) (inverse_of m)
 
--- the first map that is none
-pub record IsFirstBad (maps : List MapText) (place : ℕ) : Type 0 where
-  pub bad : MapText
+-- the first map whose matrices aren't inverse to each other, or whose products exceed 128 bits
+pub record IsFirstBad (maps : List MapText) (bad : MapText) : Type 0 where
+  pub place : ℕ
   pub here : slice_get maps place ≡ Some bad
   pub none : ¬ (IsMap bad)
   pub before : All IsMap (take place maps)
 
+-- its name
+abbrev pub NamesBad : List MapText → List ℕ → Type 0
+NamesBad maps name = (bad : MapText) × IsFirstBad maps bad × (name ≡ bad.name)
+
 -- ---- uses
 
--- what stands for a row that isn't there
+-- in place of a row that isn't there
 abbrev pub no_row : Row
 no_row = record { id = 0; name = []; func = AffineVec []; set = Reals 0 }
 

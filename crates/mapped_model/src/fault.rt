@@ -3,7 +3,7 @@ ghost use Rattle.std.specs.Prelude.{◌≡◌};
 ghost use Rattle.mapped_model.specs.declared.fault.MappingFault.TheVariants as fault;
 
 use lists::Memory;
-use name_index::Name;
+use name_index::{Name, Text};
 use std::alloc::AllocError;
 use thiserror::Error;
 use user_model::Refusal;
@@ -14,9 +14,10 @@ pub enum MappingFault {
     /// 25: this line of the maps, counted from 1, is the first wrong one.
     #[error("a line of the maps is wrong")]
     BadMaps { line: u32 },
-    /// 24: the map at this place is the first that is none.
+    /// 24: the map of this name is the first whose matrices are not inverse to each other, or whose
+    /// products exceed 128 bits.
     #[error("the matrices of a map are not inverse to each other")]
-    BadMap { place: usize },
+    BadMap { map: Text },
     /// 5 or 12: the model with a mapped row is refused.
     #[error("a mapped row is refused")]
     Refused(Refusal),

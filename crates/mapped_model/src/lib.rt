@@ -11,4 +11,4 @@ mod used;
 
 pub use fault::MappingFault;
 pub use mapping::map_rows;
-pub use taking::take_back;
+pub use taking::MappedRows;

@@ -1,12 +1,12 @@
 //! The maps of a file.
 ghost use Rattle.std.specs.Prelude.{◌≡◌, ◌++◌, ◌∷◌, [], OnOk};
 ghost use Rattle.std.specs.Result.{result_map_both};
-ghost use Rattle.map_file.specs.Shaped.{IsShaped};
-ghost use Rattle.mapped_model.specs.Tells.{TellsMaps};
+ghost use Rattle.map_file.specs.Shaped.{IsShaped, IsWhole};
+ghost use Rattle.mapped_model.specs.Tells.{TellsBad, TellsMap, TellsMaps};
 
 use crate::fault::MappingFault;
-use lists::Memory;
-use map_file::MapFile;
+use lists::{Duplicate, Memory};
+use map_file::{MapFile, MapText};
 use set_map::{MapFault, SetMap};
 use std::alloc::Global;
 
@@ -17,15 +17,34 @@ pub(crate) fn set_maps(alloc: Global, file: &MapFile) -> Result<Vec<SetMap>, Map
     ensures { TellsMaps file.now.maps (result_map_both (λ maps. maps.items) (λ e. e) result) }
 {
     let mut maps = Vec::with_capacity(alloc, file.maps.len())?;
-    for (place, map) in file.maps.as_slice().iter().enumerate() {
-        match SetMap::read(alloc, map.matrix(), map.inverse()) {
+    for text in file.maps.as_slice() {
+        match map_of(alloc, text) {
             Ok(map) => push_map(&mut maps, map)?,
-            Err(MapFault::NotInverse) => return Err(MappingFault::BadMap { place }),
-            Err(MapFault::Overflow) => return Err(MappingFault::BadMap { place }),
-            Err(MapFault::Memory) => return Err(MappingFault::Memory),
+            Err(fault) => return Err(fault),
         }
     }
     Ok(maps)
+}
+
+fn map_of(alloc: Global, text: &MapText) -> Result<SetMap, MappingFault>
+    requires { IsWhole text.now }
+    ensures { TellsMap text.now result }
+{
+    match SetMap::read(alloc, text.matrix(), text.inverse()) {
+        Ok(map) => Ok(map),
+        Err(MapFault::NotInverse) => Err(bad_map(text)),
+        Err(MapFault::Overflow) => Err(bad_map(text)),
+        Err(MapFault::Memory) => Err(MappingFault::Memory),
+    }
+}
+
+fn bad_map(text: &MapText) -> MappingFault
+    ensures { TellsBad text.now result }
+{
+    match text.name.copy() {
+        Ok(map) => MappingFault::BadMap { map },
+        Err(_) => MappingFault::Memory,
+    }
 }
 
 fn push_map(maps: &mut Vec<SetMap>, map: SetMap) -> Result<(), Memory>

@@ -1,4 +1,4 @@
-//! A certificate with the mapped rows' duals taken back.
+//! Mapped rows, and certificates with their duals taken back.
 ghost use Rattle.std.specs.Prelude.{◌≡◌, ◌<◌, ◌++◌, ◌∷◌, [], OnOk, length, map, slice_index_or};
 ghost use Rattle.std.specs.Result.{result_map_both};
 ghost use Rattle.map_file.specs.Shaped.{IsShaped};
@@ -12,10 +12,48 @@ use lists::{Duplicate, Memory, Sequence};
 use map_file::{MapFile, UseText};
 use ratio_core::{NumberFault, Ratios};
 use set_map::SetMap;
+use std::marker::Model;
 
-/// The certificate with the duals of the last rows, which are the mapped ones in the order of the uses,
-/// taken back through their maps.
-pub fn take_back(
+/// The rows of a model that a file of maps uses, mapped. Contracts see them as the file.
+#[derive(Drop)]
+pub struct MappedRows {
+    maps: Vec<SetMap>,
+    file: MapFile,
+}
+
+impl Model for MappedRows {
+    ghost use Rattle.map_file.specs.declared.file.MapFile.{MapFile};
+    ghost use Rattle.mapped_model.specs.Kept.{AreMapsOf};
+
+    ghost Value = { MapFile };
+
+    ghost view = { λ rows. rows.file };
+
+    ghost invariant = { λ rows. AreMapsOf rows.maps.items rows.file };
+}
+
+impl MappedRows {
+    /// The rows of a file whose maps were read.
+    pub(crate) fn of_file(maps: Vec<SetMap>, file: MapFile) -> MappedRows
+        requires shaped { IsShaped file }
+        requires maps { maps.items ≡ map matrix_of file.maps }
+        ensures { result ≡ file }
+    {
+        MappedRows { maps, file }
+    }
+
+    /// A certificate of the model with the mapped rows, which are its last ones in the order of the
+    /// uses, with the duals of these taken back through their maps. `Overflow` reports the row of the
+    /// first whose duals then exceed 128 bits.
+    pub fn take_back(&self, certificate: Certificate) -> Result<Certificate, MappingFault>
+        requires { HasDualsFor self.now certificate }
+        ensures { TellsBack self.now certificate result }
+    {
+        certificate_back(certificate, &self.maps, &self.file)
+    }
+}
+
+fn certificate_back(
     certificate: Certificate,
     maps: &[SetMap],
     file: &MapFile,

@@ -17,7 +17,7 @@ use set_core::Set;
 use std::alloc::Global;
 use user_model::{Row, Rows, UserFunc};
 
-/// The rows that the uses name, in their order. `BadMaps` tells the first wrong line of the file:
+/// The rows that the uses name, in their order. `BadMaps` reports the first wrong line of the file:
 /// where a use names a row that isn't there, isn't a vector affine one in Reals, has another dimension
 /// than its map, or is named by an earlier use; or where the file's form is wrong.
 pub(crate) fn used_rows<'a>(

@@ -2,9 +2,11 @@
 --     InMapped s v       M v is in the cone
 --     RecMapped s v      M v is in the cone's recession set
 --     DualMapped s w     the transpose of N times w is in the cone's dual
--- The least product of a dual with the set's vectors is 0.
+--     WeighsMapped s w   w has no negative product with a vector of the set
+-- For a cone of vectors the last two say the same (MappedSetLaws), and the least product of a dual with
+-- the set's vectors is 0.
 use Rattle.std.specs.Prelude.{◌≡◌, List, length}
-use Rattle.ratio_core.specs.Rational.{Rational}
+use Rattle.ratio_core.specs.Rational.{Rational, zero_ℚ, ◌≤ℚ◌}
 use Rattle.rational_laws.specs.Dot.{dot}
 use Rattle.aff_core.specs.Address.{Address}
 use Rattle.aff_core.specs.Function.{Function}
@@ -30,6 +32,10 @@ RecMapped s v = In (recession s.cone) (applied s.matrix v)
 
 abbrev pub DualMapped : MappedSet → List Rational → Type 0
 DualMapped s w = Dual s.cone (applied (transposed s.inverse) w)
+
+abbrev pub WeighsMapped : MappedSet → List Rational → Type 0
+WeighsMapped s w =
+    (v : List Rational) → length v ≡ length w → InMapped s v → zero_ℚ ≤ℚ dot w v
 
 -- the adjoint law: duals y of the mapped functions give duals w of the functions. Weighed by them, both
 -- come to one function, and if y is in the cone's dual, then w is in the dual of the mapped set.

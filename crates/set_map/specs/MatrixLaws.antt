@@ -148,7 +148,12 @@ weigh_alike (suc n) (p ∷ v) (q ∷ w) e k alike =
     tails u d =
         sym (dot_behind p v u) ∙ alike (zero_ℚ ∷ u) (ap suc d) ∙ dot_behind q w u
 
--- ---- the transpose of the inverse undoes the transpose
+-- ---- a matrix undoes its inverse, and the transpose of the inverse the transpose
+
+pub undoes : (n : ℕ) (m inverse : Matrix) (u : List Rational) → IsSquare n m → IsSquare n inverse
+    → product m inverse ≡ unit n → length u ≡ n → applied m (applied inverse u) ≡ u
+undoes n m inverse u s t is e =
+    applied-product n m inverse u s t ∙ ap (λ p. applied p u) is ∙ applied-unit n u e
 
 pub undone : (n : ℕ) (m inverse : Matrix) (y : List Rational) → IsSquare n m → IsSquare n inverse
     → product m inverse ≡ unit n → length y ≡ n
@@ -159,8 +164,7 @@ undone n m inverse y s t is e =
     (λ u d.
     transpose_adjoint n inverse w u t long
     ∙ transpose_adjoint n m y (applied inverse u) s e
-    ∙ ap (dot y) (applied-product n m inverse u s t ∙ ap (λ p. applied p u) is
-    ∙ applied-unit n u d))
+    ∙ ap (dot y) (undoes n m inverse u s t is d))
   where
     w : List Rational
     w = applied (transposed m) y

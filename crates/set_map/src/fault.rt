@@ -11,13 +11,13 @@ use thiserror::Error;
 /// Why two matrices make no map.
 #[derive(Clone, Copy, Debug, PartialEq, Eq, Error)]
 pub enum MapFault {
-    /// 1: their products are not both the unit matrix.
+    /// Their products are not both the unit matrix.
     #[error("the matrices are not inverse to each other")]
     NotInverse,
-    /// 2: an entry of a product exceeds 128 bits on the way.
+    /// An entry of a product exceeds 128 bits on the way.
     #[error("a product of the matrices exceeds 128 bits")]
     Overflow,
-    /// 3: memory ran out.
+    /// Memory ran out.
     #[error("{}", Memory)]
     Memory,
 }

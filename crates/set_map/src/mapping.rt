@@ -42,7 +42,7 @@ impl Model for SetMap {
 }
 
 impl SetMap {
-    /// The map of a matrix, whose inverse stands beside it. Both products are worked out whole:
+    /// The map of a matrix, which is given with its inverse. Both products are worked out whole:
     /// `Overflow` exactly where a sum for an entry, from the left, exceeds 128 bits, and
     /// `NotInverse` exactly where none does and a product isn't the unit matrix.
     pub fn read(alloc: Global, rows: &[Ratios], inverse: &[Ratios]) -> Result<SetMap, MapFault>
@@ -56,13 +56,6 @@ impl SetMap {
         let columns = Sequence::from_vec(transposed(alloc, rows)?);
         let rows = copied(alloc, rows)?;
         Ok(SetMap { rows, columns })
-    }
-
-    /// The number of rows, which is that of columns.
-    pub fn dimension(&self) -> usize
-        ensures { result ≡ length self.now }
-    {
-        self.rows.len()
     }
 
     /// The matrix times a vector function. `Overflow` exactly where a product, or a sum from the

@@ -1,5 +1,5 @@
 -- What is answered to the model with the mapped rows.
-use Rattle.std.specs.Prelude.{◌≡◌, ◌≢◌, ℕ, List, Some, None, Result, Ok, Err, IfOk, OnOk, refl}
+use Rattle.std.specs.Prelude.{◌≡◌, ◌≢◌, ℕ, Some, None, Result, Ok, Err, IfOk, OnOk, refl}
 use Rattle.std.proofs.Common.{ap, inl, inr, subst, sym, ◌∙◌}
 use Rattle.cache_layer.specs.Answers.{IsAttached}
 use Rattle.cache_layer.specs.Outcome.{IsOptimized}
@@ -17,8 +17,8 @@ use Rattle.map_file.specs.declared.file.MapFile.{MapFile}
 use Rattle.mapped_model.specs.Answers.{MapsRows}
 use Rattle.mapped_model.specs.Mapping.{Exceeds, IsRefused, Made}
 use Rattle.mapped_model.specs.Stands.{StandsFor}
-use Rattle.mapped_model.specs.TakenLaws.{good_mapped}
-use Rattle.mapped_model.specs.Tells.{TellsBack}
+use Rattle.mapped_model.specs.TakenLaws.{good_mapped, good_shows}
+use Rattle.mapped_model.specs.Tells.{TellsBack, taken_from}
 use Rattle.mapped_model.specs.Uses.{uses_in}
 use Rattle.mapped_model.specs.declared.fault.MappingFault.{MappingFault}
 use Rattle.mapped_model.specs.declared.fault.MappingFault.TheVariants as fault
@@ -27,11 +27,11 @@ use Rattle.model_command.specs.Telling.{attach_fault_answer, optimize_fault_answ
 use Rattle.model_store.specs.Store.{Stored}
 use Rattle.report_core.specs.declared.answer.Answer.{Answer}
 use Rattle.report_core.specs.declared.answer.Answer.TheVariants.{Printed, ReadFault}
-use Rattle.set_map.specs.Matrices.{Matrix}
 use Rattle.setmap_command.specs.Says.{SaysBy, SaysFile, SaysGiven, SaysOptimized, SaysSolved, pivots}
 use Rattle.setmap_command.specs.SaysLaws.{said_plain}
-use Rattle.setmap_command.specs.Text.{fault_answer}
+use Rattle.setmap_command.specs.Text.{bad_map, fault_answer}
 use Rattle.user_model.specs.Model.{ModelValue}
+use Rattle.user_model.specs.Valid.{IsValid}
 
 -- what holds of an answer, if there is one
 if_told : (P Q : Answer → Type 0) (told : Result Answer NoMemory)
@@ -44,11 +44,11 @@ module _ (model : ModelValue) (file : MapFile) (new : ModelValue)
   -- ---- the certificate
 
   pub says_printed : (c back : Certificate) → StandsFor model (uses_in model file) new
-      → Good new c → TellsBack file c (Ok back)
+      → IsValid new → Good new c → TellsBack file c (Ok back)
       → IfOk told (λ answer. answer
       ≡ Printed (certificate_text (variables_of new.groups) new.rows back))
       → IfOk told (SaysGiven model file new (Ok c))
-  says_printed c back stands good tells =
+  says_printed c back stands valid good tells =
       if_told
       (λ answer. answer ≡ Printed (certificate_text (variables_of new.groups) new.rows back))
       (SaysGiven model file new (Ok c)) told
@@ -57,15 +57,17 @@ module _ (model : ModelValue) (file : MapFile) (new : ModelValue)
         tells.0,
         (
           good_mapped model file new stands c good,
+          good_shows model file new stands valid (taken_from file c)
+              (good_mapped model file new stands c good),
           is ∙ ap (λ d. Printed (certificate_text (variables_of new.groups) new.rows d)) tells.1,
         ),
       ))
 
   pub says_unfit : (c : Certificate) (reason : MappingFault) → TellsBack file c (Err reason)
-      → IfOk told (λ answer. answer ≡ fault_answer file.maps reason)
+      → IfOk told (λ answer. answer ≡ fault_answer reason)
       → OnOk told (reason ≢ fault.Memory) → IfOk told (SaysGiven model file new (Ok c))
   says_unfit c (fault.BadMaps line) tells = absurd tells
-  says_unfit c (fault.BadMap place) tells = absurd tells
+  says_unfit c (fault.BadMap name) tells = absurd tells
   says_unfit c (fault.Refused refusal) tells = absurd tells
   says_unfit c (fault.Overflow row) tells = λ is not.
       if_told _ (SaysGiven model file new (Ok c)) told (λ answer e. (Some row, tells, e)) is
@@ -111,25 +113,30 @@ module _ (model : ModelValue) (file : MapFile) (new : ModelValue)
 
 module _ (setting : Setting) (file : MapFile) (old new : Stored)
     (told : Result Answer NoMemory) where
-  pub says_mapped : (matrices : List Matrix) → MapsRows old file (Ok matrices) new
-      → IfOk told (SaysSolved old.model file new.model (alone setting new.model))
+  pub says_mapped : (mapped : MapFile) → MapsRows old file (Ok mapped) new
+      → StandsFor old.model (uses_in old.model file) new.model
+      → ((model : ModelValue) → StandsFor model (uses_in model mapped) new.model
+      → IfOk told (SaysSolved model mapped new.model (alone setting new.model)))
       → IfOk told (SaysFile setting file old.model)
-  says_mapped matrices rows =
+  says_mapped mapped rows stands solved =
       if_told (SaysSolved old.model file new.model (alone setting new.model))
       (SaysFile setting file old.model) told
       (λ answer said. subst (λ o. SaysBy setting file old.model o answer) (sym rows.0.lines)
       (inr (rows.0.maps, (Made new.model, rows.2, said))))
+      (subst (λ f. IfOk told (SaysSolved old.model f new.model (alone setting new.model))) rows.1
+      (solved old.model
+      (subst (λ f. StandsFor old.model (uses_in old.model f) new.model) (sym rows.1) stands)))
 
   pub says_unmapped : (reason : MappingFault) → MapsRows old file (Err reason) new
-      → IfOk told (λ answer. answer ≡ fault_answer file.maps reason)
+      → IfOk told (λ answer. answer ≡ fault_answer reason)
       → OnOk told (reason ≢ fault.Memory) → IfOk told (SaysFile setting file old.model)
   says_unmapped (fault.BadMaps line) rows = λ is not.
       if_told _ (SaysFile setting file old.model) told
       (λ answer e. subst (λ o. SaysBy setting file old.model o answer) (sym rows) e) is
-  says_unmapped (fault.BadMap place) rows = λ is not.
+  says_unmapped (fault.BadMap name) rows = λ is not.
       if_told _ (SaysFile setting file old.model) told
       (λ answer e. subst (λ o. SaysBy setting file old.model o answer) (sym rows.0)
-      (inl (place, rows.1, e))) is
+      (inl (rows.1.0, rows.1.1, e ∙ ap bad_map rows.1.2))) is
   says_unmapped (fault.Refused refusal) rows = λ is not.
       if_told _ (SaysFile setting file old.model) told
       (λ answer e. subst (λ o. SaysBy setting file old.model o answer) (sym rows.0.lines)

@@ -1,6 +1,7 @@
 -- What is answered to a model and the text of its maps, by what the text, the maps, the edits' limits,
 -- the bridging, the solver and the way back say, and what a printed certificate says: it is good for
--- the model with the used rows in their cones seen through the maps.
+-- the model with the used rows in their cones seen through the maps, and shows what it says of the
+-- points that meet them.
 use Rattle.std.specs.Prelude.{◌≡◌, ◌⊎◌, ℕ, List, All, Option, Some, None, Result, Ok, Err}
 use Rattle.cache_layer.specs.Answers.{IsAttached}
 use Rattle.cache_layer.specs.Outcome.{IsOptimized}
@@ -13,8 +14,10 @@ use Rattle.certificates.specs.Points.{variables_of}
 use Rattle.file_answers.specs.FileAnswers.{refused}
 use Rattle.fresh_bridging.specs.TheRules.{Setting}
 use Rattle.map_file.specs.declared.file.MapFile.{MapFile}
+use Rattle.map_file.specs.declared.map_text.MapText.{MapText}
 use Rattle.map_file.specs.Lines.{file_in}
 use Rattle.mapped_certificates.specs.GoodSeen.{GoodMapped}
+use Rattle.mapped_certificates.specs.ShowsSeen.{ShowsMapped}
 use Rattle.mapped_model.specs.Mapping.{Mapped, Maps, Made, IsRefused, Exceeds}
 use Rattle.mapped_model.specs.Stands.{StandsFor}
 use Rattle.mapped_model.specs.Tells.{TakesFrom, taken_from}
@@ -24,7 +27,7 @@ use Rattle.model_command.specs.Telling.{attach_fault_answer, optimize_fault_answ
 use Rattle.report_core.specs.Refused.{refused_of}
 use Rattle.report_core.specs.declared.answer.Answer.{Answer}
 use Rattle.report_core.specs.declared.answer.Answer.TheVariants.{Printed}
-use Rattle.setmap_command.specs.Text.{bad_map, bad_maps, map_name, row_overflow}
+use Rattle.setmap_command.specs.Text.{bad_map, bad_maps, row_overflow}
 use Rattle.user_model.specs.Model.{ModelValue}
 
 -- the most pivots of an optimise
@@ -38,11 +41,13 @@ StandsFrom file new = (model : ModelValue) × StandsFor model (uses_in model fil
 -- ---- to the model with the mapped rows
 
 module _ (model : ModelValue) (file : MapFile) (new : ModelValue) where
-  -- the certificate that is printed is good for the mapped rows
+  -- the certificate that is printed is good for the mapped rows, and shows what it says of the points
+  -- that meet them
   abbrev pub SaysBack : Certificate → Option (List ℕ) → Answer → Type 0
   SaysBack c (Some row) answer = answer ≡ row_overflow row
   SaysBack c None answer =
       GoodMapped model (uses_in model file) (taken_from file c)
+      × ShowsMapped model (uses_in model file) (taken_from file c)
       × (answer ≡ Printed
       (certificate_text (variables_of new.groups) new.rows (taken_from file c)))
 
@@ -77,10 +82,10 @@ module _ (setting : Setting) (file : MapFile) (model : ModelValue) where
   SaysRight answer =
       (what : Mapped) × Maps model (uses_in model file) what × SaysMapped what answer
 
-  -- the first map that is none
+  -- the first bad map
   abbrev pub SaysBadMap : Answer → Type 0
   SaysBadMap answer =
-      (place : ℕ) × IsFirstBad file.maps place × (answer ≡ bad_map (map_name file.maps place))
+      (bad : MapText) × IsFirstBad file.maps bad × (answer ≡ bad_map bad.name)
 
   -- by the first wrong line
   abbrev pub SaysBy : Option ℕ → Answer → Type 0

@@ -40,7 +40,7 @@ module _ (model : ModelValue) (file : MapFile) (answer : Answer) where
   back_plain : (new : ModelValue) (c : Certificate) (exceeds : Option (List ℕ))
       → SaysBack model file new c exceeds answer → shelf_fault answer ≡ None
   back_plain new c (Some row) h = same_fault answer _ h refl
-  back_plain new c None h = same_fault answer _ h.1 refl
+  back_plain new c None h = same_fault answer _ h.2 refl
 
   given_plain : (new : ModelValue) (given : Result Certificate OptFault)
       → SaysGiven model file new given answer → shelf_fault answer ≡ None

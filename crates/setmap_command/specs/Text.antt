@@ -1,8 +1,6 @@
 -- The refusals that the command has beside those of a script.
 use Rattle.std.specs.Prelude.{ℕ, List, ◌++◌, codes, decimal}
 use Rattle.file_answers.specs.FileAnswers.{refused}
-use Rattle.map_file.specs.declared.map_text.MapText.{MapText}
-use Rattle.mapped_model.specs.Uses.{map_at}
 use Rattle.mapped_model.specs.declared.fault.MappingFault.{MappingFault}
 use Rattle.mapped_model.specs.declared.fault.MappingFault.TheVariants as fault
 use Rattle.report_core.specs.declared.answer.Answer.{Answer}
@@ -20,16 +18,13 @@ bad_maps line = Refused (codes "refused 25 BadMaps " ++ decimal line ++ newline)
 abbrev pub bad_map : List ℕ → Answer
 bad_map name = Refused (codes "refused 24 BadMap " ++ name ++ newline)
 
-abbrev pub map_name : List MapText → ℕ → List ℕ
-map_name maps place = (map_at maps place).name
-
 -- a number of the row exceeds 128 bits
 abbrev pub row_overflow : List ℕ → Answer
 row_overflow row = refused (Overflow (Row row))
 
-abbrev pub fault_answer : List MapText → MappingFault → Answer
-fault_answer maps (fault.BadMaps line) = bad_maps line
-fault_answer maps (fault.BadMap place) = bad_map (map_name maps place)
-fault_answer maps (fault.Refused reason) = refused (refused_of reason)
-fault_answer maps (fault.Overflow row) = row_overflow row
-fault_answer maps fault.Memory = Memory
+abbrev pub fault_answer : MappingFault → Answer
+fault_answer (fault.BadMaps line) = bad_maps line
+fault_answer (fault.BadMap name) = bad_map name
+fault_answer (fault.Refused reason) = refused (refused_of reason)
+fault_answer (fault.Overflow row) = row_overflow row
+fault_answer fault.Memory = Memory

@@ -75,7 +75,7 @@ fn answer_on<H: Shelf, B: Bridge>(
         → AsksFor (H.asked shelf.old) (H.asked shelf.new) (maps.now ∷ []) }
 {
     match fetch_maps(alloc, shelf, maps) {
-        Ok(file) => answer_maps(alloc, model, &file, bridges).unwrap_or(Answer::Memory),
+        Ok(file) => answer_maps(alloc, model, file, bridges).unwrap_or(Answer::Memory),
         Err(fault) => tell_fetch(fault),
     }
 }
@@ -84,21 +84,21 @@ fn answer_on<H: Shelf, B: Bridge>(
 fn answer_maps<B: Bridge>(
     alloc: Global,
     model: UserModel,
-    file: &MapFile,
+    file: MapFile,
     bridges: Vec<B>,
 ) -> Result<Answer, Memory>
-    requires shaped { IsShaped file.now }
+    requires shaped { IsShaped file }
     requires settled { model.parked ≡ [] }
     requires once { IsTrue (occur_once (families_of (prelude.map B.state bridges.items))) }
     requires kept { All (λ s. s.kept ≡ finite.empty) (prelude.map B.state bridges.items) }
     ensures says { IfOk result (SaysFile
-        (standard_by (prelude.map B.state bridges.items)) file.now model.model) }
+        (standard_by (prelude.map B.state bridges.items)) file model.model) }
     ensures no_fault { result ≢ Ok Answer.ReadFault }
 {
     let mut model = model;
     match map_rows(alloc, &mut model, file) {
-        Ok(maps) => solved(alloc, model, &maps, file, bridges),
-        Err(fault) => tell_mapping(alloc, fault, file),
+        Ok(rows) => solved(alloc, model, &rows, bridges),
+        Err(fault) => tell_mapping(alloc, fault),
     }
 }
 

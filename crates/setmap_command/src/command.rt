@@ -17,7 +17,7 @@ pub struct Command {
 
 /// The command of arguments, `MODEL MAPS`; none where they are others. Memory runs out only where
 /// they are of one.
-pub fn command_of(alloc: Global, words: &[String]) -> Result<Option<Command>, Memory>
+pub(crate) fn command_of(alloc: Global, words: &[String]) -> Result<Option<Command>, Memory>
     ensures said { IfOk result (λ command. command ≡ command_in (texts words.now)) }
     ensures of_one { OnErr result (IsSome (command_in (texts words.now))) }
 {

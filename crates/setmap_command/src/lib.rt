@@ -8,5 +8,5 @@ mod running;
 mod solving;
 mod telling;
 
-pub use command::{Command, command_of};
+pub use command::Command;
 pub use running::run;

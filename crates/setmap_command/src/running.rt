@@ -25,7 +25,7 @@ use std::alloc::Global;
 /// is in its cone seen through the map. No family occurs twice among the bridges, and they keep
 /// nothing.
 ///
-/// A model that can't be loaded is refused as `load` refuses it. Otherwise one line tells why there is
+/// A model that can't be loaded is refused as `load` refuses it. Otherwise one line says why there is
 /// no certificate: 25 a wrong line of the maps, 24 a map whose matrices are not inverse to each other,
 /// 5 a norm cone of one number, 12 a limit, 15 a board too large, 16 and 17 no bridging, 17 a number
 /// that exceeds 128 bits, 18 too many pivots.

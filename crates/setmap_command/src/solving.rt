@@ -7,24 +7,22 @@ ghost use Rattle.cache_layer.specs.Cached.{model_in, state_of};
 ghost use Rattle.cert_text.specs.Text.{certificate_text};
 ghost use Rattle.certificates.specs.Good.{Good};
 ghost use Rattle.certificates.specs.Points.{variables_of};
-ghost use Rattle.map_file.specs.Shaped.{IsShaped};
 ghost use Rattle.mapped_model.specs.Stands.{StandsFor};
-ghost use Rattle.mapped_model.specs.Uses.{matrix_of, uses_in};
+ghost use Rattle.mapped_model.specs.Uses.{uses_in};
 ghost use Rattle.model_command.specs.Alone.{alone, standard_by};
 ghost use Rattle.setmap_command.specs.Says.{SaysGiven, SaysOptimized, SaysSolved, StandsFrom};
 ghost use Rattle.user_model.specs.Model.{ModelValue};
+ghost use Rattle.user_model.specs.Valid.{IsValid};
 
 use crate::telling::tell_mapping;
 use bridge_face::Bridge;
 use cache_layer::{Cache, Certificate};
 use cert_text::print;
 use lists::Memory;
-use map_file::MapFile;
-use mapped_model::take_back;
+use mapped_model::MappedRows;
 use model_command::{cache_of, tell_attach, tell_optimize};
 use model_store::UserModel;
 use report_core::Answer;
-use set_map::SetMap;
 use std::alloc::Global;
 
 /// The most pivots that a model is solved with.
@@ -34,84 +32,73 @@ const PIVOTS: u64 = 100_000;
 pub(crate) fn solved<B: Bridge>(
     alloc: Global,
     model: UserModel,
-    maps: &[SetMap],
-    file: &MapFile,
+    rows: &MappedRows,
     bridges: Vec<B>,
 ) -> Result<Answer, Memory>
-    requires shaped { IsShaped file.now }
-    requires maps { maps.now ≡ prelude.map matrix_of file.now.maps }
-    requires stands { StandsFrom file.now model.model }
+    requires stands { StandsFrom rows.now model.model }
     requires settled { model.parked ≡ [] }
     requires once { IsTrue (occur_once (families_of (prelude.map B.state bridges.items))) }
     requires kept { All (λ s. s.kept ≡ finite.empty) (prelude.map B.state bridges.items) }
-    ensures { (old : ModelValue) → StandsFor old (uses_in old file.now) model.model
-        → IfOk result (SaysSolved old file.now model.model
+    ensures { (old : ModelValue) → StandsFor old (uses_in old rows.now) model.model
+        → IfOk result (SaysSolved old rows.now model.model
         (alone (standard_by (prelude.map B.state bridges.items)) model.model)) }
 {
     let mut cache = cache_of(alloc, model, bridges);
-    attached(alloc, maps, file, &mut cache)
+    attached(alloc, rows, &mut cache)
 }
 
-// The same, where the cache is lent, so that it is freed once.
+// What is answered by a cache of the model, which is lent so that it is freed once.
 fn attached<B: Bridge>(
     alloc: Global,
-    maps: &[SetMap],
-    file: &MapFile,
+    rows: &MappedRows,
     cache: &mut Cache<B>,
 ) -> Result<Answer, Memory>
-    requires shaped { IsShaped file.now }
-    requires maps { maps.now ≡ prelude.map matrix_of file.now.maps }
-    requires stands { StandsFrom file.now (model_in cache.old) }
-    ensures { (old : ModelValue) → StandsFor old (uses_in old file.now) (model_in cache.old)
-        → IfOk result (SaysSolved old file.now (model_in cache.old) (state_of cache.old)) }
+    requires { StandsFrom rows.now (model_in cache.old) }
+    ensures { (old : ModelValue) → StandsFor old (uses_in old rows.now) (model_in cache.old)
+        → IfOk result (SaysSolved old rows.now (model_in cache.old) (state_of cache.old)) }
 {
     match cache.attach() {
-        Ok(_leaves) => optimized(alloc, maps, file, cache),
+        Ok(_leaves) => optimized(alloc, rows, cache),
         Err(fault) => tell_attach(alloc, fault),
     }
 }
 
 fn optimized<B: Bridge>(
     alloc: Global,
-    maps: &[SetMap],
-    file: &MapFile,
+    rows: &MappedRows,
     cache: &Cache<B>,
 ) -> Result<Answer, Memory>
-    requires shaped { IsShaped file.now }
-    requires maps { maps.now ≡ prelude.map matrix_of file.now.maps }
-    requires stands { StandsFrom file.now (model_in cache.now) }
-    ensures { (old : ModelValue) → StandsFor old (uses_in old file.now) (model_in cache.now)
-        → IfOk result (SaysOptimized old file.now (model_in cache.now) (state_of cache.now)) }
+    requires { StandsFrom rows.now (model_in cache.now) }
+    ensures { (old : ModelValue) → StandsFor old (uses_in old rows.now) (model_in cache.now)
+        → IfOk result (SaysOptimized old rows.now (model_in cache.now) (state_of cache.now)) }
 {
     match cache.optimize(PIVOTS) {
-        Ok(certificate) => told(alloc, maps, file, cache.model(), certificate),
+        Ok(certificate) => told(alloc, rows, cache.model(), certificate),
         Err(fault) => tell_optimize(alloc, fault),
     }
 }
 
-// A certificate of the mapped model, told of the rows as they were.
+// What is answered to a certificate of the model with the mapped rows.
 fn told(
     alloc: Global,
-    maps: &[SetMap],
-    file: &MapFile,
+    rows: &MappedRows,
     model: &UserModel,
     certificate: Certificate,
 ) -> Result<Answer, Memory>
-    requires shaped { IsShaped file.now }
-    requires maps { maps.now ≡ prelude.map matrix_of file.now.maps }
-    requires stands { StandsFrom file.now model.now.model }
+    requires stands { StandsFrom rows.now model.now.model }
     requires good { Good model.now.model certificate }
-    ensures { (old : ModelValue) → StandsFor old (uses_in old file.now) model.now.model
-        → IfOk result (SaysGiven old file.now model.now.model (prelude.Ok certificate)) }
+    ensures { (old : ModelValue) → StandsFor old (uses_in old rows.now) model.now.model
+        → IfOk result (SaysGiven old rows.now model.now.model (prelude.Ok certificate)) }
 {
-    match take_back(certificate, maps, file) {
+    match rows.take_back(certificate) {
         Ok(certificate) => printed(alloc, model, &certificate),
-        Err(fault) => tell_mapping(alloc, fault, file),
+        Err(fault) => tell_mapping(alloc, fault),
     }
 }
 
 fn printed(alloc: Global, model: &UserModel, certificate: &Certificate) -> Result<Answer, Memory>
-    ensures { IfOk result (λ answer. answer ≡ Answer.Printed
+    ensures valid { IsValid model.now.model }
+    ensures text { IfOk result (λ answer. answer ≡ Answer.Printed
         (certificate_text (variables_of model.now.model.groups) model.now.model.rows
         certificate.now)) }
 {

@@ -1,25 +1,20 @@
 //! Why a model's rows are not mapped, as it is answered.
 ghost use Rattle.std.specs.Prelude.{◌≡◌, ◌≢◌, IfOk, OnOk};
-ghost use Rattle.setmap_command.specs.Text.{bad_map, bad_maps, fault_answer, map_name};
+ghost use Rattle.setmap_command.specs.Text.{bad_map, bad_maps, fault_answer};
 
 use lists::Memory;
-use map_file::MapFile;
 use mapped_model::MappingFault;
 use report_core::{Answer, Draft, Place, Refused, refusal};
 use std::alloc::Global;
 
 /// One line `refused` with the number, the name and the field.
-pub(crate) fn tell_mapping(
-    alloc: Global,
-    fault: MappingFault,
-    file: &MapFile,
-) -> Result<Answer, Memory>
-    ensures told { IfOk result (λ answer. answer ≡ fault_answer file.now.maps fault) }
+pub(crate) fn tell_mapping(alloc: Global, fault: MappingFault) -> Result<Answer, Memory>
+    ensures told { IfOk result (λ answer. answer ≡ fault_answer fault) }
     ensures memory { OnOk result (fault ≢ MappingFault.Memory) }
 {
     match fault {
         MappingFault::BadMaps { line } => bad_maps(alloc, line),
-        MappingFault::BadMap { place } => bad_map(alloc, map_name(file, place)),
+        MappingFault::BadMap { map } => bad_map(alloc, map.as_slice()),
         MappingFault::Refused(reason) => refusal(alloc, &Refused::from(reason)),
         MappingFault::Overflow { row } => refusal(
             alloc,
@@ -28,16 +23,6 @@ pub(crate) fn tell_mapping(
             },
         ),
         MappingFault::Memory => Err(Memory),
-    }
-}
-
-// The name of the map at a place.
-fn map_name(file: &MapFile, place: usize) -> &[u8]
-    ensures { result.now ≡ map_name file.now.maps place }
-{
-    match file.maps.get(place) {
-        Some(map) => map.name.as_slice(),
-        None => &[],
     }
 }
 

@@ -1,21 +1,25 @@
 use Rattle.mapped_model.proofs.Making.{exceeded, made, made_stands, unmade}
 use Rattle.mapped_model.proofs.mapping.made.Goals as goal
 
+pub of_file-requires-clause-maps : goal.of_file-requires-clause-maps
+of_file-requires-clause-maps c = c.requires.planned.maps
+
 pub returns-in-Some-clause-maps : goal.returns-in-Some-clause-maps
-returns-in-Some-clause-maps c = λ file is.
-    exceeded c.args.model.now file c.args.plan is c.in-Some.row c.make.new.model c.in-Ok.ensures
-    c.in-Some.is
+returns-in-Some-clause-maps c =
+    exceeded c.args.model.now c.args.file c.args.plan c.requires.planned c.in-Some.row
+    c.why_unmade.result c.why_unmade.new.model c.why_unmade.ensures.why c.in-Some.is
 
-pub returns-in-None-clause-maps : goal.returns-in-None-clause-maps
-returns-in-None-clause-maps c = λ file is.
-    made c.args.model.now file c.args.plan is c.make.new.model c.in-Ok.ensures c.in-None.is
+pub returns-in-Ok-clause-maps : goal.returns-in-Ok-clause-maps
+returns-in-Ok-clause-maps c =
+    made c.args.model.now c.args.file c.args.plan c.requires.planned c.of_file.result
+    c.make.new.model c.in-Ok.ensures.made c.in-None.is c.of_file.ensures
 
-pub returns-in-None-clause-stands : goal.returns-in-None-clause-stands
-returns-in-None-clause-stands c = λ file shaped is.
-    made_stands c.args.model.now file c.args.plan is c.make.new.model shaped c.in-Ok.ensures
-    c.in-None.is
+pub returns-in-Ok-clause-stands : goal.returns-in-Ok-clause-stands
+returns-in-Ok-clause-stands c =
+    made_stands c.args.model.now c.args.file c.args.plan c.requires.planned c.make.new.model
+    c.requires.shaped c.in-Ok.ensures.made c.in-None.is
 
 pub returns-in-Err-clause-maps : goal.returns-in-Err-clause-maps
-returns-in-Err-clause-maps c = λ file is.
-    unmade c.args.model.now file c.args.plan is c.in-Err.fault c.make.new.model c.make.new.model
-    c.in-Err.ensures
+returns-in-Err-clause-maps c =
+    unmade c.args.model.now c.args.file c.args.plan c.requires.planned c.in-Err.fault
+    c.make.new.model c.make.new.model c.in-Err.ensures.made

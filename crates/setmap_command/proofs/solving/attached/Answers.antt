@@ -8,23 +8,23 @@ use Rattle.setmap_command.proofs.Told.{says_attached, says_unattached}
 use Rattle.setmap_command.proofs.solving.attached.Goals as goal
 use Rattle.setmap_command.specs.Says.{SaysOptimized, StandsFrom}
 
-pub optimized-requires-clause-stands : goal.optimized-requires-clause-stands
-optimized-requires-clause-stands g c =
-    subst (StandsFrom c.args.file.now) (sym (ap (λ (s : State). s.model) c.in-Ok.ensures.answer.2))
-    c.requires.stands
+pub optimized-requires : goal.optimized-requires
+optimized-requires g c =
+    subst (StandsFrom c.args.rows.now) (sym (ap (λ (s : State). s.model) c.in-Ok.ensures.answer.2))
+    c.requires
 
 pub returns-in-Ok : goal.returns-in-Ok
 returns-in-Ok g c = λ old stands.
     let is = ap (λ (s : State). s.model) c.in-Ok.ensures.answer.2 in
-    says_attached old c.args.file.now (model_in c.args.cache.now) c.optimized.result
+    says_attached old c.args.rows.now (model_in c.args.cache.now) c.optimized.result
     (state_of c.args.cache.now) (state_of c.attach.new.self) c.in-Ok._leaves c.in-Ok.ensures.answer
-    (subst (λ m. IfOk c.optimized.result (SaysOptimized old c.args.file.now m
+    (subst (λ m. IfOk c.optimized.result (SaysOptimized old c.args.rows.now m
     (state_of c.attach.new.self))) is
     (c.optimized.ensures old
-    (subst (StandsFor old (uses_in old c.args.file.now)) (sym is) stands)))
+    (subst (StandsFor old (uses_in old c.args.rows.now)) (sym is) stands)))
 
 pub returns-in-Err : goal.returns-in-Err
 returns-in-Err g c = λ old stands.
-    says_unattached old c.args.file.now (model_in c.args.cache.now) c.tell_attach.result
+    says_unattached old c.args.rows.now (model_in c.args.cache.now) c.tell_attach.result
     (state_of c.args.cache.now) (state_of c.attach.new.self) c.in-Err.fault c.in-Err.ensures.answer
     c.tell_attach.ensures.told

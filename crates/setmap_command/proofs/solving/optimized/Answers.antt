@@ -11,8 +11,8 @@ use Rattle.setmap_command.specs.Says.{SaysGiven, StandsFrom}
 
 pub told-requires-clause-stands : goal.told-requires-clause-stands
 told-requires-clause-stands g c =
-    subst (StandsFrom c.args.file.now) (sym (ap (λ (s : Stored). s.model) c.model.ensures.value))
-    c.requires.stands
+    subst (StandsFrom c.args.rows.now) (sym (ap (λ (s : Stored). s.model) c.model.ensures.value))
+    c.requires
 
 pub told-requires-clause-good : goal.told-requires-clause-good
 told-requires-clause-good g c =
@@ -22,13 +22,13 @@ told-requires-clause-good g c =
 pub returns-in-Ok : goal.returns-in-Ok
 returns-in-Ok g c = λ old stands.
     let is = ap (λ (s : Stored). s.model) c.model.ensures.value in
-    says_given old c.args.file.now (model_in c.args.cache.now) c.told.result
+    says_given old c.args.rows.now (model_in c.args.cache.now) c.told.result
     (state_of c.args.cache.now) c.in-Ok.certificate c.in-Ok.ensures.outcome
-    (subst (λ m. IfOk c.told.result (SaysGiven old c.args.file.now m (Ok c.in-Ok.certificate))) is
+    (subst (λ m. IfOk c.told.result (SaysGiven old c.args.rows.now m (Ok c.in-Ok.certificate))) is
     (c.told.ensures old
-    (subst (StandsFor old (uses_in old c.args.file.now)) (sym is) stands)))
+    (subst (StandsFor old (uses_in old c.args.rows.now)) (sym is) stands)))
 
 pub returns-in-Err : goal.returns-in-Err
 returns-in-Err g c = λ old stands.
-    says_not_given old c.args.file.now (model_in c.args.cache.now) c.tell_optimize.result
+    says_not_given old c.args.rows.now (model_in c.args.cache.now) c.tell_optimize.result
     (state_of c.args.cache.now) c.in-Err.fault c.in-Err.ensures.outcome c.tell_optimize.ensures.told

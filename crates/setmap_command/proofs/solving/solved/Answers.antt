@@ -7,17 +7,17 @@ use Rattle.mapped_model.specs.Uses.{uses_in}
 use Rattle.setmap_command.proofs.solving.solved.Goals as goal
 use Rattle.setmap_command.specs.Says.{SaysSolved, StandsFrom}
 
-pub attached-requires-clause-stands : goal.attached-requires-clause-stands
-attached-requires-clause-stands g c =
-    subst (StandsFrom c.args.file.now) (sym (ap (λ (s : State). s.model) c.cache_of-cache.ensures))
+pub attached-requires : goal.attached-requires
+attached-requires g c =
+    subst (StandsFrom c.args.rows.now) (sym (ap (λ (s : State). s.model) c.cache_of-cache.ensures))
     c.requires.stands
 
 pub returns : goal.returns
 returns g c = λ old stands.
     let is = ap (λ (s : State). s.model) c.cache_of-cache.ensures in
-    subst (λ s. IfOk c.attached.result (SaysSolved old c.args.file.now c.args.model.model s))
+    subst (λ s. IfOk c.attached.result (SaysSolved old c.args.rows.now c.args.model.model s))
     c.cache_of-cache.ensures
-    (subst (λ m. IfOk c.attached.result (SaysSolved old c.args.file.now m
+    (subst (λ m. IfOk c.attached.result (SaysSolved old c.args.rows.now m
     (state_of c.cache_of-cache.result))) is
     (c.attached.ensures old
-    (subst (StandsFor old (uses_in old c.args.file.now)) (sym is) stands)))
+    (subst (StandsFor old (uses_in old c.args.rows.now)) (sym is) stands)))
