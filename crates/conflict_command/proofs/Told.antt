@@ -31,7 +31,7 @@ use Rattle.user_model.specs.Valid.{IsValid}
 -- ---- what is found of a state
 
 module _ (s : State) (told : Result Answer NoMemory) where
-  -- it is told in the names of the model that is left
+  -- the answer names rows and variables of the model that is left
   pub says_what : (new said : Stored) (found : Found) → Finds s pivots (Ok found)
       → Shows s.model found → new.model.groups ≡ s.model.groups → NamesRows new.model found
       → said ≡ new

@@ -41,7 +41,7 @@ pub same_reason : {A : Type 0} (fault reason : FetchFault)
     → ◌≡◌ {A = Result A FetchFault} (Err fault) (Err reason) → fault ≡ reason
 same_reason fault reason e = cc
 
--- only a failure is answered as one
+-- `ReadFault` is the answer to a failed fetch, and to no other fault
 pub told_failed : (fault : FetchFault) → fetch_answer fault ≡ ReadFault → fault ≡ fetch.Failed
 told_failed fetch.Failed e = refl
 told_failed fetch.TooLong e = cc
