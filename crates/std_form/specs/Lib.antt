@@ -3,7 +3,6 @@ pub mod Borrowed
 pub mod Readable
 pub mod Answers
 pub mod NameLaws
-pub mod EntryPlaces
 pub mod ThroughLaws
 pub mod FormLaws
 pub mod NativeLaws

@@ -1,0 +1,10 @@
+use Rattle.std.specs.Prelude.{◌≡◌}
+use Rattle.std.proofs.Common.{sym, ap, ◌∙◌}
+use Rattle.std.specs.FinMap as finite
+use Rattle.address_map.proofs.GapLaws.{entries_kept}
+use Rattle.address_map.proofs.ordered.Ordered.iter.Goals as goal
+
+pub returns : goal.returns
+returns g c =
+    c.of.ensures ∙ sym (entries_kept c.self.inside.entries c.self.invariant)
+    ∙ ap finite.entries c.self.view_is

@@ -1,0 +1,53 @@
+//! The items that are left of a list, one after the other.
+ghost use Rattle.std.specs.Prelude.{◌≡◌};
+ghost use Rattle.std.specs.Iterator.{YieldsFirstRef, item_count};
+
+use crate::ranked::Ranked;
+use std::marker::Model;
+
+/// The items that are left, in their order.
+///
+/// A step goes down the tree once: a fork knows none of those above it, and a list of these would
+/// take memory.
+#[derive(Drop)]
+pub struct Items<'a, T> {
+    list: &'a Ranked<T>,
+    // of the next item
+    place: usize,
+}
+
+impl<'a, T> Model for Items<'a, T> {
+    ghost use Rattle.std.specs.Prelude.{List, drop};
+    ghost use Rattle.std.specs.Coded.{coded_list};
+
+    ghost Value = { List T };
+
+    ghost coded = { coded_list T.code };
+
+    ghost view = { λ a. drop a.place a.list.now };
+}
+
+impl<'a, T> Items<'a, T> {
+    // All items of a list.
+    pub(crate) fn of(list: &'a Ranked<T>) -> Items<'a, T>
+        ensures { result ≡ list.now }
+    {
+        Items { list, place: 0 }
+    }
+}
+
+impl<'a, T> Iterator for Items<'a, T> {
+    type Item = &'a T;
+
+    ghost next_gives = { YieldsFirstRef (λ items. items) };
+
+    ghost remaining = { item_count (λ items. items) };
+
+    fn next(&mut self) -> Option<&'a T> {
+        let item = self.list.get(self.place)?;
+        // what this ensures: 64 bits count the items, so the place after the item fits too
+        let _len = self.list.len();
+        self.place += 1;
+        Some(item)
+    }
+}
