@@ -1,6 +1,6 @@
 use Rattle.std.proofs.Common.{◌≡◌, ◌++◌, drop}
 use Rattle.cert_text.specs.Text.{numbers_text}
-use Rattle.relax_command.proofs.printing.push_each.Given as goal
+use Rattle.file_command.proofs.duals.push_each.Given as goal
 
 abbrev pub invariant-loop-number : goal.invariant-loop-number
 invariant-loop-number l =
