@@ -17,7 +17,7 @@ overflow_add-self g c =
     let within : c.self.inside.place < length c.self.inside.list.now =
     slice_get_within c.self.inside.list.now c.self.inside.place c.in_ok-item.item.now
     (sym c.in_ok-item.ensures) in
-    omega (arith, within, c.len-_len.ensures, c.len-_len.type_inv)
+    omega (arith, within, c.len-len.ensures, c.len-len.type_inv)
 
 pub returns-clause-steps : goal.returns-clause-steps
 returns-clause-steps g c =
