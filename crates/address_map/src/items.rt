@@ -43,6 +43,7 @@ impl<'a, T> Iterator for Items<'a, T> {
 
     ghost remaining = { item_count (λ items. items) };
 
+    #[tactic(auto, using(crate::proofs::ItemLaws::none_left))]
     fn next(&mut self) -> Option<&'a T> {
         let item = self.list.get(self.place)?;
         // what this ensures: 64 bits count the items, so the place after the item fits too
