@@ -1,5 +1,5 @@
 //! The items that are left of a list, one after the other.
-ghost use Rattle.std.specs.Prelude.{◌≡◌};
+ghost use Rattle.std.specs.Prelude.{◌≡◌, drop};
 ghost use Rattle.std.specs.Iterator.{YieldsFirstRef, item_count};
 
 use crate::ranked::Ranked;
@@ -28,11 +28,11 @@ impl<'a, T> Model for Items<'a, T> {
 }
 
 impl<'a, T> Items<'a, T> {
-    // All items of a list.
-    pub(crate) fn of(list: &'a Ranked<T>) -> Items<'a, T>
-        ensures { result ≡ list.now }
+    // The items of a list from a place on.
+    pub(crate) fn starting_at(list: &'a Ranked<T>, place: usize) -> Items<'a, T>
+        ensures { result ≡ drop place list.now }
     {
-        Items { list, place: 0 }
+        Items { list, place }
     }
 }
 

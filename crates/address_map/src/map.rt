@@ -245,14 +245,28 @@ impl AddressMap {
     pub fn vars(&self) -> Items<'_, (Address, usize)>
         ensures { result ≡ finite.entries self.now.vars.indices }
     {
-        self.vars.iter()
+        self.vars.iter_from(0)
+    }
+
+    /// The leaf variables from a place on, such as that of `var_place`.
+    pub fn vars_from(&self, place: usize) -> Items<'_, (Address, usize)>
+        ensures { result ≡ drop place (finite.entries self.now.vars.indices) }
+    {
+        self.vars.iter_from(place)
     }
 
     /// The leaf rows in the order of their addresses, each with its index.
     pub fn rows(&self) -> Items<'_, (Address, usize)>
         ensures { result ≡ finite.entries self.now.rows.indices }
     {
-        self.rows.iter()
+        self.rows.iter_from(0)
+    }
+
+    /// The leaf rows from a place on, such as that of `row_place`.
+    pub fn rows_from(&self, place: usize) -> Items<'_, (Address, usize)>
+        ensures { result ≡ drop place (finite.entries self.now.rows.indices) }
+    {
+        self.rows.iter_from(place)
     }
 
     /// The leaf variable at a place in the order of addresses, and `None` past the last.

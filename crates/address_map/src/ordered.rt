@@ -61,7 +61,14 @@ impl<V> Ordered<V> {
     pub fn iter(&self) -> Items<'_, (Address, V)>
         ensures { result ≡ finite.entries self.now }
     {
-        Items::of(&self.entries)
+        self.iter_from(0)
+    }
+
+    /// The same from a place on.
+    pub fn iter_from(&self, place: usize) -> Items<'_, (Address, V)>
+        ensures { result ≡ drop place (finite.entries self.now) }
+    {
+        Items::starting_at(&self.entries, place)
     }
 
     /// The address at a place in the order of addresses, and `None` past the last.

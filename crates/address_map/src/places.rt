@@ -109,11 +109,11 @@ impl Places {
         self.ordered.len()
     }
 
-    /// The addresses in their order, each with its index.
-    pub fn iter(&self) -> Items<'_, (Address, usize)>
-        ensures { result ≡ finite.entries self.now.indices }
+    /// The addresses from a place on, in their order, each with its index.
+    pub fn iter_from(&self, place: usize) -> Items<'_, (Address, usize)>
+        ensures { result ≡ drop place (finite.entries self.now.indices) }
     {
-        self.ordered.iter()
+        self.ordered.iter_from(place)
     }
 
     /// The address at a place in the order of addresses, and `None` past the last.
