@@ -1,5 +1,5 @@
 -- The addresses of an item among all in order, from a place on.
-use Rattle.std.specs.Prelude.{◌≡◌, ◌++◌, ℕ, zero, suc, Bool, true, false, cond, not, List, [], ◌∷◌, All, AllPairs, drop, map, take, refl}
+use Rattle.std.specs.Prelude.{◌≡◌, ◌++◌, ℕ, Bool, true, false, cond, not, List, [], ◌∷◌, All, AllPairs, drop, map, take, refl}
 use Rattle.std.proofs.Common.{sym, ap, subst, ◌∙◌}
 use Rattle.std.specs.FinMap as finite
 use Rattle.std.specs.FinMap.{FinMap}
@@ -70,12 +70,6 @@ none_of item (k ∷ ks) h =
     ∙ none_of item ks (All-tail (λ k. is_of item k ≡ false) k ks h)
 
 -- ---- in a map, from a place on
-
-pub keys_from : {X : Type 0} (n : ℕ) (es : List (Address × X))
-    → map (λ e. e.0) (drop n es) ≡ drop n (map (λ e. e.0) es)
-keys_from zero es = refl
-keys_from (suc n) [] = refl
-keys_from (suc n) (e ∷ es) = keys_from n es
 
 pub are_from : {X : Type 0} (m : FinMap address_cmp X) (item : Address) (place : ℕ)
     → drop place (finite.keys m) ≡ from_on item (finite.keys m)
