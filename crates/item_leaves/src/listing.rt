@@ -39,7 +39,8 @@ fn list_first(
     list: &mut Sequence<Address>,
 ) -> Result<(), Memory>
     requires { AreFrom item.now (map (λ e. e.0) leaves) }
-    ensures { OnOk result (list.new ≡ list.old ++ those_of item.now (map (λ e. e.0) leaves)) }
+    ensures { OnOk result (list.new
+        ≡ list.old ++ those_of item.now (map (λ e. e.0) leaves.entry)) }
 {
     for leaf in leaves {
         if !is_of(item, &leaf.0) {

@@ -29,7 +29,7 @@ loop-leaf-preserved c =
       left = one_more item (keys l.leaf-iterator) (keys c.next.new.self) c.in-Some.leaf.now.0
           next l.invariant.from l.list c.push.new.self
           (c.args.list.now ++ those_of item (keys c.args.leaves))
-          (sym c.is_of.ensures ∙ c.if-not-is_of.false) c.in_default-push.ensures.ok
+          (sym c.is_of.ensures ∙ c.if-not-is_of.false) c.in_default.ensures.ok
           l.invariant.left;
     }
 
