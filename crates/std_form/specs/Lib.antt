@@ -1,4 +1,5 @@
 pub mod Indexed
+pub mod Listed
 pub mod Borrowed
 pub mod Readable
 pub mod Answers
