@@ -1,1 +1,3 @@
-pub mod KeptLemmas
+mod KeptLemmas
+mod ItemOrderLaws
+mod FirstLemmas

@@ -1,7 +1,8 @@
 //! Items with their edges, by address.
-ghost use Rattle.std.specs.Prelude.{◌≡◌, IfErr, IfSome, IsSome, OnErr, OnOk};
+ghost use Rattle.std.specs.Prelude.{◌≡◌, IfErr, IfSome, IsSome, OnErr, OnOk, find};
 ghost use Rattle.std.specs.Option.{option_copied};
 ghost use Rattle.std.specs.FinMap as finite;
+ghost use Rattle.bridge_face.specs.ItemAddresses.{is_of};
 ghost use Rattle.bridge_face.specs.State.{kept_item};
 
 use crate::KeptItem;
@@ -45,6 +46,16 @@ impl KeptMap {
         self.items.get(at)
     }
 
+    // The first address at or below that of an item of the model at which something is kept.
+    pub(crate) fn first_of(&self, at: &Address) -> Option<Address>
+        ensures { result ≡ find (is_of at.now) (finite.keys self.now) }
+    {
+        match self.items.range(*at..).next() {
+            Some((next, _)) => is_of(at, next).then_some(*next),
+            None => None,
+        }
+    }
+
     // Puts an item at an address, or hands it back.
     pub(crate) fn put(&mut self, at: Address, kept: KeptItem) -> Result<(), (KeptItem, Memory)>
         ensures ok { OnOk result (self.new ≡ finite.insert self.old at kept) }
@@ -80,4 +91,11 @@ impl KeptMap {
     {
         self.items.remove(at)
     }
+}
+
+// Whether an address is at or below that of an item of the model.
+fn is_of(item: &Address, at: &Address) -> bool
+    ensures { result ≡ is_of item.now at.now }
+{
+    Address::root(at.kind(), at.number()) == *item
 }
