@@ -51,7 +51,7 @@ impl KeptMap {
         ensures { result ≡ find (is_of at.now) (finite.keys self.now) }
     {
         match self.items.range(*at..).next() {
-            Some((next, _)) => is_of(at, next).then_some(*next),
+            Some((first, _)) => is_of(at, first).then_some(*first),
             None => None,
         }
     }

@@ -118,7 +118,7 @@ fn let_items_go<B: Bridge>(bridge: &mut B, items: &[Address])
 fn let_item_go<B: Bridge>(bridge: &mut B, at: &Address)
     ensures { IsReleased (at.now ∷ []) (B.state bridge.old) (B.state bridge.new) }
 {
-    while let Some(next) = bridge.first_of(at) {
-        drop(bridge.let_go(&next));
+    while let Some(first) = bridge.first_of(at) {
+        drop(bridge.let_go(&first));
     }
 }

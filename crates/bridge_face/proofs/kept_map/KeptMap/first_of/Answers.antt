@@ -7,7 +7,7 @@ pub returns-in-Some : goal.returns-in-Some
 returns-in-Some c =
     let at = c.args.at.now in
     c.then_some.ensures
-    ∙ ap (λ b. then_some b c.in-Some.next.now) c.is_of.ensures
+    ∙ ap (λ b. then_some b c.in-Some.first.now) c.is_of.ensures
     ∙ sym (first_is at c.args.self.now c.self.inside.items.entries c.range.result c.self.view_is
     c.range.ensures.ordered (c.range.ensures.between tt)
     ∙ ap (first_if at) c.in-Some.ensures.steps)
