@@ -1,6 +1,7 @@
 -- Of the addresses in a map the first of an item is the first from the item's own on, if it is of the item.
 use Rattle.std.specs.Prelude.{◌≡◌, ◌&&◌, Bool, true, false, cond, not, List, [], ◌∷◌, filter, find, Option, Some, None, refl}
 use Rattle.std.specs.BTreeMap.Range.{range_contains}
+use Rattle.std.specs.Bool.{then_some}
 use Rattle.std.specs.FinMap as finite
 use Rattle.std.specs.List.{AllByRecursion}
 use Rattle.std.specs.List.Sorted.{IsStrictlySortedBy}
@@ -21,6 +22,10 @@ use Rattle.bridge_face.proofs.ItemOrderLaws.{none_past, not_of}
 abbrev pub first_if : Address → List (Address × KeptItem) → Option Address
 first_if at [] = None
 first_if at (e ∷ es) = cond (is_of at e.0) (Some e.0) None
+
+pub if_so : (b : Bool) (v : Address) → then_some b v ≡ cond b (Some v) None
+if_so true v = refl
+if_so false v = refl
 
 -- whether an entry is at an address or past it
 abbrev pub is_from : Address → Address × KeptItem → Bool

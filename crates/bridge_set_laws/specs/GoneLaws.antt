@@ -1,6 +1,6 @@
 -- Bridges that hold the nodes of a bridging and release some of the user's items are left without
 -- exactly the nodes of these, and take at most a turn for each.
-use Rattle.std.specs.Prelude.{◌≡◌, ◌⊎◌, ◌≤◌, ◌+◌, ℕ, Bool, true, false, cond, List, [], ◌∷◌, All, Contains, length, map, Option, Some, None, refl}
+use Rattle.std.specs.Prelude.{◌≡◌, ◌⊎◌, ◌≤◌, ◌+◌, ℕ, Bool, true, false, cond, List, [], ◌∷◌, Contains, length, map, Option, Some, None, refl}
 use Rattle.std.specs.Cmp.{eq_by_cmp_equiv}
 use Rattle.std.specs.FinMap as finite
 use Rattle.std.specs.Map.{keys_of}

@@ -1,4 +1,4 @@
-use Rattle.std.proofs.Common.{[], ◌∷◌, ap, subst, sym, take, ◌∙◌}
+use Rattle.std.proofs.Common.{[], ◌∷◌, ◌++◌, ap, subst, sym, take, ◌∙◌}
 use Rattle.std.proofs.lemmas.List.{take_all, take_more}
 use Rattle.bridge_set.specs.Letting.{IsReleased}
 use Rattle.bridge_set.proofs.Releasing.{released_more, released_none}
