@@ -14,9 +14,9 @@ use Rattle.std.proofs.Common.{ap, sym, ◌∙◌}
 use Rattle.aff_core.specs.Address.{Address, address_cmp, address_total}
 use Rattle.map_laws.specs.MadeLaws.{entries_made}
 use Rattle.bridge_face.specs.ItemAddresses.{is_of}
+use Rattle.bridge_face.specs.ItemOrderLaws.{none_past, not_of}
 use Rattle.bridge_face.specs.State.{Kept}
 use Rattle.bridge_face.specs.declared.kept_item.KeptItem.{KeptItem}
-use Rattle.bridge_face.proofs.ItemOrderLaws.{none_past, not_of}
 
 -- the address of the first entry, if that is of the item
 abbrev pub first_if : Address → List (Address × KeptItem) → Option Address

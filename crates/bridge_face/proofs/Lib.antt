@@ -1,3 +1,2 @@
 mod KeptLemmas
-mod ItemOrderLaws
 mod FirstLemmas

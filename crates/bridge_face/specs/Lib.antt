@@ -16,4 +16,5 @@ pub mod SameRowLaws
 pub mod RowsLaws
 pub mod ObjectiveLaws
 pub mod ItemAddresses
+pub mod ItemOrderLaws
 pub mod WidthLaws

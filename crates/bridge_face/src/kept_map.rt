@@ -6,6 +6,7 @@ ghost use Rattle.bridge_face.specs.ItemAddresses.{is_of};
 ghost use Rattle.bridge_face.specs.State.{kept_item};
 
 use crate::KeptItem;
+use crate::item_addresses::is_of;
 use aff_core::Address;
 use item_core::Item;
 use lists::Memory;
@@ -91,11 +92,4 @@ impl KeptMap {
     {
         self.items.remove(at)
     }
-}
-
-// Whether an address is at or below that of an item of the model.
-fn is_of(item: &Address, at: &Address) -> bool
-    ensures { result ≡ is_of item.now at.now }
-{
-    Address::root(at.kind(), at.number()) == *item
 }
