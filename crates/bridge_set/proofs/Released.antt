@@ -63,6 +63,9 @@ released_to_all items old now n end h = record {
   turns = h.turns;
 }
 
+pub long_kept : (ss : List State) → length (kept_by ss) ≡ length ss
+long_kept ss = length-map {B = Family × Kept} ss (λ s. (s.family, s.kept))
+
 -- bridges that keep as much are of the same families
 families_kept : (ss : List State) → map (λ (k : Family × Kept). k.0) (kept_by ss) ≡ families_of ss
 families_kept [] = refl
@@ -109,7 +112,7 @@ module _ {B : Type 0} (state : B → State) (items : List Address) where
       through a b c h k = omega (arith, h, k)
 
       within : n < length (kept_by (map state old))
-      within = omega (arith, lt, long, length-map old state, length-map (map state old) pair)
+      within = omega (arith, lt, long, length-map old state, long_kept (map state old))
 
       as_told : pair (state after) ≡ without_found items (pair (state b))
       as_told = λ i. (released.family i, released.kept i)

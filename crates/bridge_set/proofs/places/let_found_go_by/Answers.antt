@@ -1,8 +1,7 @@
 use Rattle.std.proofs.Common.{arith, map, refl}
 use Rattle.std.specs.Prelude.{slice_index_or}
 use Rattle.std.proofs.lemmas.List.{length-map}
-use Rattle.bridge_face.specs.State.{State}
-use Rattle.bridge_set.proofs.Released.{next_released, released_to_all, released_to_none}
+use Rattle.bridge_set.proofs.Released.{long_kept, next_released, released_to_all, released_to_none}
 use Rattle.bridge_set.proofs.places.let_found_go_by.Goals as goal
 
 pub loop-bridge-init : goal.loop-bridge-init
@@ -26,7 +25,7 @@ returns g c =
     (omega (
       arith,
       length-map old state,
-      length-map (map state old) (λ (s : State). (s.family, s.kept)),
+      long_kept (map state old),
       c.loop-bridge-test.false,
       c.loop-bridge.auto.bridges,
     )) c.loop-bridge.invariant
