@@ -13,7 +13,7 @@ use Rattle.map_laws.specs.PairLaws.{AllPairs-head, AllPairs-nil, AllPairs-second
 use Rattle.address_map.specs.Places.{from_on}
 use Rattle.aff_core.specs.Address.{Address, address_cmp, address_total}
 use Rattle.item_leaves.specs.ItemLeaves.{AreFrom, is_of, those_of}
-use Rattle.item_leaves.proofs.OrderLaws.{none_past, not_of}
+use Rattle.bridge_face.specs.ItemOrderLaws.{none_past, not_of}
 
 abbrev IsBefore : Address → Address → Type 0
 IsBefore a b = address_cmp a b ≡ Less

@@ -1,10 +1,11 @@
 //! Runs of the map's order.
 ghost use Rattle.std.specs.Prelude.{◌≡◌, ◌++◌, OnOk, map};
 ghost use Rattle.address_map.specs.Places.{addresses};
-ghost use Rattle.item_leaves.specs.ItemLeaves.{AreFrom, is_of, those_of};
+ghost use Rattle.item_leaves.specs.ItemLeaves.{AreFrom, those_of};
 
 use address_map::{AddressMap, Items};
 use aff_core::Address;
+use bridge_face::is_of;
 use lists::{Memory, Sequence};
 
 /// Lists the leaf rows at and below the address of a user's item, in the order of their addresses.
@@ -51,11 +52,4 @@ fn list_first(
         }
     }
     Ok(())
-}
-
-// Whether an address is at or below that of a user's item.
-fn is_of(item: &Address, at: &Address) -> bool
-    ensures { result ≡ is_of item.now at.now }
-{
-    Address::root(at.kind(), at.number()) == *item
 }

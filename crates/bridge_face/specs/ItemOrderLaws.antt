@@ -7,7 +7,7 @@ use Rattle.std.specs.Ordering.{is_lt, nat_cmp, ordering_then}
 use Rattle.std.specs.declared.cmp.Ordering.{Ordering}
 use Rattle.std.specs.declared.cmp.Ordering.TheVariants.{Less, Equal, Greater}
 use Rattle.aff_core.specs.Address.{Address, address_cmp, address_eq-Decides, exact_addresses, root_number}
-use Rattle.item_leaves.specs.ItemLeaves.{is_of, item_of}
+use Rattle.bridge_face.specs.ItemAddresses.{is_of, item_of}
 
 -- ---- of three comparisons in turn, the first two
 

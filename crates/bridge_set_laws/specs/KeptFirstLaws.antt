@@ -1,40 +1,33 @@
--- What the bridges tell of the nodes that they keep is enough for the walk: it lists what is to be let
--- go, and takes no turn.
-use Rattle.std.specs.Prelude.{slice_index_or, ◌≡◌, ◌≤◌, ℕ, Bool, true, false, cond, ◌||◌, List, [], ◌∷◌, All, flat_map, Option, Some, None, refl}
-use Rattle.std.proofs.Common.{arith, sym, ap, ap₂, subst, ◌∙◌, true≢false}
+-- What the first bridge keeps at an address is what stands there, of bridges that hold the nodes of a
+-- bridging.
+use Rattle.std.specs.Prelude.{◌≡◌, ℕ, Bool, true, false, cond, ◌||◌, List, [], ◌∷◌, All, Option, Some, None, slice_index_or, refl}
+use Rattle.std.proofs.Common.{sym, ap, ap₂, subst, ◌∙◌, true≢false}
 use Rattle.std.specs.BTreeMap.{is_at}
 use Rattle.std.specs.FinMap as finite
 use Rattle.std.specs.List.{list_any}
-use Rattle.std.specs.Map.{keys_of}
 use Rattle.std.specs.Option.{option_map, option_or}
 use Rattle.std.proofs.lemmas.List.Elements.{All-head, All-tail}
 use Rattle.std.proofs.lemmas.Option.{none-some, same_Some}
 use Rattle.aff_core.specs.Address.{Address, address_cmp, address_total}
-use Rattle.bridge_face.specs.State.{State, child_rows_of, found}
+use Rattle.bridge_face.specs.State.{State}
 use Rattle.bridge_face.specs.declared.kept_item.KeptItem.{KeptItem}
 use Rattle.bridge_plan.specs.Adds.{kept_of}
-use Rattle.bridge_set.specs.Bridges.{families_of}
+use Rattle.bridge_set.specs.Bridges.{families_of, kept_first}
 use Rattle.bridge_set.specs.Nodes.{HoldNodes, nodes_by}
 use Rattle.expansion.specs.Read.{model_nodes}
 use Rattle.fresh_bridging.specs.FreshBridging.{FreshBridging, nodes_of}
 use Rattle.fresh_bridging.specs.TableLaws.{and_second}
 use Rattle.fresh_bridging.specs.TheRules.{Setting, edge_at, family_number}
-use Rattle.fresh_bridging.specs.Touched.{item_at}
 use Rattle.item_core.specs.Edge.{family_eq, family_of}
 use Rattle.item_core.specs.declared.item.Item.{Item}
 use Rattle.map_laws.specs.MadeLaws.{get_made}
 use Rattle.tree_laws.specs.LeafLaws.{IsNode}
 use Rattle.user_model.specs.Model.{ModelValue}
-use Rattle.item_core.specs.Kind.{kind_count}
 use Rattle.bridge_set_laws.specs.FamilyLaws.{family_kept, family_part}
-use Rattle.bridge_set_laws.specs.ItemWalkLaws.{old_nodes, places_now}
-use Rattle.bridge_set_laws.specs.WalkLaws.{node_places}
-use Rattle.bridge_set.specs.Walk.{bridge_places, kept_first, nodes_below, places_of, walk}
-use Rattle.local_laws.specs.Held.{held_by}
 use Rattle.local_laws.specs.Sound.{IsValidUnder}
-use Rattle.local_laws.specs.Views.{by_address, look, of_nodes}
+use Rattle.local_laws.specs.Views.{by_address, look}
 
-pub looked_has : (P : ℕ × Item → Type 0) (v : Address) (ns : List (ℕ × Item)) → All P ns → (n : ℕ × Item)
+looked_has : (P : ℕ × Item → Type 0) (v : Address) (ns : List (ℕ × Item)) → All P ns → (n : ℕ × Item)
     → look v (by_address ns) ≡ Some n → P n
 looked_has P v [] h n e = absurd (none-some n e)
 looked_has P v (m ∷ ms) h n e =
@@ -100,29 +93,3 @@ module _ {setting : Setting} {model : ModelValue} (sound : IsValidUnder setting 
             ∙ and_second
             (slice_index_or setting.table.on (family_number (family_of (edge_at n.0))) false)
             (list_any (family_eq (family_of (edge_at n.0))) setting.families) is_node.usable)
-
-    pub same_places : (v : Address) → bridge_places states v ≡ places_now sound bridging v
-    same_places v =
-        ap (option_map (λ (k : KeptItem). places_of (child_rows_of k.edge k.item))) (kept_found v)
-        ∙ twice (finite.get (nodes_of bridging) v)
-      where
-        twice : (o : Option (ℕ × Item))
-            → option_map (λ (k : KeptItem). places_of (child_rows_of k.edge k.item))
-            (option_map kept_of o)
-            ≡ option_map node_places o
-        twice None = refl
-        twice (Some n) = refl
-
-    -- walks by what the bridges tell list exactly the nodes of the items that are found
-    pub bridges_walked : (fuel : ℕ) → kind_count ≤ fuel → (found : List Address)
-        → All (λ at. (x : Item) × (item_at model at ≡ Some x)) found
-        → flat_map (walk (bridge_places states) fuel) found ≡ keys_of (held_by bridging of_nodes found)
-    bridges_walked fuel deep found h =
-        ap (λ (p : Address → Option ℕ). flat_map (walk p fuel) found) (λ i v. same_places v i)
-        ∙ old_nodes sound bridging fuel deep found h
-
-    -- so the bridges' own list is what is to be released
-    pub nodes_listed : (found : List Address)
-        → All (λ at. (x : Item) × (item_at model at ≡ Some x)) found
-        → flat_map (nodes_below states) found ≡ keys_of (held_by bridging of_nodes found)
-    nodes_listed found h = bridges_walked kind_count (omega arith) found h
