@@ -29,7 +29,7 @@ use std::marker::Model;
 #[derive(Drop)]
 pub struct Listing<'a> {
     solver: &'a SolverModel,
-    map: &'a AddressMap,
+    places: &'a AddressMap,
     variables: Vec<Variable>,
     rows: Vec<Row<'a>>,
 }
@@ -44,10 +44,10 @@ impl<'a> Model for Listing<'a> {
 
     ghost coded = { listed_code };
 
-    ghost view = { λ a. listed a.map.now a.solver.now.leaves };
+    ghost view = { λ a. listed a.places.now a.solver.now.leaves };
 
-    ghost invariant = { λ a. (a.variables.items ≡ variables_of a.map.now a.solver.now.leaves)
-        × (map row_in a.rows.items ≡ rows_of a.map.now a.solver.now.leaves) };
+    ghost invariant = { λ a. (a.variables.items ≡ variables_of a.places.now a.solver.now.leaves)
+        × (map row_in a.rows.items ≡ rows_of a.places.now a.solver.now.leaves) };
 }
 
 impl<'a> Listing<'a> {
@@ -63,7 +63,7 @@ impl<'a> Listing<'a> {
         let rows = rows(alloc, solver, map)?;
         Ok(Listing {
             solver,
-            map,
+            places: map,
             variables,
             rows,
         })
@@ -77,7 +77,7 @@ impl<'a> Listing<'a> {
         ensures well_shaped { IfOk result IsWellShaped }
     {
         // what this ensures of the map
-        let _one_to_one = self.map.var_at(0);
+        let _one_to_one = self.places.var_at(0);
         form_by_index(alloc, &self.variables, &self.rows, self.solver.objective())
     }
 
@@ -99,8 +99,8 @@ impl<'a> Listing<'a> {
             (answer_of self.now.map answer)) }
     {
         // what these ensure of the map
-        let _variables = self.map.var_at(0);
-        let _rows = self.map.row_at(0);
+        let _variables = self.places.var_at(0);
+        let _rows = self.places.row_at(0);
         read_by_index(alloc, &self.variables, &self.rows, form, a)
     }
 }
