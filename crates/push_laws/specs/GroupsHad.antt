@@ -9,7 +9,6 @@ use Rattle.address_map.specs.Noted.{noted_items}
 use Rattle.aff_core.specs.Address.{Address, address_eq-Decides, root_address}
 use Rattle.aff_core.specs.declared.root.Root.TheVariants as root
 use Rattle.bridge_face.specs.Law.{inner_of}
-use Rattle.bridge_set.specs.Walk.{IsRoot}
 use Rattle.push_laws.specs.Edits.{AreGroupsAt, AttachedEdit, IsSearch, old_here, setting_here, sound_before, sound_behind}
 use Rattle.push_laws.specs.GivenLaws.{IsGivenAt, before_given, given_found, groups_had, index_here}
 use Rattle.found_plan.specs.Stood.{old_leaves}
@@ -47,7 +46,7 @@ use Rattle.user_model.specs.declared.row.Row.{Row}
 -- ---- each item stands at a root that is no variable
 
 abbrev pub IsItemRoot : Address → Type 0
-IsItemRoot at = IsRoot at × (¬ (at.root ≡ root.Variable))
+IsItemRoot at = (at.positions ≡ []) × (¬ (at.root ≡ root.Variable))
 
 each_rooted : {X : Type 0} (f : X → Address) → ((x : X) → IsItemRoot (f x)) → (xs : List X)
     → All IsItemRoot (map f xs)
@@ -161,9 +160,6 @@ module _ (e : AttachedEdit) (changed addresses : List Address) (rows : List Row)
       by at (inr k) =
           let m = (index_here e k.0 at).0 k.2 in
           item_rooted e.model at m.0 m.1
-
-  pub all_roots : All IsRoot addresses
-  all_roots = All-weaker IsItemRoot IsRoot (λ at h. h.0) addresses rooted
 
   are_groups : (new : FreshBridging (setting_here e) e.after)
       (apart : AllPairs (λ a b. ¬ (b ≡ a)) addresses)
