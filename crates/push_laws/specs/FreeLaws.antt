@@ -90,7 +90,7 @@ module _ {setting next : Setting} {model after : ModelValue} (sound : IsValidUnd
   each_bridge v some (s ∷ states) hold =
       All-cons (λ (k : Family × Kept). finite.get k.1 v ≡ None)
       (without_each had (s.family, s.kept)) (map (without_each had) (kept_by states))
-      (ap (λ m. finite.get (without_all m had) v)
+      (ap (λ (m : Kept). finite.get (without_all m had) v)
       (All-head (λ (s : State). s.kept ≡ nodes_by old s.family) s states hold)
       ∙ free_there s.family v some)
       (each_bridge v some states
