@@ -1,5 +1,6 @@
 pub mod AroundLaws
 pub mod GapLaws
+pub mod ItemLaws
 pub mod InverseLaws
 pub mod RoomLaws
 pub mod NotedLaws

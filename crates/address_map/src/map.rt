@@ -5,6 +5,7 @@ ghost use Rattle.std.specs.Option.{option_copied};
 ghost use Rattle.address_map.specs.Noted.{IsNotedAt, noted_in, with_item, without_item};
 ghost use Rattle.address_map.specs.Places.{IsAddressAt, IsFree, IsOneToOne, addresses, from_on};
 
+use crate::items::Items;
 use crate::notes::{AddressSet, Notes};
 use crate::ordered::Ordered;
 use crate::places::Places;
@@ -21,8 +22,9 @@ use std::marker::Model;
 /// Contracts see finite maps from addresses, and beside those of the leaves how many can still be
 /// put without memory. A look-up by index is a few probes of a table. Leaves are kept in the order
 /// of their addresses, in balanced trees: one is put, dropped and looked up by its address in
-/// logarithmic time, and so is the n-th. Besides, it is noted which items mention a variable, and
-/// which variables are kept.
+/// logarithmic time, and so is the n-th. `vars` and `rows` give all leaves with their indices, so
+/// that none of them is looked up. Besides, it is noted which items mention a variable, and which
+/// variables are kept.
 #[derive(Debug, Drop)]
 pub struct AddressMap {
     vars: Places,
@@ -237,6 +239,34 @@ impl AddressMap {
         ensures { result ≡ length (addresses self.now.rows.indices) }
     {
         self.rows.len()
+    }
+
+    /// The leaf variables in the order of their addresses, each with its index.
+    pub fn vars(&self) -> Items<'_, (Address, usize)>
+        ensures { result ≡ finite.entries self.now.vars.indices }
+    {
+        self.vars.iter_from(0)
+    }
+
+    /// The leaf variables from a place on, such as that of `var_place`.
+    pub fn vars_from(&self, place: usize) -> Items<'_, (Address, usize)>
+        ensures { result ≡ drop place (finite.entries self.now.vars.indices) }
+    {
+        self.vars.iter_from(place)
+    }
+
+    /// The leaf rows in the order of their addresses, each with its index.
+    pub fn rows(&self) -> Items<'_, (Address, usize)>
+        ensures { result ≡ finite.entries self.now.rows.indices }
+    {
+        self.rows.iter_from(0)
+    }
+
+    /// The leaf rows from a place on, such as that of `row_place`.
+    pub fn rows_from(&self, place: usize) -> Items<'_, (Address, usize)>
+        ensures { result ≡ drop place (finite.entries self.now.rows.indices) }
+    {
+        self.rows.iter_from(place)
     }
 
     /// The leaf variable at a place in the order of addresses, and `None` past the last.

@@ -5,6 +5,7 @@ ghost use Rattle.std.specs.Option.{option_copied};
 ghost use Rattle.address_map.specs.KeptPlaces.{IsGapFor, IsPlaceOf};
 ghost use Rattle.address_map.specs.Places.{from_on};
 
+use crate::items::Items;
 use crate::ranked::{Fork, Ranked};
 use aff_core::Address;
 use std::marker::Model;
@@ -54,6 +55,20 @@ impl<V> Ordered<V> {
         ensures { option_copied result ≡ finite.get self.now at.now }
     {
         self.entries.find(at)
+    }
+
+    /// The addresses in their order, each with its value.
+    pub fn iter(&self) -> Items<'_, (Address, V)>
+        ensures { result ≡ finite.entries self.now }
+    {
+        self.iter_from(0)
+    }
+
+    /// The same from a place on.
+    pub fn iter_from(&self, place: usize) -> Items<'_, (Address, V)>
+        ensures { result ≡ drop place (finite.entries self.now) }
+    {
+        Items::starting_at(&self.entries, place)
     }
 
     /// The address at a place in the order of addresses, and `None` past the last.

@@ -3,6 +3,7 @@ ghost use Rattle.std.specs.Prelude.{◌≡◌, ◌+◌, ◌<◌, ◌≤◌, None
 ghost use Rattle.std.specs.FinMap as finite;
 ghost use Rattle.address_map.specs.Places.{IsAddressAt, IsFree, IsOneToOne, addresses, from_on};
 
+use crate::items::Items;
 use crate::reserved::Reserved;
 use aff_core::Address;
 use indexmap::IndexMap;
@@ -106,6 +107,13 @@ impl Places {
         ensures { result ≡ length (addresses self.now.indices) }
     {
         self.ordered.len()
+    }
+
+    /// The addresses from a place on, in their order, each with its index.
+    pub fn iter_from(&self, place: usize) -> Items<'_, (Address, usize)>
+        ensures { result ≡ drop place (finite.entries self.now.indices) }
+    {
+        self.ordered.iter_from(place)
     }
 
     /// The address at a place in the order of addresses, and `None` past the last.

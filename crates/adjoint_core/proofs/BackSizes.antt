@@ -31,7 +31,7 @@ use Rattle.bridge_face.specs.ImageOf.{differences, image_by, inner, inner_functi
 use Rattle.bridge_face.specs.Images.{affine, children_from, component_of, difference, each_component, first_in, lower_part, rest_of, upper_part, with_set}
 use Rattle.bridge_face.specs.FamilyLaws.{length-tail}
 use Rattle.bridge_face.specs.OneRowLaws.{IsRow}
-use Rattle.bridge_set.specs.WidthLaws.{few_rows as fewer_rows}
+use Rattle.bridge_face.specs.WidthLaws.{few_rows as fewer_rows}
 use Rattle.address_laws.specs.ClassLaws.{class_of_family}
 
 -- ---- rows of numbers alone, by their kinds

@@ -1,14 +1,14 @@
 -- The numbers of the leaf variables, as a point.
-use Rattle.std.specs.Prelude.{◌≡◌, ◌+◌, ℕ, Bool, true, false, cond, List, [], ◌∷◌, ◌++◌, Some, None, map, slice_get, take, unwrap_or, refl}
+use Rattle.std.specs.Prelude.{◌≡◌, ℕ, Bool, true, false, cond, List, [], ◌∷◌, ◌++◌, All, Some, None, map, unwrap_or, refl}
 use Rattle.std.specs.FinMap as finite
 use Rattle.std.specs.FinMap.{FinMap}
 use Rattle.std.specs.FinMap.Entries.{find}
 use Rattle.std.specs.Option.{option_map_or}
 use Rattle.std.specs.Ordering.{nat_cmp}
 use Rattle.std.specs.declared.cmp.Ordering.TheVariants.{Less}
-use Rattle.std.proofs.Common.{ap, sym, ◌∙◌}
-use Rattle.std.proofs.lemmas.List.{take_more}
-use Rattle.std.proofs.lemmas.Option.{get_or_from_slice_get, slice_get_within}
+use Rattle.std.proofs.Common.{ap, ap₂, sym, ◌∙◌}
+use Rattle.std.proofs.lemmas.List.{append-nil, append_assoc}
+use Rattle.std.proofs.lemmas.List.Elements.{All-head, All-tail}
 use Rattle.map_laws.specs.EntryLaws.{key_less}
 use Rattle.map_laws.specs.PairLaws.{AllPairs-map}
 use Rattle.ratio_core.specs.Rational.{Rational, zero_ℚ}
@@ -17,6 +17,7 @@ use Rattle.address_map.specs.Places.{Indices}
 use Rattle.cert_core.specs.Variables.{Ascend}
 use Rattle.aff_core.specs.Address.{Address, address_cmp, address_eq, address_eq-Decides, address_total}
 use Rattle.aff_core.specs.Points.{spread}
+use Rattle.std_form.specs.NameLaws.{IsEntry, entries_found}
 use Rattle.adjoint_core.specs.Read.{numbers_by}
 
 -- numbers that are 0 at an address that no entry is of, spread over the entries' addresses
@@ -34,7 +35,7 @@ spread_found x (e ∷ es) v none = by (address_eq v e.0) refl (spread_found x es
     by false other rest =
         rest (λ k. none (ap (λ b. cond b (Some e.1) (find address_cmp v es)) other ∙ k))
 
-pub spread_numbers : (places : AddressMap) (x : FinMap nat_cmp Rational)
+spread_numbers : (places : AddressMap) (x : FinMap nat_cmp Rational)
     → spread (finite.keys places.vars.indices)
     (map (numbers_by places x) (finite.keys places.vars.indices))
     ≡ numbers_by places x
@@ -47,14 +48,42 @@ spread_numbers places x =
         ap (λ o. option_map_or (λ i. unwrap_or (finite.get x i) zero_ℚ) o zero_ℚ)
         (finite.get-entries places.vars.indices v ∙ is)
 
--- ---- the addresses of a map
+-- the number at an entry's index
+abbrev pub number_at : FinMap nat_cmp Rational → Address × ℕ → Rational
+number_at x e = unwrap_or (finite.get x e.1) zero_ℚ
 
--- one more of a list
-pub take_there : {X : Type 0} (xs : List X) (n : ℕ) (x : X) → slice_get xs n ≡ Some x
-    → take (n + 1) xs ≡ take n xs ++ x ∷ []
-take_there xs n x is =
-    take_more xs n x (slice_get_within xs n x is)
-    ∙ ap (λ y. take n xs ++ y ∷ []) (get_or_from_slice_get xs n x x is)
+read_by : (places : AddressMap) (x : FinMap nat_cmp Rational) (es : List (Address × ℕ))
+    → All (IsEntry places.vars.indices) es
+    → map (number_at x) es ≡ map (numbers_by places x) (map (λ e. e.0) es)
+read_by places x [] h = refl
+read_by places x (e ∷ es) h =
+    ap₂ ◌∷◌ (sym (ap (λ o. option_map_or (λ i. unwrap_or (finite.get x i) zero_ℚ) o zero_ℚ)
+    (All-head (IsEntry places.vars.indices) e es h)))
+    (read_by places x es (All-tail (IsEntry places.vars.indices) e es h))
+
+-- those of all entries, spread over the entries' addresses
+pub spread_entries : (places : AddressMap) (x : FinMap nat_cmp Rational)
+    → spread (finite.keys places.vars.indices)
+    (map (number_at x) (finite.entries places.vars.indices))
+    ≡ numbers_by places x
+spread_entries places x =
+    ap (spread (finite.keys places.vars.indices))
+    (read_by places x (finite.entries places.vars.indices) (entries_found places.vars.indices))
+    ∙ spread_numbers places x
+
+-- ---- what is made of each entry, in their order
+
+module _ {X Y : Type 0} (f : X → Y) where
+  pub made_next : (left rest : List X) (x : X) (old new all : List Y) → left ≡ x ∷ rest
+      → old ++ map f left ≡ all → new ≡ old ++ f x ∷ [] → new ++ map f rest ≡ all
+  made_next left rest x old new all next so_far pushed =
+      ap (λ ys. ys ++ map f rest) pushed ∙ append_assoc old (f x ∷ []) (map f rest)
+      ∙ ap (λ xs. old ++ map f xs) (sym next) ∙ so_far
+
+  pub made_all : (left : List X) (made all : List Y) → left ≡ [] → made ++ map f left ≡ all
+      → made ≡ all
+  made_all left made all none so_far =
+      sym (append-nil made) ∙ ap (λ xs. made ++ map f xs) (sym none) ∙ so_far
 
 abbrev IsBelow : Address → Address → Type 0
 IsBelow u w = address_cmp u w ≡ Less

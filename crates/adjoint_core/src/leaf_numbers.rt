@@ -1,12 +1,12 @@
 //! The numbers of the leaf variables, by their addresses.
-ghost use Rattle.std.specs.Prelude.{◌≡◌, IfOk, map};
+ghost use Rattle.std.specs.Prelude.{◌≡◌, IfOk, unwrap_or};
 ghost use Rattle.std.specs.FinMap as finite;
+ghost use Rattle.ratio_core.specs.Rational.{zero_ℚ};
 ghost use Rattle.aff_core.specs.Points.{spread};
 ghost use Rattle.cert_core.specs.Points.{numbers_in};
 ghost use Rattle.adjoint_core.specs.Read.{numbers_by};
 
 use address_map::AddressMap;
-use aff_core::Address;
 use cert_core::{Point, Variables};
 use lists::Memory;
 use ratio_core::Ratio;
@@ -29,8 +29,12 @@ impl LeafNumbers {
         ensures { IfOk result (λ leaf.
             spread leaf.variables leaf.numbers.items ≡ numbers_by places.now x.now) }
     {
-        let addresses = leaf_addresses(alloc, places)?;
-        let numbers = numbers(alloc, places, x, &addresses)?;
+        let mut addresses = Vec::with_capacity(alloc, places.var_count())?;
+        let mut numbers = Vec::with_capacity(alloc, places.var_count())?;
+        for entry in places.vars() {
+            addresses.push(entry.0)?;
+            numbers.push(number(x, entry.1))?;
+        }
         Ok(LeafNumbers {
             variables: Variables::ascending(addresses),
             numbers,
@@ -44,41 +48,10 @@ impl LeafNumbers {
     }
 }
 
-fn leaf_addresses(alloc: Global, places: &AddressMap) -> Result<Vec<Address>, Memory>
-    ensures { IfOk result (λ v. v.items ≡ finite.keys places.now.vars.indices) }
+// The number at an index.
+fn number(x: &LeafPoint, i: usize) -> Ratio
+    ensures { result ≡ unwrap_or (finite.get x.now i) zero_ℚ }
 {
-    let mut addresses = Vec::with_capacity(alloc, places.var_count())?;
-    for n in 0..places.var_count() {
-        let Some(at) = places.nth_var(n) else {
-            unreachable!()
-        };
-        addresses.push(at)?;
-    }
-    Ok(addresses)
-}
-
-fn numbers(
-    alloc: Global,
-    places: &AddressMap,
-    x: &LeafPoint,
-    addresses: &[Address],
-) -> Result<Vec<Ratio>, Memory>
-    ensures { IfOk result (λ v. v.items ≡ map (numbers_by places.now x.now) addresses.now) }
-{
-    Ok(
-        addresses
-            .iter()
-            .map(|at| number(places, x, at))
-            .collect(alloc)?,
-    )
-}
-
-fn number(places: &AddressMap, x: &LeafPoint, at: &Address) -> Ratio
-    ensures { result ≡ numbers_by places.now x.now at.now }
-{
-    let Some(i) = places.var_index(at) else {
-        return Ratio::zero();
-    };
     match x.get(i) {
         Some(number) => *number,
         None => Ratio::zero(),

@@ -119,6 +119,10 @@ impl Bridge for AnyBridge {
         call!(self, bridge => bridge.let_all_go())
     }
 
+    fn first_of(&self, at: &Address) -> Option<Address> {
+        call!(self, bridge => bridge.first_of(at))
+    }
+
     fn child_rows(&self, at: &Address) -> Option<ChildRows> {
         call!(self, bridge => bridge.child_rows(at))
     }

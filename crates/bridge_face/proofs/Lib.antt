@@ -1,1 +1,2 @@
-pub mod KeptLemmas
+mod KeptLemmas
+mod FirstLemmas

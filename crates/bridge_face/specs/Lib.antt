@@ -15,3 +15,6 @@ pub mod GroupAndRowLaws
 pub mod SameRowLaws
 pub mod RowsLaws
 pub mod ObjectiveLaws
+pub mod ItemAddresses
+pub mod ItemOrderLaws
+pub mod WidthLaws

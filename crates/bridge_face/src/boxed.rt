@@ -37,6 +37,10 @@ impl Bridge for Box<dyn Bridge> {
         (**self).let_all_go()
     }
 
+    fn first_of(&self, at: &Address) -> Option<Address> {
+        (**self).first_of(at)
+    }
+
     fn child_rows(&self, at: &Address) -> Option<ChildRows> {
         (**self).child_rows(at)
     }

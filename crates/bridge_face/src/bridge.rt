@@ -1,9 +1,11 @@
 //! The interface of bridges.
-ghost use Rattle.std.specs.Prelude.{◌≡◌, None, IfErr, IfSome, IsSomeAnd, OnErr, OnOk};
+ghost use Rattle.std.specs.Prelude.{◌≡◌, None, IfErr, IfSome, IsSomeAnd, OnErr, OnOk, find};
+ghost use Rattle.std.specs.FinMap as finite;
 ghost use Rattle.std.specs.Option.{option_map};
 ghost use Rattle.ratio_core.specs.Answers.{ExactWhere};
 ghost use Rattle.item_core.specs.Edge.{family_of};
 ghost use Rattle.bridge_face.specs.ImageOf.{image_of, ImageFits};
+ghost use Rattle.bridge_face.specs.ItemAddresses.{is_of};
 ghost use Rattle.bridge_face.specs.Law.{IsItemFor, IsLawful};
 ghost use Rattle.bridge_face.specs.State.{IsDualOf, TakesDuals, all_gone, child_rows_of, found, given, gone};
 ghost use Rattle.bridge_face.specs.State.{kept_item, tried};
@@ -66,6 +68,11 @@ pub trait Bridge: Drop {
     /// Takes out all items.
     fn let_all_go(&mut self)
         ensures { state self.new ≡ all_gone (state self.old) };
+
+    /// The first of the addresses at and below that of an item of the model at which something is
+    /// kept; `None` exactly where there is none.
+    fn first_of(&self, at: &Address) -> Option<Address>
+        ensures { result ≡ find (is_of at.now) (finite.keys (state self.now).kept) };
 
     /// Where the child rows of an item stand; `None` exactly where nothing is kept at the address.
     fn child_rows(&self, at: &Address) -> Option<ChildRows>

@@ -96,6 +96,10 @@ impl<F: Rewriting> Bridge for KeptItems<F> {
         self.kept = KeptMap::new(self.alloc);
     }
 
+    fn first_of(&self, at: &Address) -> Option<Address> {
+        self.kept.first_of(at)
+    }
+
     fn child_rows(&self, at: &Address) -> Option<ChildRows> {
         let Some(kept) = self.kept.get(at) else {
             return None;

@@ -1,10 +1,12 @@
 //! Items with their edges, by address.
-ghost use Rattle.std.specs.Prelude.{◌≡◌, IfErr, IfSome, IsSome, OnErr, OnOk};
+ghost use Rattle.std.specs.Prelude.{◌≡◌, IfErr, IfSome, IsSome, OnErr, OnOk, find};
 ghost use Rattle.std.specs.Option.{option_copied};
 ghost use Rattle.std.specs.FinMap as finite;
+ghost use Rattle.bridge_face.specs.ItemAddresses.{is_of};
 ghost use Rattle.bridge_face.specs.State.{kept_item};
 
 use crate::KeptItem;
+use crate::item_addresses::is_of;
 use aff_core::Address;
 use item_core::Item;
 use lists::Memory;
@@ -43,6 +45,16 @@ impl KeptMap {
         ensures { option_copied result ≡ finite.get self.now at.now }
     {
         self.items.get(at)
+    }
+
+    // The first address at or below that of an item of the model at which something is kept.
+    pub(crate) fn first_of(&self, at: &Address) -> Option<Address>
+        ensures { result ≡ find (is_of at.now) (finite.keys self.now) }
+    {
+        match self.items.range(*at..).next() {
+            Some((first, _)) => is_of(at, first).then_some(*first),
+            None => None,
+        }
     }
 
     // Puts an item at an address, or hands it back.

@@ -2,9 +2,9 @@ mod Families
 mod Fitting
 mod Choices
 mod TurnSteps
-mod LettingSteps
 mod AddingSteps
 mod Stands
 mod Keeping
 mod Made
-mod WalkSteps
+mod Releasing
+mod Released

@@ -1,7 +1,7 @@
 -- What a change at a place leaves.
-use Rattle.std.specs.Prelude.{Option, None, IsSome, is_some, refl, ◌≡◌, ◌⊎◌, ◌+◌, ◌<◌, ◌≤◌, ℕ, zero, suc, Bool, true, false, List, [], ◌∷◌, Some, drop, map, length, option_map, slice_get, slice_set, slice_index_or}
+use Rattle.std.specs.Prelude.{◌≡◌, ◌⊎◌, ◌+◌, ◌<◌, ◌≤◌, ℕ, zero, suc, Bool, true, false, List, [], ◌∷◌, Some, drop, map, length, option_map, slice_get, slice_set, slice_index_or}
 use Rattle.std.specs.List.{list_any}
-use Rattle.std.proofs.Common.{true≢false, arith, inl, inr, sym, ap, subst, ◌∙◌}
+use Rattle.std.proofs.Common.{arith, inl, inr, sym, ap, subst, ◌∙◌}
 use Rattle.std.proofs.Math.Seq.{map-set_same}
 use Rattle.std.proofs.lemmas.List.{drop_all, length-map, map-set}
 use Rattle.std.proofs.lemmas.Option.{get_or_from_slice_get, slice_get-get_or, slice_get-map}
@@ -10,12 +10,9 @@ use Rattle.fresh_bridging.specs.TableLaws.{equal_family}
 use Rattle.item_core.specs.declared.family.Family.{Family}
 use Rattle.item_core.specs.Edge.{family_eq}
 use Rattle.bridge_face.specs.Law.{IsLawful}
-use Rattle.bridge_face.specs.State.{State, all_gone, found, gone}
+use Rattle.bridge_face.specs.State.{State, all_gone}
 use Rattle.map_laws.specs.LoopLaws.{IsPast, any_found, past_more}
-use Rattle.aff_core.specs.Address.{Address}
-use Rattle.std.proofs.lemmas.List.Elements.{All-map}
 use Rattle.bridge_set.specs.Bridges.{IsChangedFor, families_of}
-use Rattle.bridge_set.specs.Letting.{LetsGo, one, nowhere}
 use Rattle.bridge_set.proofs.Families.{any_map}
 
 -- what f doesn't tell from what was there stays
@@ -105,29 +102,3 @@ module _ {B : Type 0} (state : B → State) where
       subst (λ ss. IsPast all_gone (map state old) ss (n + 1)) (sym (map-set state now n after))
       (past_more all_gone (map state old) (map state now) n (state b) (state after) here so_far
       (gone ∙ ap all_gone (sym there)))
-
--- ---- what is kept at an address goes
-
-pub mapped_some : {A C : Type 0} (f : A → C) (o : Option A) (r : Option C) (b : Bool)
-    → r ≡ option_map f o → b ≡ is_some r → b ≡ true → IsSome o
-mapped_some f None r b e is t = absurd (true≢false (sym t ∙ is ∙ ap is_some e))
-mapped_some f (Some x) r b e is t = refl
-
-pub mapped_none : {A C : Type 0} (f : A → C) (o : Option A) (r : Option C) (b : Bool)
-    → r ≡ option_map f o → b ≡ is_some r → b ≡ false → o ≡ None
-mapped_none f None r b e is t = refl
-mapped_none f (Some x) r b e is t = absurd (true≢false (sym (is ∙ ap is_some e) ∙ t))
-
-module _ {B : Type 0} (state : B → State) (at : Address) where
-  pub lets_go_here : (bs : List B) (n : ℕ) (b d after : B) → n < length bs → b ≡ slice_index_or bs n d
-      → IsSome (found (state b) at) → state after ≡ gone (state b) at
-      → LetsGo at (map state bs) (map state (slice_set bs n after))
-  lets_go_here bs n b d after lt e some is =
-      one n (state b) (state_at state bs n b d lt e) some
-      (map-set state bs n after ∙ ap (λ s. slice_set (map state bs) n s) is)
-
-  pub lets_go_nowhere : (bs : List B)
-      → ((j : ℕ) (d : B) → j < length bs → found (state (slice_index_or bs j d)) at ≡ None)
-      → LetsGo at (map state bs) (map state bs)
-  lets_go_nowhere bs h =
-      nowhere (All-map (λ s. found s at ≡ None) state bs (λ k d lt. h k d lt)) refl

@@ -1,8 +1,9 @@
 -- What contracts see of bridges: the table, the choices, and the state of each bridge.
-use Rattle.std.specs.Prelude.{◌≡◌, ℕ, Bool, true, ◌&&◌, not, cond, List, [], ◌∷◌, Some, None, All, filter, map, slice_get, slice_set, slice_index_or, refl}
+use Rattle.std.specs.Prelude.{◌≡◌, ℕ, Bool, true, ◌&&◌, not, cond, List, [], ◌∷◌, Option, Some, None, All, filter, map, slice_get, slice_set, slice_index_or, refl}
 use Rattle.std.specs.Coded.{Coded, code_by, coded×, coded_list, coded_ℕ}
 use Rattle.std.specs.FinMap as finite
 use Rattle.std.specs.List.{list_any}
+use Rattle.std.specs.Option.{option_or}
 use Rattle.aff_core.specs.Address.{Address, address_cmp}
 use Rattle.aff_core.specs.Rising.{HasDistinctKeys}
 use Rattle.bridge_graph.specs.declared.Choice.{Choice}
@@ -71,6 +72,11 @@ means_of bridges = record {
   choice = choice_in bridges.choices;
   kept = kept_by bridges.states;
 }
+
+-- what the first bridge keeps that keeps something at the address
+abbrev pub kept_first : List State → Address → Option KeptItem
+kept_first [] at = None
+kept_first (s ∷ ss) at = option_or (found s at) (kept_first ss at)
 
 -- ---- what calls leave
 

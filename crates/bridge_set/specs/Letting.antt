@@ -1,27 +1,35 @@
--- Releasing what is kept at an address, whichever bridge keeps it.
-use Rattle.std.specs.Prelude.{◌≡◌, ◌⊎◌, ℕ, List, [], ◌∷◌, All, AllPairs, IsSome, slice_get, slice_set, Some, None}
+-- What bridges release: all that is kept at and below some items of the model.
+--     is_of_any          whether an address is at or below that of one of the items
+--     without_items      what is kept elsewhere; without_found, by a bridge's family
+--     kept_count         how many items bridges keep
+--     IsReleased, AreReleased      of a bridge and of several: the items are gone, a turn for each
+use Rattle.std.specs.Prelude.{◌≡◌, ◌≤◌, ◌+◌, ℕ, Bool, List, map, not, sum_by}
 use Rattle.std.specs.FinMap as finite
+use Rattle.std.specs.List.{list_any}
 use Rattle.aff_core.specs.Address.{Address}
-use Rattle.bridge_face.specs.State.{Kept, State, found, gone}
+use Rattle.bridge_face.specs.ItemAddresses.{is_of}
+use Rattle.bridge_face.specs.State.{Kept, State}
+use Rattle.bridge_set.specs.Bridges.{kept_by}
+use Rattle.bridge_set.specs.Turns.{turns_of}
 use Rattle.item_core.specs.declared.family.Family.{Family}
 
--- one bridge at most keeps something at the address
-abbrev pub IsAlone : Address → List (Family × Kept) → Type 0
-IsAlone at ks =
-    AllPairs (λ (k l : Family × Kept). (finite.get k.1 at ≡ None) ⊎ (finite.get l.1 at ≡ None)) ks
+abbrev pub is_of_any : List Address → Address → Bool
+is_of_any items at = list_any (λ item. is_of item at) items
 
-abbrev pub without : Address → Family × Kept → Family × Kept
-without at k = (k.0, finite.remove k.1 at)
+abbrev pub without_items : List Address → Kept → Kept
+without_items items kept = finite.retain_keys kept (λ at. not (is_of_any items at))
 
-abbrev pub without_list : Kept → List Address → Kept
-without_list kept [] = kept
-without_list kept (at ∷ gone) = without_list (finite.remove kept at) gone
+abbrev pub without_found : List Address → Family × Kept → Family × Kept
+without_found items k = (k.0, without_items items k.1)
 
-abbrev pub without_each : List Address → Family × Kept → Family × Kept
-without_each gone k = (k.0, without_list k.1 gone)
+abbrev pub kept_count : List (Family × Kept) → ℕ
+kept_count ks = sum_by (λ k. finite.len k.1) ks
 
--- the first bridge that keeps something at the address releases it, if there is one
-pub data LetsGo (at : Address) (old new : List State) : Type 0 where
-  one : (place : ℕ) (was : State) → slice_get old place ≡ Some was → IsSome (found was at)
-      → new ≡ slice_set old place (gone was at) → LetsGo at old new
-  nowhere : All (λ (s : State). found s at ≡ None) old → new ≡ old → LetsGo at old new
+pub record IsReleased (items : List Address) (old new : State) : Type 0 where
+  pub family : new.family ≡ old.family
+  pub kept : new.kept ≡ without_items items old.kept
+  pub turns : new.turns + finite.len new.kept ≤ old.turns + finite.len old.kept
+
+pub record AreReleased (items : List Address) (old new : List State) : Type 0 where
+  pub kept : kept_by new ≡ map (without_found items) (kept_by old)
+  pub turns : turns_of new + kept_count (kept_by new) ≤ turns_of old + kept_count (kept_by old)

@@ -3,6 +3,5 @@ pub mod Sound
 pub mod Nodes
 pub mod Turns
 pub mod Letting
+pub mod LettingLaws
 pub mod Adding
-pub mod Walk
-pub mod WidthLaws

@@ -1,5 +1,5 @@
 //! The bridges.
-ghost use Rattle.std.specs.Prelude.{◌≡◌, ◌↔◌, ◌≤◌, ◌+◌, All, IfOk, IfSome, IsNone, IsTrue, OnErr, OnOk, flat_map, length, map, true};
+ghost use Rattle.std.specs.Prelude.{◌≡◌, ◌↔◌, ◌≤◌, ◌+◌, All, IfSome, IsNone, IsTrue, OnErr, OnOk, length, map, true};
 ghost use Rattle.std.specs.FinMap as finite;
 ghost use Rattle.std.specs.List.{list_all, list_any};
 ghost use Rattle.bridge_graph.specs.Hypergraph.{is_edge_cost};
@@ -11,26 +11,20 @@ ghost use Rattle.bridge_face.specs.State.{all_gone, given, tried};
 ghost use Rattle.fresh_bridging.specs.TheRules.{graph_of};
 ghost use Rattle.bridge_plan.specs.Means.{AreSound};
 ghost use Rattle.bridge_set.specs.Bridges.{AreKeepable, IsFree, at_family, families_of, kept_by, keeping, means_of, occur_once, setting_of};
-ghost use Rattle.bridge_set.specs.Letting.{IsAlone, without, without_each};
+ghost use Rattle.bridge_set.specs.Letting.{kept_count, without_found};
 ghost use Rattle.bridge_set.specs.Adding.{AreFree, with_each};
 ghost use Rattle.bridge_set.specs.Turns.{turns_of};
-ghost use Rattle.bridge_set.specs.Walk.{IsNarrow, IsRoot, nodes_below};
 
 use crate::choosing::{choices_of, graph_of};
-use crate::listing::list_below;
-use crate::places::{ask_laws, clear_all, image_by, keep_by, let_go_by};
+use crate::places::{ask_laws, clear_all, image_by, keep_by, let_found_go_by};
 use aff_core::Address;
 use bridge_face::{Bridge, KeptItem};
 use bridge_graph::{Choice, Graph};
 use bridge_plan::{Rewriter, edge_of};
 use item_core::{EDGE_COUNT, Image, Item, KIND_COUNT, Kind, Table};
-use lists::{Memory, Sequence};
+use lists::Memory;
 use ratio_core::NumberFault;
-use std::alloc::Global;
 use std::marker::Model;
-
-// How many levels a tree has at most: none has a kind twice on the way down.
-const LEVELS: u8 = KIND_COUNT as u8;
 
 /// Bridges, each of a family of its own, and the choices by a table and their families: an edge may
 /// be used exactly where its family is on in the table and among the bridges.
@@ -152,31 +146,17 @@ impl<B: Bridge> BridgeSet<B> {
         self.keep_each(nodes)
     }
 
-    /// Releases the item at an address. At most one bridge keeps one there.
-    pub fn let_go(&mut self, at: &Address)
-        requires alone { IsAlone at.now (kept_by self.old.states) }
-        ensures gone { kept_by self.new.states ≡ map (without at.now) (kept_by self.old.states) }
-        ensures turns { turns_of self.new.states ≤ turns_of self.old.states + 1 }
-        ensures families { families_of self.new.states ≡ families_of self.old.states }
-        ensures table { self.new.table ≡ self.old.table }
-        ensures choices { self.new.choices ≡ self.old.choices }
-    {
-        let_go_by(&mut self.bridges, at);
-    }
-
-    /// Releases what is kept at each address.
-    pub fn let_each_go(&mut self, gone: &[Address])
-        requires alone { All (λ at. IsAlone at (kept_by self.old.states)) gone.now }
+    /// Releases all that is kept at and below the items of the model at these addresses, a turn each.
+    pub fn let_found_go(&mut self, found: &[Address])
         ensures gone { kept_by self.new.states
-            ≡ map (without_each gone.now) (kept_by self.old.states) }
-        ensures turns { turns_of self.new.states ≤ turns_of self.old.states + length gone.now }
+            ≡ map (without_found found.now) (kept_by self.old.states) }
+        ensures turns { turns_of self.new.states + kept_count (kept_by self.new.states)
+            ≤ turns_of self.old.states + kept_count (kept_by self.old.states) }
         ensures families { families_of self.new.states ≡ families_of self.old.states }
         ensures table { self.new.table ≡ self.old.table }
         ensures choices { self.new.choices ≡ self.old.choices }
     {
-        for at in gone {
-            self.let_go(at);
-        }
+        let_found_go_by(&mut self.bridges, found);
     }
 
     /// Has each bridge keep the items that are by edges of its family, beside what it keeps already.
@@ -196,21 +176,6 @@ impl<B: Bridge> BridgeSet<B> {
             self.keep(node)?;
         }
         Ok(())
-    }
-
-    /// Lists the addresses at which an item is kept at and below the user's items at some addresses,
-    /// one after another, each before those below it. It takes no turn.
-    pub fn list_nodes(&self, alloc: Global, found: &[Address]) -> Result<Sequence<Address>, Memory>
-        requires narrow { IsNarrow self.now.states }
-        requires roots { All IsRoot found.now }
-        ensures { IfOk result (λ nodes. nodes
-            ≡ flat_map (nodes_below self.now.states) found.now) }
-    {
-        let mut nodes = Sequence::new(alloc);
-        for at in found {
-            list_below(&self.bridges, at, LEVELS, &mut nodes)?;
-        }
-        Ok(nodes)
     }
 
     /// Has each bridge let all items go.

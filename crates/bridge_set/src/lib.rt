@@ -3,7 +3,6 @@
 
 mod choosing;
 mod holding;
-mod listing;
 mod places;
 
 pub use holding::BridgeSet;

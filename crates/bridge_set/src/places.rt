@@ -1,5 +1,5 @@
 //! What is done with bridges, with that of a family or with all.
-ghost use Rattle.std.specs.Prelude.{◌≡◌, ◌≤◌, ◌+◌, All, OnErr, OnOk, map, true};
+ghost use Rattle.std.specs.Prelude.{◌≡◌, ◌≤◌, ◌+◌, ◌∷◌, [], All, OnErr, OnOk, map, true};
 ghost use Rattle.std.specs.List.{list_any};
 ghost use Rattle.ratio_core.specs.Answers.{ExactWhere};
 ghost use Rattle.item_core.specs.Edge.{family_eq, family_of};
@@ -7,7 +7,7 @@ ghost use Rattle.bridge_face.specs.ImageOf.{image_of, ImageFits};
 ghost use Rattle.bridge_face.specs.Law.{IsItemFor, IsLawful};
 ghost use Rattle.bridge_face.specs.State.{all_gone, given, tried};
 ghost use Rattle.bridge_set.specs.Bridges.{IsChangedFor, IsFree, families_of};
-ghost use Rattle.bridge_set.specs.Letting.{LetsGo};
+ghost use Rattle.bridge_set.specs.Letting.{AreReleased, IsReleased};
 ghost use Rattle.bridge_set.specs.Turns.{turns_of};
 
 use aff_core::Address;
@@ -96,14 +96,29 @@ pub(crate) fn clear_all<B: Bridge>(bridges: &mut [B])
     }
 }
 
-// Releases the item at an address, if a bridge keeps one there.
-pub(crate) fn let_go_by<B: Bridge>(bridges: &mut [B], at: &Address)
-    ensures { LetsGo at.now (map B.state bridges.old) (map B.state bridges.new) }
+// Has each bridge release what it keeps at and below some items of the model.
+pub(crate) fn let_found_go_by<B: Bridge>(bridges: &mut [B], found: &[Address])
+    ensures { AreReleased found.now (map B.state bridges.old) (map B.state bridges.new) }
 {
     for bridge in bridges.iter_mut() {
-        if bridge.child_rows(at).is_some() {
-            drop(bridge.let_go(at));
-            return;
-        }
+        let_items_go(bridge, found);
+    }
+}
+
+// Releases what a bridge keeps at and below some items of the model.
+fn let_items_go<B: Bridge>(bridge: &mut B, items: &[Address])
+    ensures { IsReleased items.now (B.state bridge.old) (B.state bridge.new) }
+{
+    for at in items {
+        let_item_go(bridge, at);
+    }
+}
+
+// Releases what a bridge keeps at and below an item of the model.
+fn let_item_go<B: Bridge>(bridge: &mut B, at: &Address)
+    ensures { IsReleased (at.now ∷ []) (B.state bridge.old) (B.state bridge.new) }
+{
+    while let Some(first) = bridge.first_of(at) {
+        drop(bridge.let_go(&first));
     }
 }

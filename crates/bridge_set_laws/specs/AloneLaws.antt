@@ -10,7 +10,6 @@ use Rattle.aff_core.specs.Address.{Address}
 use Rattle.bridge_face.specs.State.{Kept, State}
 use Rattle.bridge_plan.specs.Adds.{kept_of}
 use Rattle.bridge_set.specs.Bridges.{families_of, kept_by, occur_once}
-use Rattle.bridge_set.specs.Letting.{IsAlone}
 use Rattle.bridge_set.specs.Nodes.{HoldNodes, nodes_by}
 use Rattle.fresh_bridging.specs.FreshBridging.{FreshBridging, nodes_of}
 use Rattle.fresh_bridging.specs.TableLaws.{and_first, and_second, equal_family}
@@ -20,6 +19,7 @@ use Rattle.item_core.specs.declared.family.Family.{Family}
 use Rattle.item_core.specs.declared.item.Item.{Item}
 use Rattle.map_laws.specs.PairLaws.{AllPairs-nil}
 use Rattle.user_model.specs.Model.{ModelValue}
+use Rattle.bridge_set_laws.specs.CountLaws.{IsAlone}
 use Rattle.bridge_set_laws.specs.FamilyLaws.{family_kept, family_part}
 use Rattle.local_laws.specs.Sound.{IsValidUnder}
 

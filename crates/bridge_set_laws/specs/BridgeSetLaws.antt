@@ -8,7 +8,6 @@ use Rattle.std.proofs.lemmas.List.{length-map}
 use Rattle.aff_core.specs.Address.{Address}
 use Rattle.bridge_set.specs.Adding.{with_each, with_one}
 use Rattle.bridge_set.specs.Bridges.{kept_by}
-use Rattle.bridge_set.specs.Letting.{without_each, without_list}
 use Rattle.bridge_set.specs.Nodes.{HoldNodes, nodes_by}
 use Rattle.bridge_face.specs.State.{Kept, State}
 use Rattle.bridge_face.specs.declared.kept_item.KeptItem.{KeptItem}
@@ -20,18 +19,15 @@ use Rattle.item_core.specs.Edge.{family_eq, family_of}
 use Rattle.item_core.specs.declared.family.Family.{Family}
 use Rattle.leaf_update.specs.Puts.{put_all}
 use Rattle.user_model.specs.Model.{ModelValue}
+use Rattle.bridge_set_laws.specs.CountLaws.{without_each}
 use Rattle.bridge_set_laws.specs.FamilyLaws.{by_family, held_listed, nodes_held}
 use Rattle.bridge_set_laws.specs.KeptLaws.{bridges_hold}
-use Rattle.leaf_update.specs.Splice.{spliced, without_all}
+use Rattle.leaf_update.specs.Splice.{spliced}
 use Rattle.local_laws.specs.Held.{held_by}
 use Rattle.local_laws.specs.InnerLaws.{inner_is}
 use Rattle.local_laws.specs.Sound.{IsValidUnder}
 use Rattle.local_laws.specs.Stays.{StaysAt}
 use Rattle.local_laws.specs.Views.{by_address, of_nodes}
-
-without_is : (m : Kept) (gone : List Address) → without_list m gone ≡ without_all m gone
-without_is m [] = refl
-without_is m (at ∷ gone) = without_is (finite.remove m at) gone
 
 with_is : (nodes : List KeptItem) (k : Family × Kept)
     → with_each nodes k ≡ (k.0, put_all k.1 (by_family k.0 nodes))
@@ -56,9 +52,7 @@ both_is : (gone : List Address) (nodes : List KeptItem) (ss : List State)
 both_is gone nodes [] = refl
 both_is gone nodes (s ∷ ss) =
     ap₂ (λ (k : Family × Kept) (ks : List (Family × Kept)). k ∷ ks)
-    (with_is nodes (without_each gone (s.family, s.kept))
-    ∙ ap (λ m. (s.family, put_all m (by_family s.family nodes))) (without_is s.kept gone))
-    (both_is gone nodes ss)
+    (with_is nodes (without_each gone (s.family, s.kept))) (both_is gone nodes ss)
 
 module _ {setting next : Setting} {model after : ModelValue} (sound : IsValidUnder setting model)
     (sound_after : IsValidUnder next after)

@@ -1,8 +1,7 @@
 pub mod FamilyLaws
 pub mod KeptLaws
+pub mod CountLaws
 pub mod BridgeSetLaws
-pub mod WalkLaws
-pub mod ItemWalkLaws
-pub mod SetWalkLaws
+pub mod KeptFirstLaws
 pub mod AloneLaws
-pub mod NarrowLaws
+pub mod GoneLaws

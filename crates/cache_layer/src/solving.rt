@@ -9,7 +9,7 @@ use address_map::AddressMap;
 use simplex_core::solve;
 use solver_store::{LeafAnswer, SolverModel};
 use std::alloc::Global;
-use std_form::{build, read_back};
+use std_form::Listing;
 
 /// The answer for the leaves, by at most this number of pivots.
 pub(crate) fn leaf_answer(
@@ -21,8 +21,11 @@ pub(crate) fn leaf_answer(
     ensures { (at : Address) → IsReadable map.now solver.now.leaves
         → TellsLeaf map.now (read_through map.now solver.now.leaves at) pivots result }
 {
-    let form = build(alloc, solver, map)?;
+    let Ok(listing) = Listing::of(alloc, solver, map) else {
+        return Err(OptFault::Memory);
+    };
+    let form = listing.build(alloc)?;
     let answer = solve(alloc, &form, pivots)?;
-    let leaf = read_back(alloc, solver, map, &form, &answer)?;
+    let leaf = listing.read_back(alloc, &form, &answer)?;
     Ok(leaf)
 }

@@ -1,30 +1,18 @@
 -- What is answered to a model is no fault of the shelf.
 use Rattle.std.specs.Prelude.{◌≡◌, ℕ, None, Result, Ok, Err, refl}
-use Rattle.std.proofs.Common.{◌∙◌, ap}
 use Rattle.cache_layer.specs.State.{State}
 use Rattle.cache_layer.specs.declared.fault.AttachFault.{AttachFault}
-use Rattle.cache_layer.specs.declared.fault.AttachFault.TheVariants as attach
 use Rattle.conflict_command.specs.Says.{Says, SaysAttached, SaysFound}
-use Rattle.file_command.specs.LoadingLaws.{SaysNoFault, shelf_fault}
+use Rattle.file_command.specs.LoadingLaws.{SaysNoFault, same_fault, shelf_fault}
 use Rattle.fresh_bridging.specs.TheRules.{Setting}
-use Rattle.model_command.specs.Telling.{attach_fault_answer, optimize_fault_answer}
+use Rattle.model_command.specs.Telling.{optimize_fault_answer}
+use Rattle.model_command.specs.TellingLaws.{attach_fault}
 use Rattle.model_conflict.specs.Faults.{opt_fault}
 use Rattle.model_conflict.specs.declared.fault.ConflictFault.{ConflictFault}
 use Rattle.model_conflict.specs.declared.fault.ConflictFault.TheVariants as fault
 use Rattle.model_conflict.specs.declared.found.Found.{Found}
 use Rattle.report_core.specs.declared.answer.Answer.{Answer}
 use Rattle.user_model.specs.Model.{ModelValue}
-
--- an answer that is another
-same_fault : (answer said : Answer) → answer ≡ said → shelf_fault said ≡ None
-    → shelf_fault answer ≡ None
-same_fault answer said is none = ap shelf_fault is ∙ none
-
-attach_fault : (why : AttachFault) → shelf_fault (attach_fault_answer why) ≡ None
-attach_fault attach.AlreadyAttached = refl
-attach_fault (attach.Unsupported kind) = refl
-attach_fault (attach.Overflow place) = refl
-attach_fault attach.Memory = refl
 
 found_fault : (why : ConflictFault) → shelf_fault (optimize_fault_answer (opt_fault why)) ≡ None
 found_fault (fault.TooLarge cells) = refl

@@ -1,5 +1,5 @@
 -- Lines of rows so far, and what is left; and the text of the best duals by its parts.
-use Rattle.std.proofs.Common.{◌≡◌, ℕ, List, [], ◌∷◌, ◌++◌, append-nil, append_assoc, ap, ap₂, codes, flat_map, map, refl, sym, ◌∙◌}
+use Rattle.std.proofs.Common.{◌≡◌, ℕ, List, [], ◌∷◌, ◌++◌, append-nil, append_assoc, ap, ap₂, codes, map, refl, sym, ◌∙◌}
 use Rattle.std.specs.List.{zip}
 use Rattle.cert_text.specs.Text.{Line, ended, number_line, row_line, row_lines, text_of_lines, variable_lines}
 use Rattle.certificates.specs.Points.{variables_of}
@@ -41,18 +41,6 @@ no_duals_left left duals text whole h e =
     none : (rs : List Row) → zip {K = Row} {X = List Rational} rs [] ≡ []
     none [] = refl
     none (r ∷ rs) = refl
-
--- a number more
-abbrev each_text : List Rational → List ℕ
-each_text qs = flat_map (λ q. codes " " ++ text_of q) qs
-
-pub numbers_more : (left others : List Rational) (q : Rational) (text new whole : List ℕ)
-    → text ++ each_text left ≡ whole → left ≡ q ∷ others
-    → new ≡ (text ++ codes " ") ++ text_of q → new ++ each_text others ≡ whole
-numbers_more left others q text new whole h is e =
-    ap (λ t. t ++ each_text others) (e ∙ append_assoc text (codes " ") (text_of q))
-    ∙ append_assoc text (codes " " ++ text_of q) (each_text others)
-    ∙ sym (ap (λ qs. text ++ each_text qs) is) ∙ h
 
 -- the text of some lines and of others
 pub lines_together : (lines others : List Line)

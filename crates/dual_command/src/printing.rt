@@ -1,16 +1,16 @@
 //! The texts of the command's answers.
 ghost use Rattle.std.specs.Prelude.{◌≡◌, ◌++◌, IfOk, OnOk};
-ghost use Rattle.cert_text.specs.Text.{ended, numbers_text, row_line, row_lines, text_of_lines};
+ghost use Rattle.cert_text.specs.Text.{row_lines, text_of_lines};
 ghost use Rattle.dual_command.specs.Text.{duals_text, file_line};
 
 use dualization::Carried;
-use file_command::push_numbers;
+use file_command::{push_numbers, push_row_duals};
 use lists::Memory;
 use model_store::UserModel;
 use ratio_core::{Ratio, Ratios};
 use report_core::{Answer, Draft};
 use std::alloc::Global;
-use user_model::{Row, Rows};
+use user_model::Rows;
 
 /// An answer that is no refusal.
 pub(crate) fn printed(alloc: Global, text: &str) -> Result<Answer, Memory>
@@ -66,27 +66,7 @@ fn push_rows(draft: &mut Draft, rows: &Rows, duals: &[Ratios]) -> Result<(), Mem
         if i >= duals.len() {
             return Ok(());
         }
-        push_row(draft, row, duals[i].as_slice())?;
-    }
-    Ok(())
-}
-
-fn push_row(draft: &mut Draft, row: &Row, duals: &[Ratio]) -> Result<(), Memory>
-    ensures { OnOk result (draft.new ≡ draft.old ++ ended (row_line (row.now, duals.now))) }
-{
-    draft.push("dual row ")?;
-    draft.push_name(&row.name)?;
-    push_each(draft, duals)?;
-    draft.push("\n")
-}
-
-// Numbers, each after a space.
-fn push_each(draft: &mut Draft, numbers: &[Ratio]) -> Result<(), Memory>
-    ensures { OnOk result (draft.new ≡ draft.old ++ numbers_text numbers.now) }
-{
-    for number in numbers {
-        draft.push(" ")?;
-        draft.push_ratio(number)?;
+        push_row_duals(draft, row, duals[i].as_slice())?;
     }
     Ok(())
 }

@@ -1,9 +1,11 @@
 -- Lines of numbers so far, and what is left.
-use Rattle.std.proofs.Common.{◌≡◌, ℕ, List, [], ◌∷◌, ◌++◌, append-nil, append_assoc, ap, ap₂, map, refl, sym, ◌∙◌}
+use Rattle.std.proofs.Common.{◌≡◌, ℕ, List, [], ◌∷◌, ◌++◌, append-nil, append_assoc, ap, ap₂, codes, map, refl, sym, ◌∙◌}
 use Rattle.std.specs.List.{zip}
 use Rattle.cert_text.specs.Text.{ended, text_of_lines, variable_line}
+use Rattle.cert_text.specs.Text.{numbers_text as each_text}
 use Rattle.file_command.specs.Numbers.{numbers_text}
 use Rattle.ratio_core.specs.Rational.{Rational}
+use Rattle.ratio_core.specs.Text.{text_of}
 use Rattle.user_model.specs.declared.group.GroupVar.{GroupVar}
 
 module _ (beginning : List ℕ) where
@@ -40,3 +42,14 @@ module _ (beginning : List ℕ) where
       none : (vs : List GroupVar) → zip {K = GroupVar} {X = Rational} vs [] ≡ []
       none [] = refl
       none (v ∷ vs) = refl
+
+-- ---- numbers, each after a space
+
+-- a number more
+pub each_more : (left others : List Rational) (q : Rational) (text new whole : List ℕ)
+    → text ++ each_text left ≡ whole → left ≡ q ∷ others
+    → new ≡ (text ++ codes " ") ++ text_of q → new ++ each_text others ≡ whole
+each_more left others q text new whole h is e =
+    ap (λ t. t ++ each_text others) (e ∙ append_assoc text (codes " ") (text_of q))
+    ∙ append_assoc text (codes " " ++ text_of q) (each_text others)
+    ∙ sym (ap (λ qs. text ++ each_text qs) is) ∙ h

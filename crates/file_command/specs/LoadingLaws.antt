@@ -24,6 +24,11 @@ shelf_fault ReadFault = Some fetch.Failed
 shelf_fault TooLong = Some fetch.TooLong
 shelf_fault answer = None
 
+-- an answer that is another
+pub same_fault : (answer said : Answer) → answer ≡ said → shelf_fault said ≡ None
+    → shelf_fault answer ≡ None
+same_fault answer said is none = ap shelf_fault is ∙ none
+
 -- what is answered to a model is no fault of the shelf
 abbrev pub SaysNoFault : (ModelValue → Answer → Type 0) → Type 0
 SaysNoFault says = (model : ModelValue) (answer : Answer) → says model answer

@@ -47,8 +47,9 @@ pub fn model_by(alloc: Global, edits: Vec<Edit>) -> Result<UserModel, Answer>
     }
 }
 
-// Makes edits on a model, which is lent, so that no way out frees it.
-fn make_all(alloc: Global, model: &mut UserModel, edits: Vec<Edit>) -> Result<(), Answer>
+/// Makes edits of a model, all or none, and tells what is answered where one of them is refused.
+/// The model is lent, so that no way out frees it.
+pub fn make_all(alloc: Global, model: &mut UserModel, edits: Vec<Edit>) -> Result<(), Answer>
     ensures { MakesOn (after_edits model.old.model edits.items) model.old.parked result model.new }
 {
     match load_all(model, edits) {

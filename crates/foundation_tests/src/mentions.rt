@@ -45,6 +45,9 @@ fn list(page: &mut Page, map: &AddressMap, variable: u32) {
         Some(items) => {
             let (first, second) = (items.nth(0), items.nth(1));
             page.line(format_args!("{var} in {} rows: {first:?}, {second:?}", items.len()));
+            for item in items.iter() {
+                page.line(format_args!("{var} in {}", item.0));
+            }
         }
     }
 }

@@ -1,20 +1,19 @@
 -- The addresses of an item among all in order, from a place on.
-use Rattle.std.specs.Prelude.{◌≡◌, ◌+◌, ◌≤◌, ◌++◌, ℕ, zero, suc, Bool, true, false, cond, not, List, [], ◌∷◌, All, AllPairs, Option, Some, drop, map, slice_get, take, refl}
-use Rattle.std.proofs.Common.{arith, sym, ap, subst, ◌∙◌}
+use Rattle.std.specs.Prelude.{◌≡◌, ◌++◌, ℕ, Bool, true, false, cond, not, List, [], ◌∷◌, All, AllPairs, drop, map, take, refl}
+use Rattle.std.proofs.Common.{sym, ap, subst, ◌∙◌}
 use Rattle.std.specs.FinMap as finite
 use Rattle.std.specs.FinMap.{FinMap}
 use Rattle.std.specs.Ordering.{is_lt}
 use Rattle.std.specs.declared.cmp.Ordering.TheVariants.{Less}
-use Rattle.std.proofs.lemmas.List.{append_assoc, take-append-drop}
-use Rattle.std.proofs.lemmas.List.Elements.{All-cons, All-drop, All-head, All-map, All-nil, All-tail, All-weaker}
+use Rattle.std.proofs.lemmas.List.{append-nil, append_assoc, take-append-drop}
+use Rattle.std.proofs.lemmas.List.Elements.{All-cons, All-head, All-map, All-nil, All-tail, All-weaker}
 use Rattle.std.proofs.lemmas.List.Kept.{AllPairs-cons}
 use Rattle.map_laws.specs.EntryLaws.{key_less}
 use Rattle.map_laws.specs.PairLaws.{AllPairs-head, AllPairs-nil, AllPairs-second, AllPairs-tail}
-use Rattle.map_laws.specs.PlaceLaws.{drop_at}
 use Rattle.address_map.specs.Places.{from_on}
 use Rattle.aff_core.specs.Address.{Address, address_cmp, address_total}
-use Rattle.item_leaves.specs.ItemLeaves.{is_of, those_of}
-use Rattle.item_leaves.proofs.OrderLaws.{none_past, not_of}
+use Rattle.item_leaves.specs.ItemLeaves.{AreFrom, is_of, those_of}
+use Rattle.bridge_face.specs.ItemOrderLaws.{none_past, not_of}
 
 abbrev IsBefore : Address → Address → Type 0
 IsBefore a b = address_cmp a b ≡ Less
@@ -29,7 +28,7 @@ keys_rise (e ∷ es) h =
     (All-map (IsBefore e.0) (λ d. d.0) es (AllPairs-head (λ d e. IsBefore d.0 e.0) e es h))
     (keys_rise es (AllPairs-tail (λ d e. IsBefore d.0 e.0) e es h))
 
-pub all_rise : {X : Type 0} (m : FinMap address_cmp X) → AllPairs IsBefore (finite.keys m)
+all_rise : {X : Type 0} (m : FinMap address_cmp X) → AllPairs IsBefore (finite.keys m)
 all_rise m =
     keys_rise (finite.entries m)
     (λ i j d lt end. key_less address_total (finite.entries m) i j d (finite.entries_sorted m) lt end)
@@ -70,58 +69,52 @@ none_of item (k ∷ ks) h =
     (All-head (λ k. is_of item k ≡ false) k ks h)
     ∙ none_of item ks (All-tail (λ k. is_of item k ≡ false) k ks h)
 
-later : (P : Address → Type 0) (ks : List Address) (start place : ℕ) → start ≤ place
-    → All P (drop start ks) → All P (drop place ks)
-later P ks zero place le h = All-drop P place ks h
-later P [] (suc start) place le h = All-drop P place [] h
-later P (k ∷ ks) (suc start) zero le h = absurd (omega (arith, le))
-later P (k ∷ ks) (suc start) (suc place) le h = later P ks start place (omega (arith, le)) h
+-- ---- in a map, from a place on
 
-pub ends : (item : Address) (ks : List Address) (start place : ℕ) (leaf : Address)
-    → AllPairs IsBefore ks → drop start ks ≡ from_on item ks → start ≤ place
-    → slice_get ks place ≡ Some leaf → is_of item leaf ≡ false
-    → those_of item (drop place ks) ≡ []
-ends item ks start place leaf rise from le here other =
-    let rest = drop (place + 1) ks in
-    let split : drop place ks ≡ leaf ∷ rest = drop_at place leaf ks here in
-    let past = subst (All (λ k. is_lt (address_cmp k item) ≡ false)) split
-    (later (λ k. is_lt (address_cmp k item) ≡ false) ks start place le
-    (subst (All (λ k. is_lt (address_cmp k item) ≡ false)) (sym from) (from_all item ks))) in
-    let rises = subst (AllPairs IsBefore) split
-    (AllPairs-second IsBefore (take place ks) (drop place ks)
-    (subst (AllPairs IsBefore) (sym (take-append-drop place ks)) rise)) in
-    ap (those_of item) split
-    ∙ none_of item (leaf ∷ rest)
-    (All-cons (λ k. is_of item k ≡ false) leaf rest other
-    (All-weaker (IsBefore leaf) (λ k. is_of item k ≡ false)
-    (λ w lt. none_past item leaf w
-    (All-head (λ k. is_lt (address_cmp k item) ≡ false) leaf rest past) other lt)
-    rest (AllPairs-head IsBefore leaf rest rises)))
+pub are_from : {X : Type 0} (m : FinMap address_cmp X) (item : Address) (place : ℕ)
+    → drop place (finite.keys m) ≡ from_on item (finite.keys m)
+    → AreFrom item (drop place (finite.keys m))
+are_from m item place from =
+    let ks = finite.keys m in
+    record {
+      rise = AllPairs-second IsBefore (take place ks) (drop place ks)
+          (subst (AllPairs IsBefore) (sym (take-append-drop place ks)) (all_rise m));
+      from = subst (All (λ k. is_lt (address_cmp k item) ≡ false)) (sym from) (from_all item ks);
+    }
 
 -- ---- the steps of the loop
 
-pub none_left : (ks : List Address) (n : ℕ) (r : Option Address) → r ≡ slice_get ks n
-    → ((k : Address) → r ≡ Some k → ⊥) → drop n ks ≡ []
-none_left [] zero r e h = refl
-none_left [] (suc n) r e h = refl
-none_left (k ∷ ks) zero r e h = absurd (h k e)
-none_left (k ∷ ks) (suc n) r e h = none_left ks n r e h
+module _ (item : Address) (left rest : List Address) (leaf : Address) (next : left ≡ leaf ∷ rest)
+    (h : AreFrom item left) where
+  split : AreFrom item (leaf ∷ rest)
+  split = subst (AreFrom item) next h
 
-pub one_more : (item : Address) (ks : List Address) (place : ℕ) (leaf : Address)
-    (old : List Address) → slice_get ks place ≡ Some leaf → is_of item leaf ≡ true
-    → (old ++ leaf ∷ []) ++ those_of item (drop (place + 1) ks)
-    ≡ old ++ those_of item (drop place ks)
-one_more item ks place leaf old here is =
-    append_assoc old (leaf ∷ []) (those_of item (drop (place + 1) ks))
-    ∙ ap (λ l. old ++ l)
-    (sym (ap (those_of item) (drop_at place leaf ks here)
-    ∙ ap (λ b. cond b (leaf ∷ those_of item (drop (place + 1) ks))
-    (those_of item (drop (place + 1) ks))) is))
+  pub others_from : AreFrom item rest
+  others_from = record {
+    rise = AllPairs-tail IsBefore leaf rest split.rise;
+    from = All-tail (λ k. is_lt (address_cmp k item) ≡ false) leaf rest split.from;
+  }
+
+  pub one_more : (old new all : List Address) → is_of item leaf ≡ true → new ≡ old ++ leaf ∷ []
+      → old ++ those_of item left ≡ all → new ++ those_of item rest ≡ all
+  one_more old new all is pushed so_far =
+      ap (λ l. l ++ those_of item rest) pushed
+      ∙ append_assoc old (leaf ∷ []) (those_of item rest)
+      ∙ ap (λ b. old ++ cond b (leaf ∷ those_of item rest) (those_of item rest)) (sym is)
+      ∙ ap (λ ks. old ++ those_of item ks) (sym next) ∙ so_far
+
+  -- past the last of the item there is none
+  pub ends : is_of item leaf ≡ false → those_of item left ≡ []
+  ends other =
+      ap (those_of item) next
+      ∙ none_of item (leaf ∷ rest)
+      (All-cons (λ k. is_of item k ≡ false) leaf rest other
+      (All-weaker (IsBefore leaf) (λ k. is_of item k ≡ false)
+      (λ w lt. none_past item leaf w
+      (All-head (λ k. is_lt (address_cmp k item) ≡ false) leaf rest split.from) other lt)
+      rest (AllPairs-head IsBefore leaf rest split.rise)))
 
 pub no_more : (item : Address) (ks : List Address) (old all : List Address)
     → those_of item ks ≡ [] → old ++ those_of item ks ≡ all → old ≡ all
-no_more item ks old all none is = sym (nothing old) ∙ ap (λ l. old ++ l) (sym none) ∙ is
-  where
-    nothing : (xs : List Address) → xs ++ [] ≡ xs
-    nothing [] = refl
-    nothing (x ∷ xs) = ap (λ l. x ∷ l) (nothing xs)
+no_more item ks old all none is =
+    sym (append-nil old) ∙ ap (λ l. old ++ l) (sym none) ∙ is

@@ -1,10 +1,11 @@
 //! Runs of the map's order.
-ghost use Rattle.std.specs.Prelude.{◌≡◌, ◌++◌, OnOk};
+ghost use Rattle.std.specs.Prelude.{◌≡◌, ◌++◌, OnOk, map};
 ghost use Rattle.address_map.specs.Places.{addresses};
-ghost use Rattle.item_leaves.specs.ItemLeaves.{is_of, those_of};
+ghost use Rattle.item_leaves.specs.ItemLeaves.{AreFrom, those_of};
 
-use address_map::AddressMap;
+use address_map::{AddressMap, Items};
 use aff_core::Address;
+use bridge_face::is_of;
 use lists::{Memory, Sequence};
 
 /// Lists the leaf rows at and below the address of a user's item, in the order of their addresses.
@@ -16,19 +17,7 @@ pub fn list_rows(
     ensures { OnOk result (list.new
         ≡ list.old ++ those_of item.now (addresses map.now.rows.indices)) }
 {
-    let start = map.row_place(item);
-    for place in start..map.row_count() {
-        let Some(leaf) = map.nth_row(place) else {
-            return Ok(());
-        };
-        if !is_of(item, &leaf) {
-            return Ok(());
-        }
-        if let Err(refused) = list.push(leaf) {
-            return Err(refused.1);
-        }
-    }
-    Ok(())
+    list_first(map.rows_from(map.row_place(item)), item, list)
 }
 
 /// Lists the leaf variables at and below the address of a user's item, in the order of their
@@ -41,24 +30,26 @@ pub fn list_variables(
     ensures { OnOk result (list.new
         ≡ list.old ++ those_of item.now (addresses map.now.vars.indices)) }
 {
-    let start = map.var_place(item);
-    for place in start..map.var_count() {
-        let Some(leaf) = map.nth_var(place) else {
-            return Ok(());
-        };
-        if !is_of(item, &leaf) {
+    list_first(map.vars_from(map.var_place(item)), item, list)
+}
+
+// Lists the addresses of the item's leaves, which are the first of these.
+fn list_first(
+    leaves: Items<'_, (Address, usize)>,
+    item: &Address,
+    list: &mut Sequence<Address>,
+) -> Result<(), Memory>
+    requires { AreFrom item.now (map (λ e. e.0) leaves) }
+    ensures { OnOk result (list.new
+        ≡ list.old ++ those_of item.now (map (λ e. e.0) leaves.entry)) }
+{
+    for leaf in leaves {
+        if !is_of(item, &leaf.0) {
             return Ok(());
         }
-        if let Err(refused) = list.push(leaf) {
+        if let Err(refused) = list.push(leaf.0) {
             return Err(refused.1);
         }
     }
     Ok(())
-}
-
-// Whether an address is at or below that of a user's item.
-fn is_of(item: &Address, at: &Address) -> bool
-    ensures { result ≡ is_of item.now at.now }
-{
-    Address::root(at.kind(), at.number()) == *item
 }

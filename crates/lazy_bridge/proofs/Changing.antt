@@ -1,15 +1,14 @@
 -- What is planned of an edit, put in the place of what was held: each call on the way may be made, and
 -- then the fresh bridging of the model after stands.
-use Rattle.std.specs.Prelude.{◌≡◌, ◌≤◌, ◌+◌, ℕ, List, All, flat_map, length, map}
+use Rattle.std.specs.Prelude.{◌≡◌, ◌≤◌, ◌+◌, ℕ, List, length, map}
 use Rattle.std.proofs.Common.{ap, subst, sym, ◌∙◌}
 use Rattle.address_map.specs.AddressMap.{AddressMap}
 use Rattle.address_map.specs.Places.{Places}
 use Rattle.aff_core.specs.Address.{Address}
 use Rattle.bridge_set.specs.Adding.{AreFree, with_each}
 use Rattle.bridge_set.specs.Bridges.{AreKeepable, Bridges, families_of, kept_by, setting_of}
-use Rattle.bridge_set.specs.Letting.{IsAlone, without_each}
+use Rattle.bridge_set.specs.Letting.{kept_count, without_found}
 use Rattle.bridge_set.specs.Turns.{turns_of}
-use Rattle.bridge_set.specs.Walk.{IsNarrow, IsRoot, nodes_below}
 use Rattle.bridge_face.specs.State.{State}
 use Rattle.bridge_plan.specs.Means.{Means}
 use Rattle.bridge_plan.specs.declared.plan.Plan.{Plan}
@@ -24,8 +23,6 @@ use Rattle.leaf_model.specs.LeafModel.{IsChanged}
 use Rattle.leaf_model.specs.ReadThrough.{read_through}
 use Rattle.push_laws.specs.Composed.{done, free_here, keepable_here, splice_here}
 use Rattle.push_laws.specs.Edits.{AttachedEdit, IsMappedAnew}
-use Rattle.push_laws.specs.GroupsHad.{all_roots}
-use Rattle.push_laws.specs.WalkedLaws.{narrow_bridges, nodes_alone}
 use Rattle.solver_store.specs.SolverModel.{Leaves, Stored}
 use Rattle.touched_items.specs.Differences.{groups_in}
 use Rattle.touched_items.specs.declared.differing.Differing.{Differing}
@@ -67,17 +64,6 @@ module _ (e : AttachedEdit) (bridges : Bridges) (solver : Stored) (places : Addr
       (subst (λ a. P e.solver e.places a d) (sym held.objective)
       (subst (P e.solver e.places e.objective_at) (sym held.differing) h)))
 
-  pub narrow : IsNarrow bridges.states
-  narrow = narrow_bridges e bridges.states same_kept
-
-  pub roots : All IsRoot found
-  roots = subst (All IsRoot) made.addresses
-      (all_roots e made.step.changed made.step.addresses made.step.rows made.step.objective
-      made.step.search)
-
-  pub alone : (ats : List Address) → All (λ at. IsAlone at (kept_by bridges.states)) ats
-  alone ats = nodes_alone e bridges.states same_kept ats
-
   pub named : NamesEach places solver.leaves
   named = back (λ s p a x. NamesEach p s) e.held.named
 
@@ -105,16 +91,12 @@ module _ (e : AttachedEdit) (bridges : Bridges) (solver : Stored) (places : Addr
       (subst (AreKeepable (families_of e.bridges.states)) made.nodes (keepable_here e made.step))
 
   -- all old nodes are released
-  module _ (between : List State) (old_nodes : List Address)
-      (listed : old_nodes ≡ flat_map (nodes_below bridges.states) found)
-      (gone : kept_by between ≡ map (without_each old_nodes) (kept_by bridges.states)) where
-    listed_step : old_nodes ≡ flat_map (nodes_below bridges.states) made.step.addresses
-    listed_step = listed ∙ ap (flat_map (nodes_below bridges.states)) (sym made.addresses)
-
+  module _ (between : List State)
+      (gone : kept_by between ≡ map (without_found found) (kept_by bridges.states)) where
     gone_step : kept_by between
-        ≡ map (without_each (flat_map (nodes_below bridges.states) made.step.addresses))
-        (kept_by bridges.states)
-    gone_step = gone ∙ ap (λ l. map (without_each l) (kept_by bridges.states)) listed_step
+        ≡ map (without_found made.step.addresses) (kept_by bridges.states)
+    gone_step =
+        gone ∙ ap (λ ats. map (without_found ats) (kept_by bridges.states)) (sym made.addresses)
 
     pub free : AreFree plan.nodes.items (kept_by between)
     free =
@@ -133,7 +115,8 @@ module _ (e : AttachedEdit) (bridges : Bridges) (solver : Stored) (places : Addr
         places_mid objective_last
         → places_last.vars ≡ places_mid.vars → places_last.rows ≡ places_mid.rows
         → IsMappedAnew e standing places_last
-        → turns_of between ≤ turns_of bridges.states + length old_nodes
+        → turns_of between + kept_count (kept_by between)
+        ≤ turns_of bridges.states + kept_count (kept_by bridges.states)
         → turns_of behind.states ≤ turns_of between + length plan.nodes.items
         → IsChangedOf e made.step bridges solver places objective_at n behind solver_last
         places_last objective_last
@@ -148,8 +131,7 @@ module _ (e : AttachedEdit) (bridges : Bridges) (solver : Stored) (places : Addr
               ∙ into.through ∙ spliced_here)
               (named_on places_mid places_last solver_last.leaves vars rows into.named)
               (subst (λ st. IsMappedAnew e st places_last) (sym made.stands) mapped)
-              before
-              (subst (λ l. turns_of between ≤ turns_of bridges.states + length l) listed_step let_go)
+              before let_go
               (subst (λ ns. turns_of behind.states ≤ turns_of between + length ns)
               (sym made.nodes) again)
               (setting_of behind) (setting ∙ ap (λ (m : Means). m.setting) held.means);

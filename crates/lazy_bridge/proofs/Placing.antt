@@ -2,7 +2,7 @@
 use Rattle.std.specs.Prelude.{IsSome, IsTrue, refl}
 use Rattle.aff_core.specs.Address.{root_address}
 use Rattle.aff_core.specs.declared.root.Root.TheVariants.{Objective}
-use Rattle.bridge_set_laws.specs.SetWalkLaws.{kept_found}
+use Rattle.bridge_set_laws.specs.KeptFirstLaws.{kept_found}
 use Rattle.bridge_plan.specs.Means.{AreSound}
 use Rattle.bridge_set.specs.Bridges.{means_of}
 use Rattle.fresh_bridging.specs.TheRules.{Setting}

@@ -1,14 +1,10 @@
 //! An edit of a bridged model: what it touches is planned, and then put in the place of what was held.
-ghost use Rattle.std.specs.Prelude.{◌≡◌, ◌≤◌, ◌+◌, ◌++◌, All, IfOk, OnOk, List, None, flat_map, length};
-ghost use Rattle.std.specs.Prelude as prelude;
+ghost use Rattle.std.specs.Prelude.{◌≡◌, ◌≤◌, ◌+◌, ◌++◌, IfOk, OnOk, None, flat_map, length};
 ghost use Rattle.std.specs.List.{filter_map};
 ghost use Rattle.std.specs.Option.{option_copied};
 ghost use Rattle.address_map.specs.Noted.{noted_items};
-ghost use Rattle.aff_core.specs.Address.{Address};
-ghost use Rattle.bridge_set.specs.Bridges.{families_of, kept_by, means_of, setting_of};
-ghost use Rattle.bridge_set.specs.Letting.{IsAlone, without_each};
+ghost use Rattle.bridge_set.specs.Bridges.{means_of, setting_of};
 ghost use Rattle.bridge_set.specs.Turns.{turns_of};
-ghost use Rattle.bridge_set.specs.Walk.{IsNarrow, IsRoot, nodes_below};
 ghost use Rattle.found_plan.specs.Read.{named_by, own_entries, read_entries};
 ghost use Rattle.fresh_bridging.specs.Entries.{expression_in};
 ghost use Rattle.lazy_bridge.specs.Steps.{AreGroupsOf, IsChangedOf, IsEditOf, IsFoundBy, IsHeldBy, IsMadeBy, IsPassedBy, IsPlannedOf, IsPushedTo, IsStart, changing_variables, parts_of};
@@ -292,33 +288,11 @@ pub(crate) fn change_touched<B: Bridge>(
         &found,
     )?;
     let gone = gone_among(alloc, &old_leaves, &leaves)?;
-    let_found_go(alloc, bridges, &found)?;
+    bridges.let_found_go(&found);
     let changed = change_leaves(alloc, solver, map, objective_at, &gone, &leaves)?;
     bridges.keep_each(nodes)?;
     change_entries(map, differing, &standing)?;
     Ok(changed)
-}
-
-// Lets all nodes go that are below found items.
-fn let_found_go<B: Bridge>(
-    alloc: Global,
-    bridges: &mut BridgeSet<B>,
-    found: &[Address],
-) -> Result<(), Memory>
-    requires narrow { IsNarrow bridges.old.states }
-    requires roots { All IsRoot found.now }
-    requires alone { (ats : List Address) → All (λ at. IsAlone at (kept_by bridges.old.states)) ats }
-    ensures gone { OnOk result (kept_by bridges.new.states ≡ prelude.map
-        (without_each (flat_map (nodes_below bridges.old.states) found.now))
-        (kept_by bridges.old.states)) }
-    ensures turns { OnOk result (turns_of bridges.new.states ≤ turns_of bridges.old.states
-        + length (flat_map (nodes_below bridges.old.states) found.now)) }
-    ensures families { families_of bridges.new.states ≡ families_of bridges.old.states }
-    ensures table { bridges.new.table ≡ bridges.old.table }
-{
-    let nodes = bridges.list_nodes(alloc, found)?;
-    bridges.let_each_go(nodes.as_slice());
-    Ok(())
 }
 
 // Sets anew what the map has of the items that differ: the expressions of their variables, and what

@@ -1,8 +1,8 @@
 -- Addresses gathered in a map, and those that are not in it, one after another.
-use Rattle.std.specs.Prelude.{◌≡◌, ◌≤◌, ◌+◌, ◌||◌, ◌⊎◌, ℕ, Bool, true, false, cond, not, List, [], ◌∷◌, ◌++◌, is_some, Some, drop, flat_map, length, slice_get, refl}
+use Rattle.std.specs.Prelude.{◌≡◌, ◌≤◌, ◌+◌, ◌||◌, ◌⊎◌, ℕ, Bool, true, false, cond, not, List, [], ◌∷◌, ◌++◌, is_some, Some, drop, flat_map, length, refl}
 use Rattle.std.specs.FinMap as finite
 use Rattle.std.specs.FinMap.{FinMap}
-use Rattle.std.proofs.Common.{inl, inr, append_assoc, arith, sym, ◌∙◌, ap}
+use Rattle.std.proofs.Common.{inl, inr, append_assoc, sym, ◌∙◌, ap}
 use Rattle.std.proofs.lemmas.List.{append-nil, drop_all, map-append}
 use Rattle.std.proofs.lemmas.List.Folds.{list_any-append}
 use Rattle.aff_core.specs.Address.{Address, address_cmp, address_eq, address_total}
@@ -12,7 +12,6 @@ use Rattle.item_core.specs.declared.item.Item.{Item}
 use Rattle.leaf_update.specs.Others.{HasMore, among, others}
 use Rattle.leaf_update.specs.Puts.{variables_as}
 use Rattle.leaf_update.specs.Splice.{keys_of}
-use Rattle.map_laws.specs.PlaceLaws.{drop_at}
 use Rattle.set_core.specs.declared.set.Set.{Set}
 use Rattle.solver_store.specs.declared.leaf.LeafVar.{LeafVar}
 use Rattle.solver_store.specs.declared.leaf.LeafVar.TheVariants as leaf
@@ -82,51 +81,36 @@ none_before keys put more q =
     nothing false = refl
 
 -- what is next is pushed where it isn't found
+pub other_left : (keys left rest : List Address) (at : Address) (found : Bool)
+    (old new all : List Address) → left ≡ at ∷ rest → found ≡ among keys at
+    → (found ≡ true → new ≡ old) → (found ≡ false → new ≡ old ++ at ∷ [])
+    → old ++ others keys left ≡ all → new ++ others keys rest ≡ all
+other_left keys left rest at found old new all next is there absent so_far =
+    by found is there absent ∙ ap (λ ks. old ++ others keys ks) (sym next) ∙ so_far
+  where
+    by : (b : Bool) → b ≡ among keys at → (b ≡ true → new ≡ old)
+        → (b ≡ false → new ≡ old ++ at ∷ [])
+        → new ++ others keys rest ≡ old ++ others keys (at ∷ rest)
+    by true s t a =
+        ap (λ ks. ks ++ others keys rest) (t refl)
+        ∙ ap (λ b. old ++ cond (not b) (at ∷ others keys rest) (others keys rest)) s
+    by false s t a =
+        ap (λ ks. ks ++ others keys rest) (a refl)
+        ∙ append_assoc old (at ∷ []) (others keys rest)
+        ∙ ap (λ b. old ++ cond (not b) (at ∷ others keys rest) (others keys rest)) s
+
 pub other_next : (keys all : List Address) (n : ℕ) (at : Address) (found : Bool)
     (old new : List Address) → drop n all ≡ at ∷ drop (n + 1) all → found ≡ among keys at
     → (found ≡ true → new ≡ old) → (found ≡ false → new ≡ old ++ at ∷ [])
     → old ++ others keys (drop n all) ≡ others keys all
     → new ++ others keys (drop (n + 1) all) ≡ others keys all
-other_next keys all n at found old new here is there absent so_far =
-    by found is there absent
-    ∙ ap (λ ks. old ++ others keys ks) (sym here) ∙ so_far
-  where
-    by : (b : Bool) → b ≡ among keys at → (b ≡ true → new ≡ old)
-        → (b ≡ false → new ≡ old ++ at ∷ [])
-        → new ++ others keys (drop (n + 1) all)
-        ≡ old ++ others keys (at ∷ drop (n + 1) all)
-    by true s t a =
-        ap (λ ks. ks ++ others keys (drop (n + 1) all)) (t refl)
-        ∙ ap (λ b. old ++ cond (not b) (at ∷ others keys (drop (n + 1) all))
-        (others keys (drop (n + 1) all))) s
-    by false s t a =
-        ap (λ ks. ks ++ others keys (drop (n + 1) all)) (a refl)
-        ∙ append_assoc old (at ∷ []) (others keys (drop (n + 1) all))
-        ∙ ap (λ b. old ++ cond (not b) (at ∷ others keys (drop (n + 1) all))
-        (others keys (drop (n + 1) all))) s
-
-pub other_more : (keys all : List Address) (n : ℕ) (at : Address) (found : Bool)
-    (old new : List Address) → slice_get all n ≡ Some at → found ≡ among keys at
-    → (found ≡ true → new ≡ old) → (found ≡ false → new ≡ old ++ at ∷ [])
-    → old ++ others keys (drop n all) ≡ others keys all
-    → new ++ others keys (drop (n + 1) all) ≡ others keys all
-other_more keys all n at found old new here is there absent so_far =
-    other_next keys all n at found old new (drop_at n at all here) is there absent so_far
+other_next keys all n at found old new =
+    other_left keys (drop n all) (drop (n + 1) all) at found old new (others keys all)
 
 pub none_past : (keys all gone : List Address) (n : ℕ) → length all ≤ n
     → gone ++ others keys (drop n all) ≡ others keys all → gone ≡ others keys all
 none_past keys all gone n end so_far =
     sym (ap (λ ks. gone ++ others keys ks) (drop_all n all end) ∙ append-nil gone) ∙ so_far
-
-pub others_done : (keys all gone : List Address) (n : ℕ) → length all ≡ n
-    → gone ++ others keys (drop n all) ≡ others keys all → gone ≡ others keys all
-others_done keys all gone n end so_far =
-    sym (ap (λ ks. gone ++ others keys ks) (drop_all n all (omega (arith, end))) ∙ append-nil gone)
-    ∙ so_far
-
-pub no_others : (keys all : List Address) → length all ≡ 0 → others keys all ≡ []
-no_others keys [] e = refl
-no_others keys (a ∷ all) e = absurd (omega (arith, e))
 
 -- ---- what a leaf has
 

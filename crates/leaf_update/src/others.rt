@@ -67,11 +67,8 @@ fn other_variables(alloc: Global, map: &AddressMap, leaves: &[Item]) -> Result<V
         return Ok(gone);
     }
     let put = variables_put(alloc, leaves)?;
-    for n in 0..map.var_count() {
-        let Some(at) = map.nth_var(n) else {
-            unreachable!()
-        };
-        push_other(&mut gone, &put, at)?;
+    for entry in map.vars() {
+        push_other(&mut gone, &put, entry.0)?;
     }
     Ok(gone)
 }
@@ -85,11 +82,8 @@ fn other_rows(alloc: Global, map: &AddressMap, leaves: &[Item]) -> Result<Vec<Ad
         return Ok(gone);
     }
     let put = rows_put(alloc, leaves)?;
-    for n in 0..map.row_count() {
-        let Some(at) = map.nth_row(n) else {
-            unreachable!()
-        };
-        push_other(&mut gone, &put, at)?;
+    for entry in map.rows() {
+        push_other(&mut gone, &put, entry.0)?;
     }
     Ok(gone)
 }

@@ -60,7 +60,7 @@ fn drop_row(solver: &mut SolverModel, map: &mut AddressMap, at: &Address)
 {
     // what these ensure of the count and of the map
     let _few = solver.calls();
-    let _one_to_one = map.row_index(at);
+    let _one_to_one = map.row_at(0);
     let Some(i) = map.drop_row(at) else {
         unreachable!()
     };

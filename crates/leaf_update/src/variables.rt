@@ -52,7 +52,7 @@ fn drop_variable(solver: &mut SolverModel, map: &mut AddressMap, at: &Address)
 {
     // what these ensure of the count and of the map
     let _few = solver.calls();
-    let _one_to_one = map.var_index(at);
+    let _one_to_one = map.var_at(0);
     let Some(i) = map.drop_var(at) else {
         unreachable!()
     };

@@ -45,8 +45,8 @@ module _ (old : State) (e : Edit) (new : State) (accepted : first_refusal old.mo
         h.1.1.at h.1.1.unfit
 
     -- so only memory may run out
-    pub only_memory : (fault : EditFault) → IsEdited old e (Err fault) new → fault ≡ Memory
-    only_memory (Refused refusal) h = absurd (not_refused refusal h)
-    only_memory (Unsupported kind) h = absurd (not_unsupported kind h)
-    only_memory (Overflow place) h = absurd (not_overflowing place h)
-    only_memory Memory h = refl
+    pub out_of_memory : (fault : EditFault) → IsEdited old e (Err fault) new → fault ≡ Memory
+    out_of_memory (Refused refusal) h = absurd (not_refused refusal h)
+    out_of_memory (Unsupported kind) h = absurd (not_unsupported kind h)
+    out_of_memory (Overflow place) h = absurd (not_overflowing place h)
+    out_of_memory Memory h = refl

@@ -192,11 +192,11 @@ fn make<B: Bridge>(cache: &mut Cache<B>, edit: Edit) -> Result<(), ConflictFault
     let _valid = cache.model().rows();
     match cache.edit(edit) {
         Ok(_changed) => Ok(()),
-        Err(fault) => Err(want_of_memory(fault)),
+        Err(fault) => Err(out_of_memory(fault)),
     }
 }
 
-fn want_of_memory(fault: EditFault) -> ConflictFault
+fn out_of_memory(fault: EditFault) -> ConflictFault
     requires { fault ≡ EditFault.Memory }
     ensures { result ≡ ConflictFault.Memory }
 {

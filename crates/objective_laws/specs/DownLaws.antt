@@ -17,7 +17,7 @@ use Rattle.bridge_face.specs.ImageOf.{image_of}
 use Rattle.bridge_face.specs.Law.{is_objective, listed}
 use Rattle.bridge_face.specs.State.{State}
 use Rattle.bridge_plan.specs.Adds.{kept_of}
-use Rattle.bridge_set.specs.Walk.{kept_first}
+use Rattle.bridge_set.specs.Bridges.{kept_first}
 use Rattle.fresh_bridging.specs.CanLaws.{AreLawful}
 use Rattle.fresh_bridging.specs.Entries.{Entry, put_in}
 use Rattle.fresh_bridging.specs.Leaves.{leaf_objectives}

@@ -6,7 +6,7 @@ use Rattle.aff_core.specs.Address.{Address}
 use Rattle.bridge_face.specs.ImageOf.{image_of}
 use Rattle.bridge_face.specs.State.{State}
 use Rattle.bridge_face.specs.declared.kept_item.KeptItem.{KeptItem}
-use Rattle.bridge_set.specs.Walk.{kept_first}
+use Rattle.bridge_set.specs.Bridges.{kept_first}
 use Rattle.item_core.specs.declared.item.Item.{Item}
 
 -- the bridges lead from the first address to the second, at which none keeps an item

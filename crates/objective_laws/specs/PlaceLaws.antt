@@ -21,7 +21,7 @@ use Rattle.item_core.specs.declared.item.Item.{Item}
 use Rattle.bridge_face.specs.Law.{is_objective}
 use Rattle.bridge_face.specs.State.{State}
 use Rattle.bridge_plan.specs.Adds.{kept_of}
-use Rattle.bridge_set.specs.Walk.{kept_first}
+use Rattle.bridge_set.specs.Bridges.{kept_first}
 use Rattle.fresh_bridging.specs.CanLaws.{AreLawful}
 use Rattle.fresh_bridging.specs.FreshBridging.{FreshBridging, leaves_of, nodes_of}
 use Rattle.fresh_bridging.specs.Leaves.{leaf_objectives}

@@ -1,17 +1,18 @@
 -- The change step of an edit, composed: each call on the way may be made, and what is left holds the
 -- fresh bridging of the model after, with little done. RefusedLaws has what is refused before it.
-use Rattle.std.specs.Prelude.{◌≡◌, ◌≤◌, ◌+◌, ◌*◌, ◌&&◌, ◌||◌, not, ℕ, List, [], ◌∷◌, All, AllPairs, Option, Some, None, flat_map, length, map, true, Contains, refl}
+use Rattle.std.specs.Prelude.{◌≡◌, ◌≤◌, ◌+◌, ◌*◌, ◌&&◌, ◌||◌, not, ℕ, List, [], ◌∷◌, All, AllPairs, Option, Some, None, length, map, true, Contains, refl}
 use Rattle.std.specs.Map.{keys_of}
-use Rattle.std.proofs.Common.{sym, ap, subst, ◌∙◌}
+use Rattle.std.proofs.Common.{arith, sym, ap, subst, ◌∙◌}
 use Rattle.std.proofs.lemmas.List.Elements.{All-cons, All-nil}
 use Rattle.aff_core.specs.Address.{Address}
 use Rattle.address_map.specs.AddressMap.{AddressMap}
 use Rattle.bridge_set_laws.specs.BridgeSetLaws.{bridges_changed, few_turns}
+use Rattle.bridge_set_laws.specs.CountLaws.{without_each}
+use Rattle.bridge_set_laws.specs.GoneLaws.{few_released, gone_by}
 use Rattle.bridge_set.specs.Adding.{AreFree, with_each}
 use Rattle.bridge_set.specs.Bridges.{AreKeepable, families_of, kept_by}
-use Rattle.bridge_set.specs.Letting.{without_each}
+use Rattle.bridge_set.specs.Letting.{kept_count, without_found}
 use Rattle.bridge_set.specs.Nodes.{HoldNodes, nodes_by}
-use Rattle.bridge_set.specs.Walk.{nodes_below}
 use Rattle.bridge_face.specs.State.{Kept, State}
 use Rattle.bridge_plan.specs.Adds.{kept_of}
 use Rattle.bridge_plan.specs.Worked.{IsWithin}
@@ -38,7 +39,7 @@ use Rattle.model_bridging.specs.Outcome.{IsFirstAt}
 use Rattle.push_laws.specs.Edits.{AreChanging, AttachedEdit, IsMappedAnew, IsSearch, IsStandingFor, PlannedEdit, choice_here, missing_others, old_here, setting_here, sound_before, sound_behind, HoldsBridging, contents_name}
 use Rattle.push_laws.specs.FreeLaws.{free_after, to_be_kept}
 use Rattle.push_laws.specs.FurtherLaws.{agree_here}
-use Rattle.push_laws.specs.GroupsHad.{all_roots, had_here}
+use Rattle.push_laws.specs.GroupsHad.{had_here}
 use Rattle.push_laws.specs.HeldAllLaws.{leaves_held, nodes_held}
 use Rattle.push_laws.specs.MappedLaws.{exprs_are, marks_are}
 use Rattle.push_laws.specs.PlannedLaws.{all_touched, apart, count_here, leaves_planned, nodes_planned, others_stay, within_here}
@@ -46,7 +47,7 @@ use Rattle.push_laws.specs.PutLaws.{leaves_are, nodes_are}
 use Rattle.push_laws.specs.RefusedLaws.{bridged}
 use Rattle.push_laws.specs.SpliceLaws.{AreHadBy, is_splice, leaves_changed}
 use Rattle.push_laws.specs.UnfitLaws.{made_where_fit, unfit_others}
-use Rattle.push_laws.specs.WalkedLaws.{hold_nodes, nodes_listed}
+use Rattle.push_laws.specs.HoldLaws.{hold_nodes, once_here}
 use Rattle.solver_store.specs.SolverModel.{Leaves}
 use Rattle.touched_items.specs.Differences.{groups_in}
 use Rattle.user_model.specs.declared.objective.Objective.{Objective}
@@ -150,17 +151,25 @@ module _ (e : AttachedEdit) (s : PlannedEdit e) where
       (nodes_are (setting_here e) e.sound.costly e.sound.lawful e.native e.after e.valid new_here))
 
   module _ (states between : List State) (same : kept_by states ≡ kept_by e.bridges.states)
-      (gone : kept_by between
-      ≡ map (without_each (flat_map (nodes_below states) s.addresses)) (kept_by states)) where
-    listed : flat_map (nodes_below states) s.addresses
-        ≡ keys_of (held_by (old_here e) of_nodes s.addresses)
-    listed =
-        nodes_listed e states same s.addresses
-        (all_roots e s.changed s.addresses s.rows s.objective s.search)
-
+      (gone : kept_by between ≡ map (without_found s.addresses) (kept_by states)) where
     gone_is : kept_by between
         ≡ map (without_each (keys_of (held_by (old_here e) of_nodes s.addresses))) (kept_by states)
-    gone_is = gone ∙ ap (λ ats. map (without_each ats) (kept_by states)) listed
+    gone_is =
+        gone_by (sound_before e) (old_here e) s.addresses states between (hold_nodes e states same)
+        gone
+
+    -- at most a turn for each old node
+    few_gone : (t1 t2 : ℕ)
+        → t2 + kept_count (kept_by between) ≤ t1 + kept_count (kept_by states)
+        → t2 ≤ t1 + length (keys_of (held_by (old_here e) of_nodes s.addresses))
+    few_gone t1 t2 h =
+        fewer t1 t2 (kept_count (kept_by states)) (kept_count (kept_by between))
+        (length (keys_of (held_by (old_here e) of_nodes s.addresses))) h
+        (few_released (sound_before e) (old_here e) s.addresses states between
+        (hold_nodes e states same) (once_here e states same) gone_is)
+      where
+        fewer : (a b c d n : ℕ) → b + d ≤ a + c → c ≤ d + n → b ≤ a + n
+        fewer a b c d n h k = omega (arith, h, k)
 
     pub free_here : AreFree s.nodes (kept_by between)
     free_here =
@@ -183,8 +192,7 @@ module _ (e : AttachedEdit) (s : PlannedEdit e) where
   module _ (states between behind : List State) (solver : Leaves) (places : AddressMap)
       (objective_at : Address) (t0 t1 t2 t3 : ℕ)
       (same : kept_by states ≡ kept_by e.bridges.states)
-      (gone : kept_by between
-      ≡ map (without_each (flat_map (nodes_below states) s.addresses)) (kept_by states))
+      (gone : kept_by between ≡ map (without_found s.addresses) (kept_by states))
       (kept : kept_by behind ≡ map (with_each s.nodes) (kept_by between))
       (through : read_through places solver objective_at
       ≡ spliced_model (read_through e.places e.solver e.objective_at) gone_here s.leaves)
@@ -192,7 +200,7 @@ module _ (e : AttachedEdit) (s : PlannedEdit e) where
       (mapped : IsMappedAnew e s.standing places)
       -- an image for each planned node, each old one released, each planned one kept
       (images : t1 ≤ t0 + length s.nodes)
-      (let_go : t2 ≤ t1 + length (flat_map (nodes_below states) s.addresses))
+      (let_go : t2 + kept_count (kept_by between) ≤ t1 + kept_count (kept_by states))
       (kept_again : t3 ≤ t2 + length s.nodes) where
     -- the leaves of the new bridging
     leaves_left : read_through places solver objective_at ≡ leaves_of new_here
@@ -253,7 +261,7 @@ module _ (e : AttachedEdit) (s : PlannedEdit e) where
           (all_touched e new_here s.standing s.changed s.addresses s.rows s.objective s.search
           s.changing) t0 t1 t2 t3
           (subst (λ ns. t1 ≤ t0 + length ns) nodes_here images)
-          (subst (λ ats. t2 ≤ t1 + length ats) (listed states between same gone) let_go)
+          (few_gone states between same gone t1 t2 let_go)
           (subst (λ ns. t3 ≤ t2 + length ns) nodes_here kept_again);
     }
 

@@ -8,10 +8,10 @@ use Rattle.std.proofs.Common.{inl, inr, sym, ap, subst, ◌∙◌}
 use Rattle.std.proofs.lemmas.List.Elements.{All-cons, All-contains_itself, All-head, All-map, All-nil, All-tail, All-weaker}
 use Rattle.address_laws.specs.Apart.{Distinct, is_distinct}
 use Rattle.aff_core.specs.Address.{Address, address_eq, address_total}
+use Rattle.bridge_set_laws.specs.CountLaws.{without_each}
 use Rattle.bridge_set_laws.specs.FamilyLaws.{family_kept, family_part, held_listed}
 use Rattle.bridge_set.specs.Adding.{AreFree}
 use Rattle.bridge_set.specs.Bridges.{AreKeepable, kept_by}
-use Rattle.bridge_set.specs.Letting.{without_each, without_list}
 use Rattle.bridge_set.specs.Nodes.{HoldNodes, nodes_by}
 use Rattle.bridge_face.specs.Law.{IsItemFor}
 use Rattle.bridge_face.specs.State.{Kept, State}
@@ -39,10 +39,6 @@ use Rattle.map_laws.specs.MadeLaws.{get_made}
 use Rattle.push_laws.specs.HeldAllLaws.{each_node_held, nodes_held}
 use Rattle.user_model.specs.Model.{ModelValue}
 
-without_is : (m : Kept) (gone : List Address) → without_list m gone ≡ without_all m gone
-without_is m [] = refl
-without_is m (at ∷ gone) = without_is (finite.remove m at) gone
-
 module _ {setting next : Setting} {model after : ModelValue} (sound : IsValidUnder setting model)
     (sound_after : IsValidUnder next after)
     (old : FreshBridging setting model) (new : FreshBridging next after)
@@ -59,10 +55,8 @@ module _ {setting next : Setting} {model after : ModelValue} (sound : IsValidUnd
   -- where a node is planned, nothing is kept once all nodes of the found items are released
   free_there : (family : Family) (v : Address)
       → planned sound sound_after old new found of_nodes nodes_view v ≢ None
-      → finite.get (without_list (nodes_by old family) had) v ≡ None
-  free_there family v some =
-      ap (λ m. finite.get m v) (without_is (nodes_by old family) had)
-      ∙ by (contains_or_not had v)
+      → finite.get (without_all (nodes_by old family) had) v ≡ None
+  free_there family v some = by (contains_or_not had v)
     where
       by : Contains had v ⊎ (¬ (Contains had v))
           → finite.get (without_all (nodes_by old family) had) v ≡ None
@@ -96,7 +90,7 @@ module _ {setting next : Setting} {model after : ModelValue} (sound : IsValidUnd
   each_bridge v some (s ∷ states) hold =
       All-cons (λ (k : Family × Kept). finite.get k.1 v ≡ None)
       (without_each had (s.family, s.kept)) (map (without_each had) (kept_by states))
-      (ap (λ m. finite.get (without_list m had) v)
+      (ap (λ (m : Kept). finite.get (without_all m had) v)
       (All-head (λ (s : State). s.kept ≡ nodes_by old s.family) s states hold)
       ∙ free_there s.family v some)
       (each_bridge v some states

@@ -1,6 +1,6 @@
--- The given groups, as they were, are the groups among the found items of the model before; and each found
--- item stands at a root.
-use Rattle.std.specs.Prelude.{◌≡◌, ◌⊎◌, ◌++◌, Bool, true, false, cond, List, [], ◌∷◌, All, AllPairs, Contains, filter, map, Option, Some, None, refl}
+-- The given groups, as they were, are the groups among the found items of the model before; and no found
+-- item has a variable's address.
+use Rattle.std.specs.Prelude.{◌≡◌, ◌⊎◌, ◌++◌, Bool, true, false, cond, List, [], ◌∷◌, All, AllPairs, Contains, filter, map, Option, Some, None}
 use Rattle.std.specs.Option.{option_map_or}
 use Rattle.std.proofs.Common.{inl, inr, sym, subst}
 use Rattle.std.proofs.lemmas.List.Elements.{All-append, All-cons, All-contains, All-contains_itself, All-map, All-nil, All-weaker}
@@ -9,7 +9,6 @@ use Rattle.address_map.specs.Noted.{noted_items}
 use Rattle.aff_core.specs.Address.{Address, address_eq-Decides, root_address}
 use Rattle.aff_core.specs.declared.root.Root.TheVariants as root
 use Rattle.bridge_face.specs.Law.{inner_of}
-use Rattle.bridge_set.specs.Walk.{IsRoot}
 use Rattle.push_laws.specs.Edits.{AreGroupsAt, AttachedEdit, IsSearch, old_here, setting_here, sound_before, sound_behind}
 use Rattle.push_laws.specs.GivenLaws.{IsGivenAt, before_given, given_found, groups_had, index_here}
 use Rattle.found_plan.specs.Stood.{old_leaves}
@@ -44,62 +43,62 @@ use Rattle.user_model.specs.declared.objective.Objective.TheVariants as objectiv
 use Rattle.user_model.specs.declared.objective.Objective.{Objective}
 use Rattle.user_model.specs.declared.row.Row.{Row}
 
--- ---- each item stands at a root that is no variable
+-- ---- no item has a variable's address
 
-abbrev pub IsItemRoot : Address → Type 0
-IsItemRoot at = IsRoot at × (¬ (at.root ≡ root.Variable))
+abbrev IsNoVariable : Address → Type 0
+IsNoVariable at = ¬ (at.root ≡ root.Variable)
 
-each_rooted : {X : Type 0} (f : X → Address) → ((x : X) → IsItemRoot (f x)) → (xs : List X)
-    → All IsItemRoot (map f xs)
-each_rooted f each [] = All-nil IsItemRoot
-each_rooted f each (x ∷ xs) =
-    All-cons IsItemRoot (f x) (map f xs) (each x) (each_rooted f each xs)
+each_no_variable : {X : Type 0} (f : X → Address) → ((x : X) → IsNoVariable (f x)) → (xs : List X)
+    → All IsNoVariable (map f xs)
+each_no_variable f each [] = All-nil IsNoVariable
+each_no_variable f each (x ∷ xs) =
+    All-cons IsNoVariable (f x) (map f xs) (each x) (each_no_variable f each xs)
 
-pub contents_rooted : (c : Contents) → All IsItemRoot (addresses_in c)
-contents_rooted c =
-    All-append IsItemRoot (group_addresses (groups_in c))
+contents_no_variable : (c : Contents) → All IsNoVariable (addresses_in c)
+contents_no_variable c =
+    All-append IsNoVariable (group_addresses (groups_in c))
     (row_addresses (rows_in c) ++ option_map_or (λ _. objective_address ∷ []) c.objective [])
-    (each_rooted (λ (g : Group). root_address root.Group g.id) (λ g. (refl, λ e. cc)) (groups_in c))
-    (All-append IsItemRoot (row_addresses (rows_in c))
+    (each_no_variable (λ (g : Group). root_address root.Group g.id) (λ g e. cc) (groups_in c))
+    (All-append IsNoVariable (row_addresses (rows_in c))
     (option_map_or (λ _. objective_address ∷ []) c.objective [])
-    (each_rooted (λ (r : Row). root_address root.Row r.id) (λ r. (refl, λ e. cc)) (rows_in c))
+    (each_no_variable (λ (r : Row). root_address root.Row r.id) (λ r e. cc) (rows_in c))
     (last c.objective))
   where
     last : {B : Type 0} (o : Option B)
-        → All IsItemRoot (option_map_or (λ _. objective_address ∷ []) o [])
-    last None = All-nil IsItemRoot
+        → All IsNoVariable (option_map_or (λ _. objective_address ∷ []) o [])
+    last None = All-nil IsNoVariable
     last (Some x) =
-        All-cons IsItemRoot objective_address [] (refl, λ e. cc) (All-nil IsItemRoot)
+        All-cons IsNoVariable objective_address [] (λ e. cc) (All-nil IsNoVariable)
 
-items_rooted : (model : ModelValue) → All (λ i. IsItemRoot i.at) (items_of model)
-items_rooted model =
-    All-append Rooted (model_image model).groups (model_image model).others
-    (All-map Rooted group_item model.groups (groups model.groups))
-    (All-append Rooted (map row_item model.rows) (objective_items model.objective)
-    (All-map Rooted row_item model.rows (rows model.rows)) (last model.objective))
+items_no_variable : (model : ModelValue) → All (λ i. IsNoVariable i.at) (items_of model)
+items_no_variable model =
+    All-append Other (model_image model).groups (model_image model).others
+    (All-map Other group_item model.groups (groups model.groups))
+    (All-append Other (map row_item model.rows) (objective_items model.objective)
+    (All-map Other row_item model.rows (rows model.rows)) (last model.objective))
   where
-    Rooted : Item → Type 0
-    Rooted i = IsItemRoot i.at
+    Other : Item → Type 0
+    Other i = IsNoVariable i.at
 
-    groups : (gs : List Group) → All (λ g. Rooted (group_item g)) gs
-    groups [] = All-nil (λ g. Rooted (group_item g))
-    groups (g ∷ gs) = All-cons (λ g. Rooted (group_item g)) g gs (refl, λ e. cc) (groups gs)
+    groups : (gs : List Group) → All (λ g. Other (group_item g)) gs
+    groups [] = All-nil (λ g. Other (group_item g))
+    groups (g ∷ gs) = All-cons (λ g. Other (group_item g)) g gs (λ e. cc) (groups gs)
 
-    rows : (rs : List Row) → All (λ r. Rooted (row_item r)) rs
-    rows [] = All-nil (λ r. Rooted (row_item r))
-    rows (r ∷ rs) = All-cons (λ r. Rooted (row_item r)) r rs (refl, λ e. cc) (rows rs)
+    rows : (rs : List Row) → All (λ r. Other (row_item r)) rs
+    rows [] = All-nil (λ r. Other (row_item r))
+    rows (r ∷ rs) = All-cons (λ r. Other (row_item r)) r rs (λ e. cc) (rows rs)
 
-    last : (o : Objective) → All Rooted (objective_items o)
-    last objective.Feasibility = All-nil Rooted
-    last (objective.Plain sense var) = All-cons Rooted _ [] (refl, λ e. cc) (All-nil Rooted)
-    last (objective.Affine sense func) = All-cons Rooted _ [] (refl, λ e. cc) (All-nil Rooted)
+    last : (o : Objective) → All Other (objective_items o)
+    last objective.Feasibility = All-nil Other
+    last (objective.Plain sense var) = All-cons Other _ [] (λ e. cc) (All-nil Other)
+    last (objective.Affine sense func) = All-cons Other _ [] (λ e. cc) (All-nil Other)
 
-pub item_rooted : (model : ModelValue) (at : Address) (item : Item) → item_at model at ≡ Some item
-    → IsItemRoot at
-item_rooted model at item is =
-    subst IsItemRoot
+item_no_variable : (model : ModelValue) (at : Address) (item : Item) → item_at model at ≡ Some item
+    → IsNoVariable at
+item_no_variable model at item is =
+    subst IsNoVariable
     ((address_eq-Decides item.at at).0 (found_passes (is_there at) (items_of model) item is))
-    (found_is (λ i. IsItemRoot i.at) (is_there at) (items_of model) item (items_rooted model) is)
+    (found_is (λ i. IsNoVariable i.at) (is_there at) (items_of model) item (items_no_variable model) is)
 
 -- ---- variables of some of the groups
 
@@ -145,25 +144,22 @@ module _ (e : AttachedEdit) (changed addresses : List Address) (rows : List Row)
   abbrev had_here_groups : AreGroupsAt e.model addresses (groups_in e.d.before)
   had_here_groups = groups_had e changed addresses rows objective search
 
-  rooted : All IsItemRoot addresses
-  rooted =
-      All-weaker (Contains addresses) IsItemRoot
+  no_variables : All IsNoVariable addresses
+  no_variables =
+      All-weaker (Contains addresses) IsNoVariable
       (λ at c. by at ((in_order_noted given changed noted addresses search.order at).0 c))
       addresses (All-contains_itself addresses)
     where
       by : (at : Address)
           → Contains given at ⊎ ((v : Address) × Contains changed v × Contains (noted v) at)
-          → IsItemRoot at
+          → IsNoVariable at
       by at (inl c) =
-          All-contains IsItemRoot given at
-          (All-append IsItemRoot (addresses_in e.d.before) (addresses_in e.d.after)
-          (contents_rooted e.d.before) (contents_rooted e.d.after)) c
+          All-contains IsNoVariable given at
+          (All-append IsNoVariable (addresses_in e.d.before) (addresses_in e.d.after)
+          (contents_no_variable e.d.before) (contents_no_variable e.d.after)) c
       by at (inr k) =
           let m = (index_here e k.0 at).0 k.2 in
-          item_rooted e.model at m.0 m.1
-
-  pub all_roots : All IsRoot addresses
-  all_roots = All-weaker IsItemRoot IsRoot (λ at h. h.0) addresses rooted
+          item_no_variable e.model at m.0 m.1
 
   are_groups : (new : FreshBridging (setting_here e) e.after)
       (apart : AllPairs (λ a b. ¬ (b ≡ a)) addresses)
@@ -192,7 +188,7 @@ module _ (e : AttachedEdit) (changed addresses : List Address) (rows : List Row)
         (subst (λ l. Distinct (inner_of l)) had_here_groups
         (fewer_once (is_found addresses) (model_image e.model).groups
         (variables_once e.model e.held.valid))));
-    roots = All-weaker IsItemRoot (λ at. ¬ (at.root ≡ root.Variable)) (λ at h. h.1) addresses rooted;
+    roots = no_variables;
   }
 
   -- what is listed is what the found items had

@@ -28,7 +28,7 @@ pub mod RefusedLaws
 pub mod PlannedLaws
 pub mod FurtherLaws
 pub mod UnfitLaws
-pub mod WalkedLaws
+pub mod HoldLaws
 pub mod GroupsHad
 pub mod MappedLaws
 pub mod Composed

@@ -1,5 +1,5 @@
 -- Lines of some of the rows so far, and what is left.
-use Rattle.std.proofs.Common.{◌≡◌, ℕ, List, [], ◌∷◌, ◌++◌, append-nil, append_assoc, ap, ap₂, codes, flat_map, map, refl, sym, ◌∙◌}
+use Rattle.std.proofs.Common.{◌≡◌, ℕ, List, [], ◌∷◌, ◌++◌, append-nil, append_assoc, ap, ap₂, map, refl, sym, ◌∙◌}
 use Rattle.std.specs.List.{zip}
 use Rattle.std.specs.Prelude.{OnOk, Result}
 use Rattle.std.proofs.lemmas.Result.{on_ok_weaker}
@@ -48,19 +48,6 @@ module _ {X : Type 0} (line : Row × X → Line) where
       none : (rs : List Row) → zip {K = Row} {X = X} rs [] ≡ []
       none [] = refl
       none (r ∷ rs) = refl
-
--- ---- numbers, each after a space
-
-abbrev each_text : List Rational → List ℕ
-each_text qs = flat_map (λ q. codes " " ++ text_of q) qs
-
-pub numbers_more : (left others : List Rational) (q : Rational) (text new whole : List ℕ)
-    → text ++ each_text left ≡ whole → left ≡ q ∷ others
-    → new ≡ (text ++ codes " ") ++ text_of q → new ++ each_text others ≡ whole
-numbers_more left others q text new whole h is e =
-    ap (λ t. t ++ each_text others) (e ∙ append_assoc text (codes " ") (text_of q))
-    ∙ append_assoc text (codes " " ++ text_of q) (each_text others)
-    ∙ sym (ap (λ qs. text ++ each_text qs) is) ∙ h
 
 -- ---- parts of a text
 

@@ -3,25 +3,22 @@ ghost use Rattle.std.specs.Prelude.{◌≡◌, ◌≢◌, [], ◌∷◌, All, Is
 ghost use Rattle.std.specs.Prelude as prelude;
 ghost use Rattle.std.specs.FinMap as finite;
 ghost use Rattle.bridge_set.specs.Bridges.{families_of, occur_once};
-ghost use Rattle.file_command.specs.Loading.{AnswersFile, MakesOn};
+ghost use Rattle.file_command.specs.Loading.{AnswersFile};
 ghost use Rattle.io_face.specs.Fault.{HasFaulted};
 ghost use Rattle.io_face.specs.Shelf.{AsksFor};
 ghost use Rattle.io_face.specs.Told.{told_by};
 ghost use Rattle.model_command.specs.Alone.{standard_by};
-ghost use Rattle.model_load.specs.Loads.{after_edits};
 ghost use Rattle.relax_command.specs.Says.{Relaxes, Says};
 
 use crate::solving::solved;
 use bridge_face::Bridge;
-use file_command::model_of;
+use file_command::{make_all, model_of};
 use io_face::Shelf;
-use model_load::load_all;
 use model_store::UserModel;
 use name_index::Name;
 use relaxation::relaxed;
-use report_core::{Answer, Refused, refusal};
+use report_core::Answer;
 use std::alloc::Global;
-use user_model::{ApplyFault, Edit};
 
 /// What is answered to the file of a name. It is asked for once, and no other is.
 pub(crate) fn answer<H: Shelf, B: Bridge>(
@@ -71,18 +68,5 @@ fn relax(alloc: Global, model: &mut UserModel) -> Result<(), Answer>
     match relaxed(alloc, model) {
         Ok(edits) => make_all(alloc, model, edits.into_vec()),
         Err(_) => Err(Answer::Memory),
-    }
-}
-
-// Makes edits of a model, all or none.
-fn make_all(alloc: Global, model: &mut UserModel, edits: Vec<Edit>) -> Result<(), Answer>
-    ensures { MakesOn (after_edits model.old.model edits.items) model.old.parked result model.new }
-{
-    match load_all(model, edits) {
-        Ok(()) => Ok(()),
-        Err(ApplyFault::Refused(reason)) => {
-            Err(refusal(alloc, &Refused::from(reason)).unwrap_or(Answer::Memory))
-        }
-        Err(ApplyFault::Memory) => Err(Answer::Memory),
     }
 }

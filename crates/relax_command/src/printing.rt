@@ -1,11 +1,11 @@
 //! The texts of the command's answers.
 ghost use Rattle.std.specs.Prelude.{◌≡◌, ◌++◌, IfOk, OnOk};
-ghost use Rattle.cert_text.specs.Text.{ended, numbers_text, row_line, row_lines, text_of_lines};
+ghost use Rattle.cert_text.specs.Text.{ended, row_lines, text_of_lines};
 ghost use Rattle.relax_command.specs.Text.{missed_line, missed_lines, relaxation_text};
 ghost use Rattle.relaxed_model.specs.Relaxed.{hard_rows, soft_rows};
 
 use crate::parts::RowsLeft;
-use file_command::push_numbers;
+use file_command::{push_numbers, push_row_duals};
 use lists::Memory;
 use model_store::UserModel;
 use name_index::Text;
@@ -119,27 +119,7 @@ fn push_duals(draft: &mut Draft, rows: &Rows, duals: &[Ratios]) -> Result<(), Me
         let Some(row) = left.next() else {
             return Ok(());
         };
-        push_row(draft, row, own.as_slice())?;
-    }
-    Ok(())
-}
-
-fn push_row(draft: &mut Draft, row: &Row, duals: &[Ratio]) -> Result<(), Memory>
-    ensures { OnOk result (draft.new ≡ draft.old ++ ended (row_line (row.now, duals.now))) }
-{
-    draft.push("dual row ")?;
-    draft.push_name(&row.name)?;
-    push_each(draft, duals)?;
-    draft.push("\n")
-}
-
-// Numbers, each after a space.
-fn push_each(draft: &mut Draft, numbers: &[Ratio]) -> Result<(), Memory>
-    ensures { OnOk result (draft.new ≡ draft.old ++ numbers_text numbers.now) }
-{
-    for number in numbers {
-        draft.push(" ")?;
-        draft.push_ratio(number)?;
+        push_row_duals(draft, row, own.as_slice())?;
     }
     Ok(())
 }

@@ -1,5 +1,5 @@
 // What the last line of a script does to the solver's model.
-use address_map::{Address, AddressMap};
+use address_map::{Address, Items};
 use bridge_face::Bridge;
 use edit_engine::{Answer, Session};
 use io_face::Shelf;
@@ -7,11 +7,13 @@ use std::alloc::Global;
 use std::str;
 use test_support::Stop;
 
-// The leaves with the indices that they have in the solver's model.
+// A leaf's address, with the index that it has in the solver's model.
+type Leaf = (Address, usize);
+
 #[derive(Drop)]
 struct Indices {
-    vars: Vec<(Address, usize)>,
-    rows: Vec<(Address, usize)>,
+    vars: Vec<Leaf>,
+    rows: Vec<Leaf>,
 }
 
 /// Has a session make the lines of a script and then a last one, and prints what that is answered,
@@ -79,31 +81,15 @@ fn turns_in<B: Bridge>(session: &Session<B>) -> u64 {
 fn indices_in<B: Bridge>(alloc: Global, session: &Session<B>) -> Result<Indices, Stop> {
     let map = session.cache().lazy().map();
     Ok(Indices {
-        vars: vars_in(alloc, map)?,
-        rows: rows_in(alloc, map)?,
+        vars: copies_of(alloc, map.vars())?,
+        rows: copies_of(alloc, map.rows())?,
     })
 }
 
-fn vars_in(alloc: Global, map: &AddressMap) -> Result<Vec<(Address, usize)>, Stop> {
-    let mut vars = Vec::new(alloc);
-    for n in 0..map.var_count() {
-        if let Some(at) = map.nth_var(n)
-            && let Some(i) = map.var_index(&at)
-        {
-            vars.push((at, i))?;
-        }
+fn copies_of(alloc: Global, leaves: Items<'_, Leaf>) -> Result<Vec<Leaf>, Stop> {
+    let mut copies = Vec::new(alloc);
+    for leaf in leaves {
+        copies.push(*leaf)?;
     }
-    Ok(vars)
-}
-
-fn rows_in(alloc: Global, map: &AddressMap) -> Result<Vec<(Address, usize)>, Stop> {
-    let mut rows = Vec::new(alloc);
-    for n in 0..map.row_count() {
-        if let Some(at) = map.nth_row(n)
-            && let Some(i) = map.row_index(&at)
-        {
-            rows.push((at, i))?;
-        }
-    }
-    Ok(rows)
+    Ok(copies)
 }

@@ -1,40 +1,20 @@
 -- What is answered to a model and its maps is no fault of the shelf.
 use Rattle.std.specs.Prelude.{◌≡◌, ℕ, List, Option, Some, None, Result, Ok, Err, refl}
-use Rattle.std.proofs.Common.{inl, inr, ◌∙◌, ap}
+use Rattle.std.proofs.Common.{inl, inr}
 use Rattle.cache_layer.specs.State.{State}
 use Rattle.cache_layer.specs.declared.fault.AttachFault.{AttachFault}
-use Rattle.cache_layer.specs.declared.fault.AttachFault.TheVariants as attach
 use Rattle.cache_layer.specs.declared.fault.OptFault.{OptFault}
-use Rattle.cache_layer.specs.declared.fault.OptFault.TheVariants as opt
 use Rattle.certificates.specs.declared.certificate.Certificate.{Certificate}
-use Rattle.file_command.specs.LoadingLaws.{shelf_fault}
+use Rattle.file_command.specs.LoadingLaws.{same_fault, shelf_fault}
 use Rattle.fresh_bridging.specs.TheRules.{Setting}
 use Rattle.map_file.specs.declared.file.MapFile.{MapFile}
 use Rattle.map_file.specs.Lines.{file_in}
 use Rattle.mapped_model.specs.Mapping.{Mapped, Made, IsRefused, Exceeds}
 use Rattle.mapped_model.specs.Uses.{wrong_line}
-use Rattle.model_command.specs.Telling.{attach_fault_answer, optimize_fault_answer}
+use Rattle.model_command.specs.TellingLaws.{attach_fault, optimize_fault}
 use Rattle.report_core.specs.declared.answer.Answer.{Answer}
 use Rattle.setmap_command.specs.Says.{SaysAttached, SaysBack, SaysBy, SaysFile, SaysGiven, SaysMapped, SaysMaps}
 use Rattle.user_model.specs.Model.{ModelValue}
-
--- an answer that is another
-same_fault : (answer said : Answer) → answer ≡ said → shelf_fault said ≡ None
-    → shelf_fault answer ≡ None
-same_fault answer said is none = ap shelf_fault is ∙ none
-
-attach_fault : (fault : AttachFault) → shelf_fault (attach_fault_answer fault) ≡ None
-attach_fault attach.AlreadyAttached = refl
-attach_fault (attach.Unsupported kind) = refl
-attach_fault (attach.Overflow place) = refl
-attach_fault attach.Memory = refl
-
-optimize_fault : (fault : OptFault) → shelf_fault (optimize_fault_answer fault) ≡ None
-optimize_fault opt.NotAttached = refl
-optimize_fault (opt.TooLarge cells) = refl
-optimize_fault (opt.Overflow place) = refl
-optimize_fault (opt.Limit n) = refl
-optimize_fault opt.Memory = refl
 
 module _ (model : ModelValue) (file : MapFile) (answer : Answer) where
   back_plain : (new : ModelValue) (c : Certificate) (exceeds : Option (List ℕ))

@@ -1,5 +1,5 @@
 pub mod Coefficients
-pub mod PlaceSteps
+pub mod ListSteps
 pub mod Pushes
 pub mod Steps
 pub mod Counts

@@ -47,21 +47,26 @@ row_lengths rows = map (λ row. length (equations_in row.1)) rows
 abbrev pub dual_lists : List (ℕ × LeafRow) → List Rational → List (ℕ × List Rational)
 dual_lists rows w = under rows (in_parts (row_lengths rows) w)
 
-module _ (map : AddressMap) (leaves : Leaves) where
-  -- of the flips of the form's rows
-  abbrev pub read_by_index : List Bool → SolverAnswer → LeafAnswer
-  read_by_index flips (solver.Optimal x y basis) =
-      leaf.Optimal (finite.from_entries (points (variables_of map leaves) x))
-      (finite.from_entries (dual_lists (rows_of map leaves) (unflipped flips y)))
-  read_by_index flips (solver.Infeasible y basis) =
-      leaf.Infeasible (finite.from_entries (dual_lists (rows_of map leaves) (unflipped flips y)))
-  read_by_index flips (solver.Unbounded x d basis) =
-      leaf.Unbounded (finite.from_entries (points (variables_of map leaves) x))
-      (finite.from_entries (points (variables_of map leaves) d))
+-- what the variables and rows are answered, of the flips of the form's rows
+abbrev pub answer_by : List (ℕ × LeafVar) → List (ℕ × LeafRow) → List Bool → SolverAnswer
+    → LeafAnswer
+answer_by vars rows flips (solver.Optimal x y basis) =
+    leaf.Optimal (finite.from_entries (points vars x))
+    (finite.from_entries (dual_lists rows (unflipped flips y)))
+answer_by vars rows flips (solver.Infeasible y basis) =
+    leaf.Infeasible (finite.from_entries (dual_lists rows (unflipped flips y)))
+answer_by vars rows flips (solver.Unbounded x d basis) =
+    leaf.Unbounded (finite.from_entries (points vars x)) (finite.from_entries (points vars d))
 
-  -- each difference of a free variable's columns fits
+-- each difference of a free variable's columns fits
+abbrev pub FitBy : List (ℕ × LeafVar) → SolverAnswer → Type 0
+FitBy vars (solver.Optimal x y basis) = ValuesFit vars x
+FitBy vars (solver.Infeasible y basis) = Unit {0}
+FitBy vars (solver.Unbounded x d basis) = ValuesFit vars x × ValuesFit vars d
+
+module _ (map : AddressMap) (leaves : Leaves) where
+  abbrev pub read_by_index : List Bool → SolverAnswer → LeafAnswer
+  read_by_index flips a = answer_by (variables_of map leaves) (rows_of map leaves) flips a
+
   abbrev pub FitByIndex : SolverAnswer → Type 0
-  FitByIndex (solver.Optimal x y basis) = ValuesFit (variables_of map leaves) x
-  FitByIndex (solver.Infeasible y basis) = Unit {0}
-  FitByIndex (solver.Unbounded x d basis) =
-      ValuesFit (variables_of map leaves) x × ValuesFit (variables_of map leaves) d
+  FitByIndex a = FitBy (variables_of map leaves) a

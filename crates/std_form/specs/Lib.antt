@@ -1,9 +1,9 @@
 pub mod Indexed
+pub mod Listed
 pub mod Borrowed
 pub mod Readable
 pub mod Answers
 pub mod NameLaws
-pub mod EntryPlaces
 pub mod ThroughLaws
 pub mod FormLaws
 pub mod NativeLaws

@@ -1,5 +1,5 @@
 -- What holds of a model by index holds of the leaf model that is read through its map.
-use Rattle.std.specs.Prelude.{◌≡◌, ◌+◌, ◌*◌, ◌<◌, ◌≤◌, ◌-◌, ◌^◌, List, [], ◌∷◌, All, IfOk, Result, Ok, Err, min}
+use Rattle.std.specs.Prelude.{◌≡◌, ℕ, ◌+◌, ◌*◌, ◌<◌, ◌≤◌, ◌-◌, ◌^◌, Bool, List, [], ◌∷◌, All, IfOk, Option, Result, Ok, Err, flat_map, min}
 use Rattle.std.specs.Prelude as prelude
 use Rattle.std.proofs.Common.{sym, ◌∙◌, ap, subst}
 use Rattle.std.proofs.lemmas.List.Elements.{All-cons, All-head, All-map, All-nil, All-tail, All-weaker}
@@ -20,12 +20,15 @@ use Rattle.simplex_core.specs.declared.answer.SolverAnswer.{SolverAnswer}
 use Rattle.simplex_core.specs.declared.form.StdForm.{StdForm}
 use Rattle.solver_store.specs.SolverModel.{Leaves}
 use Rattle.solver_store.specs.declared.answer.LeafAnswer.{LeafAnswer}
+use Rattle.solver_store.specs.declared.leaf.LeafObjective.{LeafObjective}
+use Rattle.solver_store.specs.declared.leaf.LeafRow.{LeafRow}
+use Rattle.solver_store.specs.declared.leaf.LeafVar.{LeafVar}
 use Rattle.std_form.specs.declared.fault.FormFault.{FormFault}
 use Rattle.std_form.specs.declared.fault.FormFault.TheVariants.{TooLarge, Overflow, Memory}
 use Rattle.std_form.specs.AnswerLaws.{answer_is, fit_is, right_by_index}
-use Rattle.std_form.specs.Answers.{FitByIndex, answer_of, read_by_index}
+use Rattle.std_form.specs.Answers.{FitBy, FitByIndex, answer_by, answer_of, read_by_index}
 use Rattle.std_form.specs.FormLaws.{equations_through, form_is, named_equation}
-use Rattle.std_form.specs.Indexed.{SolverEquation, cost_in, equations_of, form_of, variables_of}
+use Rattle.std_form.specs.Indexed.{SolverEquation, cost_in, equations_in, equations_of, form_of, rows_of, variables_of}
 use Rattle.std_form.specs.NameLaws.{constant_named}
 use Rattle.std_form.specs.Readable.{IsReadable}
 use Rattle.std_form.specs.Told.{Tells, TellsAnswer, TellsForm}
@@ -79,14 +82,41 @@ module _ (map : AddressMap) (leaves : Leaves) (one : IsOneToOne map.vars.indices
       (subst (λ n. n ≤ 16777216) cells_through h.0, λ k. h.1 (fits_back k))
   tells_through (Err Memory) h = tt
 
+-- what is said of an answer of the variables and rows, of the flips of the form's rows
+abbrev pub TellsBy : List (ℕ × LeafVar) → List (ℕ × LeafRow) → List Bool → SolverAnswer
+    → Result LeafAnswer NumberFault → Type 0
+TellsBy vars rows flips a (Ok answer) = (answer ≡ answer_by vars rows flips a) × FitBy vars a
+TellsBy vars rows flips a (Err number.Overflow) = ¬ FitBy vars a
+TellsBy vars rows flips a (Err number.Memory) = Unit {0}
+
 -- what is said by index of reading back
 abbrev pub TellsByIndex : AddressMap → Leaves → StdForm → SolverAnswer
     → Result LeafAnswer NumberFault
     → Type 0
-TellsByIndex map leaves form a (Ok answer) = (answer ≡ read_by_index map leaves form.flips a)
-    × FitByIndex map leaves a
-TellsByIndex map leaves form a (Err number.Overflow) = ¬ FitByIndex map leaves a
-TellsByIndex map leaves form a (Err number.Memory) = Unit {0}
+TellsByIndex map leaves form a r =
+    TellsBy (variables_of map leaves) (rows_of map leaves) form.flips a r
+
+-- variables and rows that are those of a model
+module _ (map : AddressMap) (leaves : Leaves) (vars : List (ℕ × LeafVar))
+    (rows : List (ℕ × LeafRow)) (their_vars : vars ≡ variables_of map leaves)
+    (their_rows : rows ≡ rows_of map leaves) where
+  pub tells_listed : (objective : Option LeafObjective) → objective ≡ leaves.objective
+      → (r : Result StdForm FormFault)
+      → Tells vars (flat_map (λ row. equations_in row.1) rows) (cost_in objective) r
+      → Tells (variables_of map leaves) (equations_of map leaves) (cost_in leaves.objective) r
+  tells_listed objective its r h =
+      subst (λ (vs : List (ℕ × LeafVar)). Tells vs (equations_of map leaves)
+      (cost_in leaves.objective) r) their_vars
+      (subst (λ (rs : List (ℕ × LeafRow)). Tells vars (flat_map (λ row. equations_in row.1) rs)
+      (cost_in leaves.objective) r) their_rows
+      (subst (λ (o : Option LeafObjective). Tells vars (flat_map (λ row. equations_in row.1) rows)
+      (cost_in o) r) its h))
+
+  pub answer_listed : (form : StdForm) (a : SolverAnswer) (r : Result LeafAnswer NumberFault)
+      → TellsBy vars rows form.flips a r → TellsByIndex map leaves form a r
+  answer_listed form a r h =
+      subst (λ (vs : List (ℕ × LeafVar)). TellsBy vs (rows_of map leaves) form.flips a r) their_vars
+      (subst (λ (rs : List (ℕ × LeafRow)). TellsBy vars rs form.flips a r) their_rows h)
 
 module _ (map : AddressMap) (leaves : Leaves) where
   -- a form that is given is that of the model, and well shaped

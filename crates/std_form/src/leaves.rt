@@ -1,10 +1,10 @@
 //! The solver's leaves in the order of their addresses.
-ghost use Rattle.std.specs.Prelude.{◌≡◌, ◌++◌, IfOk, OnOk, flat_map, length, map, option_and_then, option_to_list, slice_get};
+ghost use Rattle.std.specs.Prelude.{◌≡◌, ◌++◌, IfOk, OnOk, flat_map, length, map, option_to_list};
 ghost use Rattle.std.specs.FinMap as finite;
 ghost use Rattle.std.specs.Option.{option_map};
 ghost use Rattle.equality_form.specs.Equations.{equations_for};
 ghost use Rattle.std_form.specs.Borrowed.{equation_in, row_in};
-ghost use Rattle.std_form.specs.Indexed.{equations_in, leaf_at, leaves_at};
+ghost use Rattle.std_form.specs.Indexed.{equations_in, leaves_at};
 
 use crate::equation::{Equation, Function};
 use address_map::AddressMap;
@@ -18,24 +18,19 @@ pub(crate) type Variable = (usize, LeafVar);
 /// A row under its index.
 pub(crate) type Row<'a> = (usize, &'a LeafRow);
 
-// The variable at a place in the order of addresses.
-fn nth_variable(solver: &SolverModel, map: &AddressMap, n: usize) -> Option<Variable>
-    ensures { result ≡ option_and_then (leaf_at solver.now.leaves.vars)
-        (slice_get (finite.entries map.now.vars.indices) n) }
+// The variable at an index, under the index.
+fn variable_at(solver: &SolverModel, i: usize) -> Option<Variable>
+    ensures { result ≡ option_map (λ var. (i, var)) (finite.get solver.now.leaves.vars i) }
 {
-    let at = map.nth_var(n)?;
-    let i = map.var_index(&at)?;
     let var = solver.var(i)?;
     Some((i, var))
 }
 
-// The row at a place in the order of addresses.
-fn nth_row<'a>(solver: &'a SolverModel, map: &AddressMap, n: usize) -> Option<Row<'a>>
-    ensures { option_map row_in result ≡ option_and_then
-        (leaf_at solver.now.leaves.rows) (slice_get (finite.entries map.now.rows.indices) n) }
+// The row at an index, under the index.
+fn row_at<'a>(solver: &'a SolverModel, i: usize) -> Option<Row<'a>>
+    ensures { option_map row_in result
+        ≡ option_map (λ row. (i, row)) (finite.get solver.now.leaves.rows i) }
 {
-    let at = map.nth_row(n)?;
-    let i = map.row_index(&at)?;
     let row = solver.row(i)?;
     Some((i, row))
 }
@@ -60,8 +55,8 @@ pub(crate) fn variables(
         variables.items ≡ leaves_at map.now.vars.indices solver.now.leaves.vars) }
 {
     let mut variables = Vec::with_capacity(alloc, map.var_count())?;
-    for n in 0..map.var_count() {
-        push_some(&mut variables, nth_variable(solver, map, n))?;
+    for entry in map.vars() {
+        push_some(&mut variables, variable_at(solver, entry.1))?;
     }
     Ok(variables)
 }
@@ -75,8 +70,8 @@ pub(crate) fn rows<'a>(
         ≡ leaves_at places.now.rows.indices solver.now.leaves.rows) }
 {
     let mut rows = Vec::with_capacity(alloc, places.row_count())?;
-    for n in 0..places.row_count() {
-        push_some(&mut rows, nth_row(solver, places, n))?;
+    for entry in places.rows() {
+        push_some(&mut rows, row_at(solver, entry.1))?;
     }
     Ok(rows)
 }

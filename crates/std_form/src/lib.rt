@@ -6,6 +6,7 @@ mod equation;
 mod fault;
 mod form;
 mod leaves;
+mod listing;
 mod numbers;
 mod reading;
 mod rights;
@@ -13,7 +14,7 @@ mod terms;
 
 pub use address_map::AddressMap;
 pub use fault::FormFault;
-pub use form::{CELL_LIMIT, build};
-pub use reading::read_back;
+pub use form::CELL_LIMIT;
+pub use listing::{Listing, build, read_back};
 pub use simplex_core::{SolverAnswer, StdForm};
 pub use solver_store::{LeafAnswer, SolverModel};

@@ -1,83 +1,44 @@
 //! Answers of the equality form as answers of the solver's model.
 ghost use Rattle.std.specs.Prelude.{◌≡◌, IfOk, IsErrOf, OkIff, OnOk, drop, map};
 ghost use Rattle.std.specs.FinMap as finite;
-ghost use Rattle.aff_core.specs.Address.{Address};
 ghost use Rattle.equality_form.specs.ReadBack.{ValueFits, ValuesFit, after, unflipped, value_in};
-ghost use Rattle.equality_form.specs.Right.{IsRight};
-ghost use Rattle.leaf_model.specs.ReadThrough.{read_through};
-ghost use Rattle.simplex_core.specs.Answer.{IsRightAnswer};
-ghost use Rattle.simplex_core.specs.StdForm.{equality_form};
 ghost use Rattle.tableau_core.specs.Row.{cell};
-ghost use Rattle.std_form.specs.Answers.{answer_of, dual_lists, points, read_by_index};
+ghost use Rattle.std_form.specs.Answers.{dual_lists, points};
 ghost use Rattle.std_form.specs.Borrowed.{row_in};
-ghost use Rattle.std_form.specs.Indexed.{form_of};
-ghost use Rattle.std_form.specs.Readable.{IsReadable};
-ghost use Rattle.std_form.specs.Told.{TellsAnswer};
-ghost use Rattle.std_form.specs.ToldLaws.{TellsByIndex};
+ghost use Rattle.std_form.specs.ToldLaws.{TellsBy};
 
-use crate::leaves::{Row, Variable, component_count, rows, variables};
+use crate::leaves::{Row, Variable, component_count};
 use crate::numbers::flipped;
-use address_map::AddressMap;
 use lists::{Memory, Sequence};
 use ratio_core::{NumberFault, Ratio, RatioFault, Ratios};
 use simplex_core::{SolverAnswer, StdForm};
-use solver_store::{ByIndex, LeafAnswer, LeafDuals, LeafPoint, LeafVar, SolverModel};
+use solver_store::{ByIndex, LeafAnswer, LeafDuals, LeafPoint, LeafVar};
 use std::alloc::Global;
 
-/// The answer by the solver's indices: a number for each variable, and a dual for each component
-/// of each row. `Overflow` exactly where the difference of a free variable's two columns passes
-/// 128 bits.
-///
-/// The form is the one that was built. An answer that is right for it is then right for the model
-/// that is read through the map.
-pub fn read_back(
+/// What the variables and rows are answered.
+pub(crate) fn read_by_index(
     alloc: Global,
-    solver: &SolverModel,
-    map: &AddressMap,
+    variables: &[Variable],
+    rows: &[Row],
     form: &StdForm,
     a: &SolverAnswer,
 ) -> Result<LeafAnswer, NumberFault>
-    requires { form.now ≡ form_of map.now solver.now.leaves }
-    ensures by_index { IfOk result (λ answer.
-        answer ≡ read_by_index map.now solver.now.leaves form.now.flips a.now) }
-    ensures told { (at : Address)
-        → TellsAnswer map.now (read_through map.now solver.now.leaves at) a.now result }
-    ensures right { (at : Address) → IsReadable map.now solver.now.leaves
-        → IsRightAnswer (equality_form form.now) a.now → IfOk result (λ answer.
-        IsRight (read_through map.now solver.now.leaves at) (answer_of map.now answer)) }
+    ensures { TellsBy variables.now (map row_in rows.now) form.now.flips a.now result }
 {
-    // what these ensure of the map
-    let _variables = map.var_at(0);
-    let _rows = map.row_at(0);
-    read_by_index(alloc, solver, map, form, a)
-}
-
-// The same, told by index.
-fn read_by_index(
-    alloc: Global,
-    solver: &SolverModel,
-    map: &AddressMap,
-    form: &StdForm,
-    a: &SolverAnswer,
-) -> Result<LeafAnswer, NumberFault>
-    ensures { TellsByIndex map.now solver.now.leaves form.now a.now result }
-{
-    let variables = variables(alloc, solver, map)?;
-    let rows = rows(alloc, solver, map)?;
     let flips = form.flips.as_slice();
     match a {
         SolverAnswer::Optimal { x, y, .. } => {
-            let x = point(alloc, &variables, x.as_slice())?;
-            let y = duals(alloc, &rows, flips, y.as_slice())?;
+            let x = point(alloc, variables, x.as_slice())?;
+            let y = duals(alloc, rows, flips, y.as_slice())?;
             Ok(LeafAnswer::Optimal { x, y })
         }
         SolverAnswer::Infeasible { y, .. } => {
-            let y = duals(alloc, &rows, flips, y.as_slice())?;
+            let y = duals(alloc, rows, flips, y.as_slice())?;
             Ok(LeafAnswer::Infeasible { y })
         }
         SolverAnswer::Unbounded { x, d, .. } => {
-            let x = point(alloc, &variables, x.as_slice())?;
-            let d = point(alloc, &variables, d.as_slice())?;
+            let x = point(alloc, variables, x.as_slice())?;
+            let d = point(alloc, variables, d.as_slice())?;
             Ok(LeafAnswer::Unbounded { x, d })
         }
     }

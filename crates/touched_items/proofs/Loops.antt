@@ -1,5 +1,5 @@
 -- Loops that list, filter, count and read.
-use Rattle.std.specs.Prelude.{◌≡◌, ◌≤◌, ◌<◌, ◌+◌, ◌++◌, ◌||◌, ℕ, zero, suc, Bool, true, false, cond, if◌then◌else◌, List, [], ◌∷◌, MatchBool, Option, Some, None, count_by, filter, flat_map, get_or, length, map, slice_get, sum_by, take, unwrap_or, refl}
+use Rattle.std.specs.Prelude.{◌≡◌, ◌≤◌, ◌<◌, ◌+◌, ◌++◌, ◌||◌, ℕ, suc, Bool, true, false, cond, if◌then◌else◌, List, [], ◌∷◌, MatchBool, Option, Some, None, count_by, filter, flat_map, get_or, length, map, sum_by, take, unwrap_or, refl}
 use Rattle.std.specs.Borrow.{Bor}
 use Rattle.std.specs.BTreeSet as set
 use Rattle.std.specs.BTreeSet.{BTreeSet}
@@ -13,7 +13,6 @@ use Rattle.std.proofs.lemmas.List.{map-append, take_more}
 use Rattle.std.proofs.lemmas.List.Elements.{filter-append, filter_map-append}
 use Rattle.std.proofs.lemmas.List.Sums.{sum_by-append}
 use Rattle.std.proofs.lemmas.Map.Made.{is_member-Decides}
-use Rattle.std.proofs.lemmas.Option.{get_or_from_slice_get, none-some, slice_get_within}
 use Rattle.address_map.specs.Noted.{AddressSet, Noted, noted_items}
 use Rattle.aff_core.specs.Address.{Address, address_cmp, address_eq, address_eq-Decides, root_address}
 use Rattle.aff_core.specs.declared.root.Root.TheVariants as root
@@ -48,34 +47,19 @@ nothing_noted noted var e =
     ap (λ o. finite.keys (unwrap_or o finite.empty)) e
     ∙ ap (map (λ e. e.0)) (entries_empty address_cmp)
 
-noted_here : (noted : Noted) (var : Address) (items : AddressSet) → finite.get noted var ≡ Some items
+pub noted_here : (noted : Noted) (var : Address) (items : AddressSet) → finite.get noted var ≡ Some items
     → noted_items noted var ≡ finite.keys items
 noted_here noted var items e = ap (λ o. finite.keys (unwrap_or o finite.empty)) e
 
-pub in_range : {A : Type 0} (xs : List A) (n : ℕ) → n < length xs → slice_get xs n ≡ None → ⊥
-in_range [] n lt e = absurd (omega arith)
-in_range (x ∷ xs) zero lt e = none-some x (sym e)
-in_range (x ∷ xs) (suc n) lt e = in_range xs n (omega arith) e
-
-pub noted_more : (noted : Noted) (var : Address) (items : AddressSet) (place : ℕ) (at : Address)
-    (start old new : List Address) → finite.get noted var ≡ Some items
-    → slice_get (finite.keys items) place ≡ Some at
-    → old ≡ start ++ take place (noted_items noted var) → new ≡ old ++ at ∷ []
-    → new ≡ start ++ take (place + 1) (noted_items noted var)
-noted_more noted var items place at start old new e here so_far pushed =
-    pushed
-    ∙ ap (λ l. l ++ at ∷ []) so_far
-    ∙ append_assoc start (take place (noted_items noted var)) (at ∷ [])
-    ∙ ap (λ l. start ++ l) (sym one_more)
-  where
-    one_more : take (place + 1) (noted_items noted var)
-        ≡ take place (noted_items noted var) ++ at ∷ []
-    one_more =
-        ap (take (place + 1)) (noted_here noted var items e)
-        ∙ next (finite.keys items) place at
-        (sym (get_or_from_slice_get (finite.keys items) place at at here))
-        (slice_get_within (finite.keys items) place at here)
-        ∙ ap (λ ks. take place ks ++ at ∷ []) (sym (noted_here noted var items e))
+-- one more address of a set
+pub one_listed : {X : Type 0} (left rest : List (Address × X)) (e : Address × X)
+    (old new all : List Address) → left ≡ e ∷ rest → old ++ map (λ e. e.0) left ≡ all
+    → new ≡ old ++ e.0 ∷ [] → new ++ map (λ e. e.0) rest ≡ all
+one_listed left rest e old new all next so_far pushed =
+    ap (λ l. l ++ map (λ e. e.0) rest) pushed
+    ∙ append_assoc old (e.0 ∷ []) (map (λ e. e.0) rest)
+    ∙ ap (λ es. old ++ map (λ e. e.0) es) (sym next)
+    ∙ so_far
 
 -- ---- a set in its order
 

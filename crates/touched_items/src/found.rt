@@ -1,5 +1,6 @@
 //! The items that a change touches, each with its content.
 ghost use Rattle.std.specs.Prelude.{◌≡◌, ◌≤◌, ◌+◌, ◌++◌, ◌∷◌, [], IfOk, OnOk, cond, count_by, flat_map, length, map};
+ghost use Rattle.std.specs.FinMap.{keys};
 ghost use Rattle.std.specs.List.{filter_map, list_any};
 ghost use Rattle.std.specs.Option.{option_copied};
 ghost use Rattle.address_map.specs.Noted.{noted_items};
@@ -8,7 +9,7 @@ ghost use Rattle.touched_items.specs.Search.{AreInOrder, is_objective, is_row, o
 ghost use Rattle.touched_items.specs.Results.{found_rows};
 
 use crate::{Contents, Differing};
-use address_map::AddressMap;
+use address_map::{AddressMap, AddressSet};
 use aff_core::{Address, Root};
 use lists::Memory;
 use model_store::CountedView;
@@ -113,14 +114,17 @@ fn list_noted(map: &AddressMap, var: &Address, list: &mut Vec<Address>) -> Resul
     ensures { OnOk result
         (list.new.items ≡ list.old.items ++ noted_items map.now.noted var.now) }
 {
-    let Some(items) = map.noted(var) else {
-        return Ok(());
-    };
-    for place in 0..items.len() {
-        let Some(at) = items.nth(place) else {
-            return Ok(());
-        };
-        list.push(at)?;
+    match map.noted(var) {
+        Some(items) => list_set(items, list),
+        None => Ok(()),
+    }
+}
+
+fn list_set(items: &AddressSet, list: &mut Vec<Address>) -> Result<(), Memory>
+    ensures { OnOk result (list.new.items ≡ list.old.items ++ keys items.now) }
+{
+    for item in items.iter() {
+        list.push(item.0)?;
     }
     Ok(())
 }

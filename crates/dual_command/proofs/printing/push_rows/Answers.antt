@@ -16,11 +16,11 @@ loop-i-preserved c =
     let duals = c.args.duals.now in
     let own = c.index-duals-i.result in
     rows_more c.loop-i.row-iterator c.next.new.self (drop i duals) (drop (i + 1) duals)
-    c.in-Some.row.now own c.loop-i.draft c.push_row.new.draft _ c.loop-i.invariant
+    c.in-Some.row.now own c.loop-i.draft c.push_row_duals.new.draft _ c.loop-i.invariant
     c.in-Some.ensures.steps
     (drop_more duals i own (omega arith) ∙ ap (λ y. y ∷ drop (i + 1) duals)
     (sym c.index-duals-i.is))
-    (c.in_ok-push_row.ensures ∙ ap (λ qs. c.loop-i.draft
+    (c.in_ok-push_row_duals.ensures ∙ ap (λ qs. c.loop-i.draft
     ++ ended (row_line (c.in-Some.row.now, qs))) c.as_slice.ensures)
 
 pub returns-then-i-duals : goal.returns-then-i-duals

@@ -1,49 +1,29 @@
-use Rattle.std.specs.Prelude.{◌+◌, ◌++◌, drop}
-use Rattle.std.proofs.Common.{arith, ap, sym, ◌∙◌}
+use Rattle.std.specs.Prelude.{◌≡◌, ◌++◌, OnOk, map, ℕ}
+use Rattle.std.proofs.Common.{ap, subst, sym, ◌∙◌}
+use Rattle.std.proofs.lemmas.List.{drop-map}
+use Rattle.std.specs.FinMap as finite
 use Rattle.address_map.specs.Places.{addresses}
-use Rattle.item_leaves.specs.ItemLeaves.{those_of}
-use Rattle.item_leaves.proofs.RangeLaws.{all_rise, begins, ends, no_more, none_left, one_more}
+use Rattle.aff_core.specs.Address.{Address}
+use Rattle.item_leaves.specs.ItemLeaves.{AreFrom, those_of}
+use Rattle.item_leaves.proofs.RangeLaws.{are_from, begins}
 use Rattle.item_leaves.proofs.listing.list_variables.Goals as goal
 
-pub loop-place-init : goal.loop-place-init
-loop-place-init c =
-    let item = c.args.item.now in
-    let ks = addresses c.args.map.now.vars.indices in
-    record {
-      from = omega arith;
-      left = ap (λ l. c.args.list.now ++ l)
-          (ap (those_of item) c.var_place-start.ensures.from ∙ begins item ks);
-    }
+pub list_first-requires : goal.list_first-requires
+list_first-requires c =
+    let m = c.args.map.now.vars.indices in
+    let place = c.var_place.result in
+    subst (AreFrom c.args.item.now)
+    (drop-map (λ (e : Address × ℕ). e.0) place (finite.entries m)
+    ∙ sym (ap (map (λ (e : Address × ℕ). e.0)) c.vars_from.ensures))
+    (are_from m c.args.item.now place c.var_place.ensures.from)
 
-pub returns-in_default : goal.returns-in_default
-returns-in_default c =
+pub returns : goal.returns
+returns c =
     let item = c.args.item.now in
-    let ks = addresses c.args.map.now.vars.indices in
-    let l = c.loop-place in
-    no_more item (drop l.place ks) l.list (c.args.list.now ++ those_of item ks)
-    (ap (those_of item) (none_left ks l.place c.nth_var.result c.nth_var.ensures
-    c.in_default.not-Some)) l.invariant.left
-
-pub returns-then-not-is_of : goal.returns-then-not-is_of
-returns-then-not-is_of c =
-    let item = c.args.item.now in
-    let ks = addresses c.args.map.now.vars.indices in
-    let l = c.loop-place in
-    no_more item (drop l.place ks) l.list (c.args.list.now ++ those_of item ks)
-    (ends item ks c.var_place-start.result l.place c.in-Some.leaf
-    (all_rise c.args.map.now.vars.indices) c.var_place-start.ensures.from l.invariant.from
-    (sym c.nth_var.ensures ∙ c.in-Some.is) (sym c.is_of.ensures
-    ∙ c.if-not-is_of.true)) l.invariant.left
-
-pub loop-place-preserved : goal.loop-place-preserved
-loop-place-preserved c =
-    let item = c.args.item.now in
-    let ks = addresses c.args.map.now.vars.indices in
-    let l = c.loop-place in
-    record {
-      from = omega (arith, l.invariant.from);
-      left = ap (λ xs. xs ++ those_of item (drop (l.place + 1) ks)) c.in_default-push.ensures.ok
-          ∙ one_more item ks l.place c.in-Some.leaf l.list (sym c.nth_var.ensures ∙ c.in-Some.is)
-          (sym c.is_of.ensures ∙ c.if-not-is_of.false)
-          ∙ l.invariant.left;
-    }
+    let m = c.args.map.now.vars.indices in
+    subst (λ l. OnOk c.list_first.result (c.list_first.new.list ≡ c.args.list.now ++ l))
+    (ap (those_of item) (ap (map (λ (e : Address × ℕ). e.0)) c.vars_from.ensures
+    ∙ sym (drop-map (λ (e : Address × ℕ). e.0) c.var_place.result (finite.entries m))
+    ∙ c.var_place.ensures.from)
+    ∙ begins item (addresses m))
+    c.list_first.ensures

@@ -1,32 +1,13 @@
 use Rattle.std.proofs.Common.{ap, map, subst, sym, ◌∙◌}
-use Rattle.std.specs.Prelude.{All, flat_map}
 use Rattle.address_map.specs.AddressMap.{AddressMap}
-use Rattle.bridge_set.specs.Walk.{IsRoot, nodes_below}
+use Rattle.bridge_set.specs.Bridges.{kept_by}
+use Rattle.bridge_set.specs.Letting.{without_found}
 use Rattle.found_plan.specs.Stood.{old_leaves}
-use Rattle.lazy_bridge.proofs.Changing.{alone, changed, free, keepable, named, narrow, roots, splice}
+use Rattle.lazy_bridge.proofs.Changing.{changed, free, keepable, named, splice}
 use Rattle.leaf_update.specs.Others.{others_among}
 use Rattle.leaf_update.specs.Splice.{IsSplice, IsSplicedInto, gone_in}
 use Rattle.leaf_model.specs.ReadThrough.{read_through}
 use Rattle.lazy_bridge.proofs.pushing.change_touched.Goals as goal
-
-pub let_found_go-requires-clause-narrow : goal.let_found_go-requires-clause-narrow
-let_found_go-requires-clause-narrow g c =
-    narrow c.requires.0 c.args.bridges.now c.args.solver.now c.args.map.now c.args.objective_at.now
-    c.args.differing.now c.requires.1 c.args.planned.standing c.args.planned.found.items
-    c.args.planned.plan c.requires.2
-
-pub let_found_go-requires-clause-roots : goal.let_found_go-requires-clause-roots
-let_found_go-requires-clause-roots g c =
-    subst (All IsRoot) (sym c.deref-4.ensures.value)
-    (roots c.requires.0 c.args.bridges.now c.args.solver.now c.args.map.now c.args.objective_at.now
-    c.args.differing.now c.requires.1 c.args.planned.standing c.args.planned.found.items
-    c.args.planned.plan c.requires.2)
-
-pub let_found_go-requires-clause-alone : goal.let_found_go-requires-clause-alone
-let_found_go-requires-clause-alone g c =
-    alone c.requires.0 c.args.bridges.now c.args.solver.now c.args.map.now c.args.objective_at.now
-    c.args.differing.now c.requires.1 c.args.planned.standing c.args.planned.found.items
-    c.args.planned.plan c.requires.2
 
 pub change_leaves-requires-clause-named : goal.change_leaves-requires-clause-named
 change_leaves-requires-clause-named g c =
@@ -57,10 +38,10 @@ pub keep_each-requires-clause-free : goal.keep_each-requires-clause-free
 keep_each-requires-clause-free g c =
     free c.requires.0 c.args.bridges.now c.args.solver.now c.args.map.now c.args.objective_at.now
     c.args.differing.now c.requires.1 c.args.planned.standing c.args.planned.found.items
-    c.args.planned.plan c.requires.2 c.let_found_go.new.bridges.states
-    (flat_map (nodes_below c.args.bridges.now.states) c.deref-4.result.now)
-    (ap (flat_map (nodes_below c.args.bridges.now.states)) c.deref-4.ensures.value)
-    c.in_ok-let_found_go.ensures.gone
+    c.args.planned.plan c.requires.2 c.let_found_go.new.self.states
+    (c.let_found_go.ensures.gone
+    ∙ ap (λ ats. map (without_found ats) (kept_by c.args.bridges.now.states))
+    c.deref-4.ensures.value)
 
 pub returns-clause-changed : goal.returns-clause-changed
 returns-clause-changed g c = λ e held made.
@@ -71,10 +52,10 @@ returns-clause-changed g c = λ e held made.
     let rest = c.in_ok-changed.ensures.rest in
     changed e c.args.bridges.now c.args.solver.now c.args.map.now c.args.objective_at.now
     c.args.differing.now held c.args.planned.standing c.args.planned.found.items
-    c.args.planned.plan made c.let_found_go.new.bridges.states
-    (flat_map (nodes_below c.args.bridges.now.states) c.deref-4.result.now)
-    (ap (flat_map (nodes_below c.args.bridges.now.states)) c.deref-4.ensures.value)
-    c.in_ok-let_found_go.ensures.gone c.keep_each.new.self c.change_leaves.new.solver
+    c.args.planned.plan made c.let_found_go.new.self.states
+    (c.let_found_go.ensures.gone
+    ∙ ap (λ ats. map (without_found ats) (kept_by c.args.bridges.now.states))
+    c.deref-4.ensures.value) c.keep_each.new.self c.change_leaves.new.solver
     c.change_leaves.new.map c.change_entries.new.map c.change_leaves.new.objective_at
     c.in_ok-changed.changed (gone_in c.in_ok-gone.gone)
     (λ i. record {
@@ -92,4 +73,4 @@ returns-clause-changed g c = λ e held made.
     ((λ i. (rest i).0) ∙ ap (λ (m : AddressMap). m.exprs) held.mapped)
     ((λ i. (rest i).1.1) ∙ ap (λ (m : AddressMap). m.kept) held.mapped)
     ((λ i. (rest i).1.0) ∙ ap (λ (m : AddressMap). m.noted) held.mapped) held.differing)
-    c.in_ok-let_found_go.ensures.turns c.in_ok-keep_each.ensures.turns
+    c.let_found_go.ensures.turns c.in_ok-keep_each.ensures.turns

@@ -6,7 +6,7 @@ pub returns : goal.returns
 returns c = record {
   dropped =
       variable_dropped c.args.map.now c.args.solver.now.leaves c.requires.named
-      c.var_index-one_to_one.ensures.one_to_one c.args.at.now c.in-Some.i
+      c.var_at-one_to_one.ensures.one_to_one c.args.at.now c.in-Some.i
       (sym c.in-Some.ensures.index)
       c.requires.nobody (omega (arith, c.calls-few.ensures, c.calls-few.type_inv))
       c.drop_var.new.self c.remove_var.new.self.leaves c.remove_var.ensures.removed
