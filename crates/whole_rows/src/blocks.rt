@@ -57,6 +57,18 @@ pub(crate) fn mark_blocks(blocks: &mut [bool], row: &NarrowRow, columns: &[u32])
     join_blocks(blocks, &row.blocks);
 }
 
+// Marks the blocks of these columns alone.
+pub(crate) fn remark_blocks(blocks: &mut [bool], columns: &[u32])
+    requires { (k : ℕ) → k < length columns.now
+        → slice_index columns.now k / 8 < length blocks.old }
+    ensures long { length blocks.new ≡ length blocks.old }
+    ensures marked { (k : ℕ) → k < length columns.now
+        → slice_index_or blocks.new (slice_index columns.now k / 8) false ≡ true }
+{
+    blocks.fill(false);
+    mark_columns(blocks, columns);
+}
+
 // Marks the block of each column.
 fn mark_columns(blocks: &mut [bool], columns: &[u32])
     requires { (k : ℕ) → k < length columns.now
