@@ -1,6 +1,6 @@
 //! Blocks of eight columns: a row of many columns has few numbers other than 0, and a block without
 //! a mark isn't read. Eight numbers are as much as a read of memory brings.
-ghost use Rattle.std.specs.Prelude.{◌≡◌, ◌+◌, ◌*◌, ◌/◌, ◌<◌, ◌≤◌, ◌^◌, ℕ, ◌*ℤ◌, length, pos, slice_index, slice_index_or, unsigned_abs};
+ghost use Rattle.std.specs.Prelude.{◌≡◌, ◌+◌, ◌*◌, ◌/◌, ◌<◌, ◌≤◌, ◌^◌, ℕ, ◌*ℤ◌, false, true, length, pos, slice_index, slice_index_or, unsigned_abs};
 ghost use Rattle.whole_rows.specs.Blocks.{AreMarked, AreScaled, AreScaledIn, AreUnmarked, Covers, Joins, KeepsMarks, blocks_of};
 ghost use Rattle.whole_rows.specs.Listed.{Lists};
 

@@ -1,4 +1,4 @@
-use Rattle.std.proofs.Common.{◌≡◌, ◌∙◌, ap, length, subst, sym, unsigned_abs, w64}
+use Rattle.std.proofs.Common.{◌≡◌, ◌<◌, ◌^◌, ◌∙◌, ap, length, subst, sym, unsigned_abs, w64}
 use Rattle.std.proofs.lemmas.Int.{to_z-of_z}
 use Rattle.whole_rows.proofs.DividingSteps.{measured_is}
 use Rattle.whole_rows.proofs.dividing.measured.Goals as goal
