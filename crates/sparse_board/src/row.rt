@@ -1,5 +1,5 @@
 //! A row of the board, and the one that comes after it.
-ghost use Rattle.std.specs.Prelude.{◌≡◌, ◌+◌, ◌<◌, ◌≤◌, ◌^◌, ◌&&◌, ℕ, not, IfOk, OnOk};
+ghost use Rattle.std.specs.Prelude.{◌≡◌, ◌+◌, ◌<◌, ◌≤◌, ◌^◌, ◌&&◌, ℕ, not, false, IfOk, OnOk};
 ghost use Rattle.sparse_board.specs.Numbers as sparse;
 ghost use Rattle.sparse_board.specs.Mixed.{IsBoth, number_of, units_of, width_of};
 
