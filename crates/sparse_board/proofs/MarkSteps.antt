@@ -46,6 +46,10 @@ pub place_within : (marks : Marks) (j i : ℕ) → j < marks.columns → i < mar
     → j * marks.stride + i / 64 < vec_len marks.words
 place_within marks j i c b = word_within marks j (i / 64) c (low marks i (omega (arith, b)))
 
+pub row_place : (marks : Marks) (j i : ℕ) → j < marks.columns → i ≤ marks.rows
+    → j * marks.stride + i / 64 < vec_len marks.words
+row_place marks j i c b = word_within marks j (i / 64) c (low marks i b)
+
 pub item_within : (marks : Marks) (p : ℕ) → p < vec_len marks.words → p < length marks.words.items
 item_within marks p b = subst (λ n. p < n) marks.words.ok.0 b
 
@@ -253,3 +257,15 @@ least_marked marks j k bit small e row is b =
   where
     here_lem : (row a n : ℕ) → row ≡ min a n → row < n → row ≡ a
     here_lem row a n is b = omega (arith, is, b)
+
+-- the same of the first word that is looked at, from a row of it on
+pub first_marked : (marks : Marks) (j from zeros : ℕ) → from % 64 + zeros < 64
+    → bit_at (slice_index marks.words.items (j * marks.stride + from / 64)) (from % 64 + zeros) ≡ 1
+    → (row : ℕ) → row ≡ min (from + zeros) marks.rows → row < marks.rows → has marks j row ≡ true
+first_marked marks j from zeros small e row is b =
+    least_marked marks j (from / 64) (from % 64 + zeros) small e row
+    (same_lem from zeros marks.rows row is) b
+  where
+    same_lem : (from zeros rows row : ℕ) → row ≡ min (from + zeros) rows
+        → row ≡ min (from / 64 * 64 + (from % 64 + zeros)) rows
+    same_lem from zeros rows row is = omega (arith, is)

@@ -2,9 +2,10 @@
 use Rattle.std.specs.Prelude.{◌≡◌, ℕ, zero, suc, ◌+◌, ◌-◌, ◌/◌, ◌%◌, ◌^◌, ◌<◌, ◌≤◌, ◌⊎◌, ◌||◌, nat_eq, List, length, max, bit_or, slice_index, slice_set, refl}
 use Rattle.std.proofs.Common.{inl, inr, sym, ◌∙◌, ap, arith, w64}
 use Rattle.std.specs.Int.{bit_at, trailing_zeros}
+use Rattle.std.proofs.lemmas.Bool.{cases_lt}
 use Rattle.std.proofs.lemmas.List.{get_or-set_other, get_or-set_same}
 use Rattle.std.proofs.lemmas.Nat.{shr-shr, shr_le}
-use Rattle.std.proofs.lemmas.Nat.Bits.{bit_at-lt, bit_at-trailing_zeros, bit_at-zero, bit_at_or}
+use Rattle.std.proofs.lemmas.Nat.Bits.{bit_at-lt, bit_at-trailing_zeros, bit_at-zero, bit_at_above, bit_at_or}
 use Rattle.simplex_laws.specs.BoundedSumLaws.{same_or_other}
 use Rattle.sparse_board.specs.Words.{AreJoined}
 
@@ -29,6 +30,18 @@ module _ (word from : ℕ) (small : word < 2 ^ 64) (some : 0 < word / 2 ^ from) 
   lowest_set =
       sym (ap (λ x. x % 2) (shr-shr word from (trailing_zeros w64 (word / 2 ^ from))))
       ∙ (bit_at-trailing_zeros w64 (word / 2 ^ from) some left_small).1
+
+  pub lowest_within : from + trailing_zeros w64 (word / 2 ^ from) < 64
+  lowest_within = by_order (cases_lt (from + trailing_zeros w64 (word / 2 ^ from)) 64)
+    where
+      apart_lem : (x : ℕ) → x ≡ 0 → x ≡ 1 → ⊥
+      apart_lem x e f = omega (arith, e, f)
+
+      by_order : (from + trailing_zeros w64 (word / 2 ^ from) < 64)
+          ⊎ (64 ≤ from + trailing_zeros w64 (word / 2 ^ from))
+          → from + trailing_zeros w64 (word / 2 ^ from) < 64
+      by_order (inl b) = b
+      by_order (inr b) = absurd (apart_lem _ (bit_at_above word 64 _ small b) lowest_set)
 
   pub lowest_passed : (k : ℕ) → from ≤ k → k < from + trailing_zeros w64 (word / 2 ^ from)
       → bit_at word k ≡ 0

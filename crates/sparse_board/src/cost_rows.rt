@@ -57,6 +57,7 @@ impl CostRows {
 }
 
 // The same of a row that may be out of use.
+#[inline(never)]
 fn prepare_if(used: bool, row: &mut Row, q: u32, step: &Step) -> Result<(), NumberFault>
     requires width { width_of row.old.now ≤ step.now.width }
     requires column { q < width_of row.old.now }
@@ -69,6 +70,7 @@ fn prepare_if(used: bool, row: &mut Row, q: u32, step: &Step) -> Result<(), Numb
     if used { row.prepare(q, step) } else { Ok(()) }
 }
 
+#[inline(never)]
 fn settle_if(used: bool, row: &mut Row, q: u32, step: &Step)
     requires { IsTrue used → IsPrepared q step.now row.old }
     ensures width { width_of row.new.now ≡ width_of row.old.now }

@@ -20,6 +20,7 @@ use whole_rows::{has_positive, is_before};
 // The row of least ratio of its right side to its positive entry of column q, and of these that of
 // least basic column. The right sides stand in column `side`. A row that isn't marked in column q
 // has no entry there.
+#[inline(never)]
 pub(crate) fn leaving(
     rows: &[Row],
     basis: &[usize],

@@ -87,6 +87,7 @@ fn mark_number(row: &NarrowRow, j: usize, i: usize, marks: &mut Marks)
 
 // Takes the marks of column q off the rows that have no number there: what was marked may have
 // become 0, and each marked row is looked at. Tells whether one that stays marked is of fractions.
+#[inline(never)]
 pub(crate) fn unmark_zeros(rows: &[Row], q: u32, marks: &mut Marks) -> bool
     requires column { q < marks.old.columns }
     requires rows { marks.old.rows ≡ length rows.now }
@@ -158,6 +159,7 @@ fn mark_wide(step: &SparseRow, q: u32, marks: &mut Marks)
     }
 }
 
+#[inline(never)]
 fn mark_narrow(step: &NarrowStep, q: u32, marks: &mut Marks)
     requires column { q < whole.width_of step.now.row + 1 }
     requires columns { marks.old.columns ≡ whole.width_of step.now.row + 1 }

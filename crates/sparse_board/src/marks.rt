@@ -1,7 +1,7 @@
 //! Marks of rows in columns.
 ghost use Rattle.std.specs.Prelude.{◌≡◌, ◌+◌, ◌*◌, ◌/◌, ◌^◌, ◌<◌, vec_len};
 
-use crate::words::{has_bit, join_words, next_bit, with_bit, without_bit};
+use crate::words::{has_bit, join_words, next_bit, with_bit, without_bit, zeros_from};
 use std::alloc::{AllocError, Global};
 
 // The rows of a column are bits of words: 64 rows without a mark are passed over at once, and two
@@ -86,9 +86,29 @@ impl Marks {
         join_words(&mut self.words, source, target, self.stride);
     }
 
-    // The first row from this one on that is marked in the column, or how many rows there are.
+    // The first row from this one on that is marked in the column, or how many rows there are. Mostly
+    // it is of the same word.
     #[inline]
     pub(crate) fn next_row(&self, column: usize, from: usize) -> usize
+        requires column { column < self.now.columns }
+        requires from { from ≤ self.now.rows }
+        ensures from { from ≤ result }
+        ensures within { result ≤ self.now.rows }
+        ensures passed { AreUnmarked self.now column from result }
+        ensures marked { result < self.now.rows → has self.now column result ≡ true }
+    {
+        let place = column * self.stride + from / 64;
+        let zeros = zeros_from(self.words[place], from % 64);
+        if zeros < 64 {
+            let row = from + zeros;
+            return row.min(self.rows);
+        }
+        self.next_row_on(column, from)
+    }
+
+    // The same word by word.
+    #[inline(never)]
+    fn next_row_on(&self, column: usize, from: usize) -> usize
         requires column { column < self.now.columns }
         requires from { from ≤ self.now.rows }
         ensures from { from ≤ result }

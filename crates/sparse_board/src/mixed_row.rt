@@ -86,6 +86,7 @@ impl MixedRow {
     }
 
     // Takes fractions in as many columns.
+    #[inline(never)]
     pub(crate) fn take(&mut self, wide: &mut SparseRow)
         requires { sparse.width_of wide.old ≡ width_of self.old }
         ensures width { width_of self.new ≡ width_of self.old }
@@ -117,6 +118,7 @@ impl MixedRow {
 
     // Lowers a row of whole numbers by its number of column q times the step. It can't fail: where
     // the row doesn't stay narrow, each of its fractions fits, and there is room for them.
+    #[inline(always)]
     pub(crate) fn lower(&mut self, step: &NarrowStep, q: usize, room: &mut SparseRow)
         requires narrow { self.old.is_wide ≡ false }
         requires most { sparse.width_of room.old ≤ width_of self.old }

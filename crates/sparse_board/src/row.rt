@@ -1,5 +1,5 @@
 //! A row of the board, and the one that comes after it.
-ghost use Rattle.std.specs.Prelude.{◌≡◌, ◌+◌, ◌<◌, ◌≤◌, ◌^◌, ◌&&◌, ℕ, not, IfOk, OnOk};
+ghost use Rattle.std.specs.Prelude.{◌≡◌, ◌+◌, ◌<◌, ◌≤◌, ◌^◌, ◌&&◌, ℕ, not, false, IfOk, OnOk};
 ghost use Rattle.sparse_board.specs.Numbers as sparse;
 ghost use Rattle.sparse_board.specs.Mixed.{IsBoth, number_of, units_of, width_of};
 
@@ -52,6 +52,7 @@ impl Row {
 
     // Works out what a pivot on column q makes of the row, where `step` is the pivot's new row. A
     // row of whole numbers passes each test of such a step, and is lowered in place.
+    #[inline(always)]
     pub(crate) fn prepare(&mut self, q: u32, step: &Step) -> Result<(), NumberFault>
         requires width { width_of self.old.now ≤ step.now.width }
         requires column { q < width_of self.old.now }
@@ -64,6 +65,21 @@ impl Row {
         if is_in_place(&self.now, step) {
             return Ok(self.make_room(q, step)?);
         }
+        self.prepare_beside(q, step)
+    }
+
+    // The same of a row that isn't lowered in place.
+    #[inline(never)]
+    fn prepare_beside(&mut self, q: u32, step: &Step) -> Result<(), NumberFault>
+        requires width { width_of self.old.now ≤ step.now.width }
+        requires column { q < width_of self.old.now }
+        requires both { IsBoth step.now }
+        requires beside { (not self.old.now.is_wide && step.now.is_narrow) ≡ false }
+        ensures stays { self.new.now ≡ self.old.now }
+        ensures fits { IsTest (differences_fit (width_of self.old.now)
+            (number_of self.old.now) (number_of self.old.now q) (units_of step.now)) result }
+        ensures ok { OnOk result (IsPrepared q step.now self.new) }
+    {
         let by = self.now.number(q);
         if by.is_zero() {
             self.changes = false;
@@ -75,6 +91,7 @@ impl Row {
     }
 
     // Takes room for the fractions of a row of whole numbers that may not stay one.
+    #[inline(always)]
     fn make_room(&mut self, q: u32, step: &Step) -> Result<(), AllocError>
         ensures stays { self.new.now ≡ self.old.now }
         ensures room { OnOk result (HasRoom q step.now self.new) }
@@ -86,6 +103,7 @@ impl Row {
     }
 
     // Puts in place what was worked out.
+    #[inline(always)]
     pub(crate) fn settle(&mut self, q: u32, step: &Step)
         requires { IsPrepared q step.now self.old }
         ensures { IsLowered (number_of self.old.now q) (units_of step.now) self.old.now self.new.now }

@@ -12,6 +12,7 @@ use ratio_core::NumberFault;
 
 // Works out each row other than r, where `step` is the new row r. A row that isn't marked in column
 // q stays as it is.
+#[inline(never)]
 pub(crate) fn prepare_rows(
     rows: &mut [Row],
     r: usize,
@@ -41,6 +42,7 @@ pub(crate) fn prepare_rows(
 }
 
 // Puts each row other than r in place.
+#[inline(never)]
 pub(crate) fn settle_rows(rows: &mut [Row], r: usize, q: u32, step: &Step, marks: &Marks)
     requires wide { AreWide step.now.width rows.old }
     requires column { q < step.now.width }

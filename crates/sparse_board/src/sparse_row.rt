@@ -40,6 +40,7 @@ impl SparseRow {
     }
 
     // Zeros in this number of columns, or the same row where there is no memory for them.
+    #[inline(never)]
     pub(crate) fn open(&mut self, width: usize) -> Result<(), AllocError>
         requires { width_of self.old ≤ width }
         ensures ok { OnOk result (width_of self.new ≡ width) }

@@ -24,6 +24,7 @@ pub(crate) fn spread_row(row: &NarrowRow, wide: &mut SparseRow)
 }
 
 // Makes `wide` the numbers of the row that is lowered.
+#[inline(never)]
 pub(crate) fn spread_lowered(row: &NarrowRow, step: &NarrowRow, q: usize, wide: &mut SparseRow)
     requires { width_of wide.old < 2 ^ 32 }
     ensures width { width_of wide.new ≡ width_of wide.old }

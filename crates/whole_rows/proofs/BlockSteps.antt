@@ -152,9 +152,12 @@ column_block columns numbers k n lists b e =
     within_lem : (j w m : ℕ) → j < w → m ≡ (w + 7) / 8 → j / 8 < m
     within_lem j w m b e = omega (arith, b, e)
 
-pub marked_covers : (columns : List ℕ) (numbers : List ℤ) (old new : List Bool)
-    → Lists columns numbers → AreMarked columns (length columns) old new → Covers new numbers
-marked_covers columns numbers old new lists h = record {
+pub listed_covers : (columns : List ℕ) (numbers : List ℤ) (new : List Bool)
+    → Lists columns numbers
+    → ((k : ℕ) → k < length columns
+    → slice_index_or new (slice_index columns k / 8) false ≡ true)
+    → Covers new numbers
+listed_covers columns numbers new lists marked = record {
   unmarked = λ j e. by_end j e (cases_lt j (length numbers));
 }
   where
@@ -162,8 +165,13 @@ marked_covers columns numbers old new lists h = record {
         → (j < length numbers) ⊎ (length numbers ≤ j) → slice_index_or numbers j (pos 0) ≡ pos 0
     by_end j e (inl b) =
         lists.others j b (λ k c f. true≢false
-        (sym (subst (λ i. slice_index_or new (i / 8) false ≡ true) f (h.marked k c)) ∙ e))
+        (sym (subst (λ i. slice_index_or new (i / 8) false ≡ true) f (marked k c)) ∙ e))
     by_end j e (inr h) = get_or_past numbers j (pos 0) h
+
+pub marked_covers : (columns : List ℕ) (numbers : List ℤ) (old new : List Bool)
+    → Lists columns numbers → AreMarked columns (length columns) old new → Covers new numbers
+marked_covers columns numbers old new lists h =
+    listed_covers columns numbers new lists (λ k b. h.marked k b)
 
 -- ---- products that are 0
 

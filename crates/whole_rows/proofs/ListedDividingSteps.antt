@@ -7,7 +7,7 @@ use Rattle.std.specs.Int.{◌∣◌}
 use Rattle.rational_laws.specs.Whole.{*ℤ_pos_one}
 use Rattle.simplex_laws.specs.BoundedSumLaws.{same_or_other}
 use Rattle.whole_rows.specs.Listed.{Lists}
-use Rattle.whole_rows.specs.Numerators.{AreDivided, IsMeasured}
+use Rattle.whole_rows.specs.Numerators.{AreDivided, AreSized, DividesAll}
 use Rattle.whole_rows.proofs.BlockSteps.{factor_zero, zero_times}
 use Rattle.whole_rows.proofs.ListedSteps.{sought}
 
@@ -36,22 +36,28 @@ from_listed P columns numbers lists zero listed j b =
         subst (λ i. P (slice_index_or numbers i (pos 0))) f.2 (listed f.0 f.1)
     by_place (inr none) = subst P (sym (lists.others j b none)) zero
 
-pub measured_all : (columns : List ℕ) (numbers : List ℤ) (n : ℕ) (side : ℤ)
-    (size common greatest : ℕ) → Lists columns numbers → n ≡ length columns
-    → IsMeasured (numbers_at columns numbers) n side size common greatest
-    → IsMeasured numbers (length numbers) side size common greatest
-measured_all columns numbers n side size common greatest lists all h = record {
-  positive = h.positive;
-  divides_size = h.divides_size;
-  divides_side = h.divides_side;
-  divides = from_listed (λ z. common ∣ unsigned_abs z) columns numbers lists (dvd-zero common)
-      (λ k b. subst (λ z. common ∣ unsigned_abs z) (number_at_is columns numbers k b)
-      (h.divides k (subst (λ m. k < m) (sym all) b)));
-  within_side = h.within_side;
+pub sized_all : (columns : List ℕ) (numbers : List ℤ) (n size greatest : ℕ)
+    → Lists columns numbers → n ≡ length columns
+    → AreSized (numbers_at columns numbers) n size greatest
+    → AreSized numbers (length numbers) size greatest
+sized_all columns numbers n size greatest lists all h = record {
+  within_size = h.within_size;
   within = from_listed (λ z. unsigned_abs z ≤ greatest) columns numbers lists (omega arith)
       (λ k b. subst (λ z. unsigned_abs z ≤ greatest) (number_at_is columns numbers k b)
       (h.within k (subst (λ m. k < m) (sym all) b)));
   small = h.small;
+}
+
+pub divides_listed : (columns : List ℕ) (numbers : List ℤ) (n size common : ℕ)
+    → Lists columns numbers → n ≡ length columns
+    → DividesAll (numbers_at columns numbers) n size common
+    → DividesAll numbers (length numbers) size common
+divides_listed columns numbers n size common lists all h = record {
+  positive = h.positive;
+  divides_size = h.divides_size;
+  divides = from_listed (λ z. common ∣ unsigned_abs z) columns numbers lists (dvd-zero common)
+      (λ k b. subst (λ z. common ∣ unsigned_abs z) (number_at_is columns numbers k b)
+      (h.divides k (subst (λ m. k < m) (sym all) b)));
 }
 
 -- ---- numbers that are divided

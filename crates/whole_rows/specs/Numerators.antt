@@ -58,6 +58,18 @@ pub record IsMeasured (numbers : List ℤ) (n : ℕ) (side : ℤ) (size common g
     pub within : (j : ℕ) → j < n → unsigned_abs (slice_index_or numbers j (pos 0)) ≤ greatest
     pub small : greatest < 2 ^ 63
 
+-- none of the first n numerators is larger, nor is a size
+pub record AreSized (numbers : List ℤ) (n size greatest : ℕ) : Type 0 where
+  pub within_size : size ≤ greatest
+  pub within : (j : ℕ) → j < n → unsigned_abs (slice_index_or numbers j (pos 0)) ≤ greatest
+  pub small : greatest < 2 ^ 63
+
+-- what divides a size and the first n numerators
+pub record DividesAll (numbers : List ℤ) (n size common : ℕ) : Type 0 where
+  pub positive : 0 < common
+  pub divides_size : common ∣ size
+  pub divides : (j : ℕ) → j < n → common ∣ unsigned_abs (slice_index_or numbers j (pos 0))
+
 abbrev pub IsMeasure : List ℤ → ℕ → ℤ → ℕ → Measure → Type 0
 IsMeasure numbers n side size measure =
     IsMeasured numbers n side size measure.common measure.greatest

@@ -1,6 +1,6 @@
 //! Blocks of eight columns: a row of many columns has few numbers other than 0, and a block without
 //! a mark isn't read. Eight numbers are as much as a read of memory brings.
-ghost use Rattle.std.specs.Prelude.{◌≡◌, ◌+◌, ◌*◌, ◌/◌, ◌<◌, ◌≤◌, ◌^◌, ℕ, ◌*ℤ◌, length, pos, slice_index, slice_index_or, unsigned_abs};
+ghost use Rattle.std.specs.Prelude.{◌≡◌, ◌+◌, ◌*◌, ◌/◌, ◌<◌, ◌≤◌, ◌^◌, ℕ, ◌*ℤ◌, false, true, length, pos, slice_index, slice_index_or, unsigned_abs};
 ghost use Rattle.whole_rows.specs.Blocks.{AreMarked, AreScaled, AreScaledIn, AreUnmarked, Covers, Joins, KeepsMarks, blocks_of};
 ghost use Rattle.whole_rows.specs.Listed.{Lists};
 
@@ -55,6 +55,18 @@ pub(crate) fn mark_blocks(blocks: &mut [bool], row: &NarrowRow, columns: &[u32])
         return;
     }
     join_blocks(blocks, &row.blocks);
+}
+
+// Marks the blocks of these columns alone.
+pub(crate) fn remark_blocks(blocks: &mut [bool], columns: &[u32])
+    requires { (k : ℕ) → k < length columns.now
+        → slice_index columns.now k / 8 < length blocks.old }
+    ensures long { length blocks.new ≡ length blocks.old }
+    ensures marked { (k : ℕ) → k < length columns.now
+        → slice_index_or blocks.new (slice_index columns.now k / 8) false ≡ true }
+{
+    blocks.fill(false);
+    mark_columns(blocks, columns);
 }
 
 // Marks the block of each column.

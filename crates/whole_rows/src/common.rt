@@ -2,7 +2,7 @@
 ghost use Rattle.std.specs.Prelude.{◌≡◌, ◌<◌, ◌^◌, IfSome, unsigned_abs};
 ghost use Rattle.whole_rows.specs.Common.{IsCommon, over_num};
 
-use crate::arithmetic::{common_divisor, next_den};
+use crate::arithmetic::{common_divisor, next_den, part};
 use crate::widening::scaled;
 use ratio_core::Ratio;
 
@@ -16,6 +16,9 @@ pub fn common_denominator(den: u64, value: &Ratio) -> Option<u64>
     ensures { IfSome result (λ common. IsCommon den value.now common) }
 {
     let own = denominator(value)?;
+    if own == 1 {
+        return Some(den);
+    }
     next_den(den, own / common_divisor(den, own))
 }
 
@@ -28,7 +31,7 @@ pub fn over_denominator(value: &Ratio, den: u64) -> Option<i64>
 {
     let own = denominator(value)?;
     let num = short(value.num())?;
-    short(scaled(num, den / own))
+    short(scaled(num, part(den, own)))
 }
 
 // The denominator, where it is below 2^63.

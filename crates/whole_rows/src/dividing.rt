@@ -5,7 +5,7 @@ ghost use Rattle.ratio_core.specs.Gcd.{gcd};
 ghost use Rattle.ratio_core.specs.Rational.{signed};
 ghost use Rattle.std.specs.Int.{is_negative};
 ghost use Rattle.whole_rows.specs.Listed.{Lists};
-ghost use Rattle.whole_rows.specs.Numerators.{AreDivided, AreWithin, IsMeasure, numerator};
+ghost use Rattle.whole_rows.specs.Numerators.{AreDivided, AreSized, DividesAll, IsMeasure};
 
 use crate::arithmetic::common_divisor;
 use crate::plan::Measure;
@@ -19,14 +19,40 @@ pub(crate) fn measured(numbers: &[i64], columns: &[u32], side: i64, size: u64) -
     requires small { (j : ℕ) → unsigned_abs (slice_index_or numbers.now j (pos 0)) < 2 ^ 63 }
     ensures { IsMeasure numbers.now (length numbers.now) side size result }
 {
-    let mut common = joined(side.unsigned_abs(), size);
-    let mut greatest = side.unsigned_abs();
-    for k in 0..columns.len() {
-        let part = numbers[columns[k] as usize].unsigned_abs();
-        common = joined(part, common);
-        greatest = greater(part, greatest);
-    }
+    let part = side.unsigned_abs();
+    let greatest = greatest_of(numbers, columns, part);
+    let common = common_of(numbers, columns, joined(part, size));
     Measure { common, greatest }
+}
+
+// A size that none of these numerators passes, nor the given one.
+fn greatest_of(numbers: &[i64], columns: &[u32], size: u64) -> u64
+    requires size { size < 2 ^ 63 }
+    requires lists { Lists columns.now numbers.now }
+    requires small { (j : ℕ) → unsigned_abs (slice_index_or numbers.now j (pos 0)) < 2 ^ 63 }
+    ensures { AreSized numbers.now (length numbers.now) size result }
+{
+    let mut greatest = size;
+    for k in 0..columns.len() {
+        greatest = greater(numbers[columns[k] as usize].unsigned_abs(), greatest);
+    }
+    greatest
+}
+
+// What divides a size and the numerators. Mostly it is 1 soon.
+fn common_of(numbers: &[i64], columns: &[u32], size: u64) -> u64
+    requires above { 0 < size }
+    requires lists { Lists columns.now numbers.now }
+    ensures { DividesAll numbers.now (length numbers.now) size result }
+{
+    let mut common = size;
+    for k in 0..columns.len() {
+        if common == 1 {
+            return 1;
+        }
+        common = common_divisor(numbers[columns[k] as usize].unsigned_abs(), common);
+    }
+    common
 }
 
 // Mostly there is nothing left to divide by.

@@ -4,7 +4,7 @@ ghost use Rattle.whole_rows.specs.Blocks.{Covers, blocks_of};
 ghost use Rattle.whole_rows.specs.Numerators.{AreWithin};
 
 use crate::arithmetic::{common_divisor, exact, lowered, next_bound, next_den, part};
-use crate::blocks::{BLOCK, block_count, mark_blocks, next_marked};
+use crate::blocks::{BLOCK, block_count, mark_blocks, next_marked, remark_blocks};
 use crate::clearing::{clear_numbers, copy_marked};
 use crate::dividing::{divide_numbers, measured, quotient, with_sign};
 use crate::lowering::lower_numbers;
@@ -123,6 +123,7 @@ impl NarrowRow {
 
     /// Lowers the row by its number of column q times the step, or changes nothing where its
     /// numerators and its denominator then don't stay below 2^63, or the two have other columns.
+    #[inline(always)]
     pub fn lower(&mut self, step: &NarrowStep, q: usize) -> bool
         ensures lowered { IsTrue result → IsLowered q step.now.row self.old self.new }
         ensures kept { result ≡ false → self.new ≡ self.old }
@@ -144,6 +145,7 @@ impl NarrowRow {
 
     /// Whether the row may not stay narrow when it is lowered by its number of column q times the
     /// step: without a division, so it may say so of a row that does.
+    #[inline(always)]
     pub fn may_pass(&self, step: &NarrowStep, q: usize) -> bool
         ensures { result ≡ false → can_stay q step.now.row self.now ≡ true }
     {
@@ -165,6 +167,7 @@ impl NarrowRow {
 
     // Lowers the row by its number of column q times the step, where the bound and the denominator
     // stay below 2^63. Else nothing changes.
+    #[inline(always)]
     fn lower_short(&mut self, step: &NarrowRow, columns: &[u32], q: usize) -> bool
         requires column { q < width_of self.old }
         requires width { width_of step.now ≡ width_of self.old }
@@ -266,7 +269,8 @@ impl NarrowRow {
     }
 
     // Divides the row by its number of column q, in lowest terms: what divides all its numerators
-    // goes out. Those that aren't 0 are of the listed columns, before and after.
+    // goes out. Those that aren't 0 are of the listed columns, before and after, and only their
+    // blocks stay marked.
     pub(crate) fn divide(&mut self, columns: &[u32], q: usize)
         requires column { q < width_of self.old }
         requires nonzero { numerator_of self.old q ≢ pos 0 }
@@ -276,6 +280,7 @@ impl NarrowRow {
     {
         let division = self.division(columns, q);
         divide_numbers(&mut self.numbers, columns, division.by);
+        remark_blocks(&mut self.blocks, columns);
         self.side = quotient(self.side, division.by);
         self.den = division.den;
         self.bound = division.bound;

@@ -1,9 +1,11 @@
 //! Sizes of 128 bits over a number of 64 bits. What divides is divided by with its inverse modulo
 //! 2^64: a product takes a tenth of a division's time. The product is tested, so nothing rests on
 //! the inverse.
-ghost use Rattle.std.specs.Prelude.{◌≡◌, ◌*◌, ◌/◌, ◌%◌, ◌<◌, ◌^◌, IfSome, IsTrue, unsigned_abs};
+ghost use Rattle.std.specs.Prelude.{◌≡◌, ◌*◌, ◌/◌, ◌%◌, ◌<◌, ◌^◌, ◌*ℤ◌, IfSome, IsTrue, pos, unsigned_abs};
 ghost use Rattle.std.specs.Int.{◌∣◌, is_negative};
 ghost use Rattle.ratio_core.specs.Rational.{signed};
+
+use crate::widening::scaled;
 
 // 2^63 and 2^64.
 const END: u128 = 9223372036854775808;
@@ -41,7 +43,7 @@ pub(crate) fn is_multiple(size: u128, by: u64, inverse: u64) -> bool
 // What a multiple is divided to.
 #[inline]
 fn guess_of(size: u128, by: u64, inverse: u64) -> u64 {
-    low_half(size.wrapping_shr(by.trailing_zeros())).wrapping_mul(inverse)
+    low_half(size.wrapping_shr(by.trailing_zeros() % 64)).wrapping_mul(inverse)
 }
 
 #[inline]
@@ -56,28 +58,37 @@ fn is_product(guess: u64, by: u64, size: u128) -> bool
     guess as u128 * by as u128 == size
 }
 
-// The quotient of the size, with the sign.
+// The quotient, with the sign.
 #[inline]
 pub(crate) fn quotient_long(a: i128, by: u64, inverse: u64) -> i64
+    requires positive { 0 < by }
+    requires small_by { by < 2 ^ 63 }
+    requires small { unsigned_abs a / by < 2 ^ 63 }
+    ensures { result ≡ signed (is_negative a) (unsigned_abs a / by) }
+{
+    let guess = guess_of(a.cast_unsigned(), by, inverse).cast_signed();
+    if is_signed_product(guess, by, a) {
+        return guess;
+    }
+    divided_long(a, by)
+}
+
+#[inline]
+fn is_signed_product(guess: i64, by: u64, a: i128) -> bool
+    requires { by < 2 ^ 63 }
+    ensures { IsTrue result → guess *ℤ pos by ≡ a }
+{
+    scaled(guess, by) == a
+}
+
+#[inline(never)]
+fn divided_long(a: i128, by: u64) -> i64
     requires positive { 0 < by }
     requires small { unsigned_abs a / by < 2 ^ 63 }
     ensures { result ≡ signed (is_negative a) (unsigned_abs a / by) }
 {
-    let size = size_quotient(a.unsigned_abs(), by, inverse);
+    let size = part_long(a.unsigned_abs(), by) as u64;
     if a < 0 { -(size as i64) } else { size as i64 }
-}
-
-#[inline]
-fn size_quotient(size: u128, by: u64, inverse: u64) -> u64
-    requires positive { 0 < by }
-    requires small { size / by < 2 ^ 63 }
-    ensures { result ≡ size / by }
-{
-    let guess = guess_of(size, by, inverse);
-    if is_product(guess, by, size) {
-        return guess;
-    }
-    part_long(size, by) as u64
 }
 
 // The quotient, where it is below 2^63.

@@ -96,6 +96,7 @@ fn lesser_divisor(size: u128, common: u64) -> u64
 pub(crate) fn shrunk(number: i64, over: u64, by: i64, unit: i64, common: u64, inverse: u64) -> i64
     requires over { over < 2 ^ 63 }
     requires positive { 0 < common }
+    requires small_common { common < 2 ^ 63 }
     requires exact { common ∣ unsigned_abs (lowered_num number over by unit) }
     requires small { unsigned_abs (lowered_num number over by unit) / common < 2 ^ 63 }
     ensures { lowered_num number over by unit ≡ result *ℤ pos common }
@@ -115,6 +116,7 @@ pub(crate) fn shrink_numbers(
     requires long { length step.now ≡ length numbers.old }
     requires over { over < 2 ^ 63 }
     requires positive { 0 < common }
+    requires small_common { common < 2 ^ 63 }
     requires fits { CanShrink over by step.now common numbers.old }
     ensures { AreShrunk over by step.now common (length numbers.old) numbers.old numbers.new }
 {

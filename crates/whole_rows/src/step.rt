@@ -38,6 +38,7 @@ impl NarrowStep {
     }
 
     /// Takes a row, divided by its number of column q.
+    #[inline(never)]
     pub fn set(&mut self, row: &NarrowRow, q: usize)
         requires column { q < width_of self.old.row }
         requires nonzero { numerator_of row.now q ≢ pos 0 }

@@ -4,8 +4,18 @@ use Rattle.std.proofs.lemmas.List.{with_items_is}
 use Rattle.whole_rows.proofs.DivisionSteps.{side_is_lem}
 use Rattle.whole_rows.specs.Blocks.{Covers}
 use Rattle.whole_rows.proofs.CoverSteps.{long_kept, shrunk_covers}
-use Rattle.whole_rows.proofs.LongSteps.{long_above, long_fits, long_lowered, long_side_exact, long_side_small, long_within}
+use Rattle.whole_rows.proofs.LongSteps.{common_small, long_above, long_fits, long_lowered, long_side_exact, long_side_small, long_within}
 use Rattle.whole_rows.proofs.narrow_row.NarrowRow.lower_long.Goals as goal
+
+pub shrink_numbers-requires-clause-small_common : goal.shrink_numbers-requires-clause-small_common
+shrink_numbers-requires-clause-small_common c =
+    common_small c.args.q c.args.step.now c.args.self.now c.in-Some.plan c.in-Some.ensures
+    c.requires.width
+
+pub shrunk-self-requires-clause-small_common : goal.shrunk-self-requires-clause-small_common
+shrunk-self-requires-clause-small_common c =
+    common_small c.args.q c.args.step.now c.args.self.now c.in-Some.plan c.in-Some.ensures
+    c.requires.width
 
 pub shrink_numbers-requires-clause-fits : goal.shrink_numbers-requires-clause-fits
 shrink_numbers-requires-clause-fits c =

@@ -1,6 +1,6 @@
 use Rattle.std.specs.Prelude.{◌+◌, ◌*◌, ◌<◌, ◌≤◌}
 use Rattle.sparse_board.specs.Marks.{AreUnmarked}
-use Rattle.sparse_board.proofs.marks.Marks.next_row.Given as goal
+use Rattle.sparse_board.proofs.marks.Marks.next_row_on.Given as goal
 
 abbrev pub invariant-loop-k : goal.invariant-loop-k
 invariant-loop-k l = record {
