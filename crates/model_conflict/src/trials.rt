@@ -2,18 +2,18 @@
 ghost use Rattle.std.specs.Prelude.{◌≡◌, ◌++◌, ◌∷◌, [], None, IfErr, IfOk, true, List, OnOk, length};
 ghost use Rattle.cache_layer.specs.Cached.{model_in, state_of};
 ghost use Rattle.cache_layer.specs.State.{Bridging, with_model};
-ghost use Rattle.model_conflict.specs.Steps.{CanWalk, IsTurnOf, StandsFirst, Tries, with_needed};
-ghost use Rattle.conflict_laws.specs.Turned.{turned_list};
-ghost use Rattle.model_conflict.specs.Walk.{FindsFrom, Gives, NamesRows, infeasible_by, turned};
+ghost use Rattle.model_conflict.specs.Steps.{CanWalk, IsTrialOf, IsFirstRow, Tries, with_needed};
+ghost use Rattle.conflict_laws.specs.Rotated.{rotated_list};
+ghost use Rattle.model_conflict.specs.Walk.{FindsFrom, Gives, NamesRows, infeasible_by, rotated};
 ghost use Rattle.user_model.specs.Edited.{edited};
 ghost use Rattle.user_model.specs.Refusals.{first_refusal};
 ghost use Rattle.user_model.specs.Valid.{IsValid, IsValidRow};
 ghost use Rattle.user_model.specs.declared.row.Row.{Row};
 
 use crate::optimizing::{Duals, Optimum, optimize};
-use crate::{ConflictFault, Found, Points};
+use crate::{Found, Points};
 use bridge_face::Bridge;
-use cache_layer::{Cache, EditFault};
+use cache_layer::{Cache, EditFault, OptFault};
 use cert_core::{Certificate, DualRows};
 use lists::{Duplicate, Memory, Sequence};
 use model_store::UserModel;
@@ -32,20 +32,20 @@ struct Walked {
     duals: Duals,
 }
 
-// The turn of the row that stands first: its name, and the edits that delete it and add it again.
+// The trial of the first row: its name, and the edits that delete it and add it again.
 #[derive(Drop)]
-struct Turn {
+struct Trial {
     name: Name,
     delete: Edit,
     add: Edit,
 }
 
-/// Tries each row by the model without it, and tells which are needed.
+/// Tries each row by the model without it, and keeps those that are needed.
 pub(crate) fn walk<B: Bridge>(
     cache: &mut Cache<B>,
     pivots: u64,
     duals: Duals,
-) -> Result<Found, ConflictFault>
+) -> Result<Found, OptFault>
     requires can { CanWalk (state_of cache.old) (length (model_in cache.old).rows) }
     requires duals { Gives (state_of cache.old) pivots (infeasible_by duals) }
     ensures finds { FindsFrom (state_of cache.old) pivots duals result }
@@ -88,29 +88,31 @@ fn certificate_of(duals: Duals) -> Certificate
     }
 }
 
-// Tries the row that stands first. Where it is needed, it stands last afterwards.
+// Tries the first row. Where it is needed, it is the last one afterwards.
 fn try_first<B: Bridge>(
     alloc: Global,
     cache: &mut Cache<B>,
     pivots: u64,
     walked: &mut Walked,
-) -> Result<(), ConflictFault>
+) -> Result<(), OptFault>
     requires can { CanWalk (state_of cache.old) 1 }
     requires first { (row : Row) × (rest : List Row)
-        × StandsFirst (model_in cache.old) row rest }
-    ensures { (row : Row) (rest : List Row) → StandsFirst (model_in cache.old) row rest
+        × IsFirstRow (model_in cache.old) row rest }
+    ensures { (row : Row) (rest : List Row) → IsFirstRow (model_in cache.old) row rest
         → Tries (state_of cache.old) pivots row rest walked.old result (state_of cache.new)
         walked.new }
 {
-    let turn = first_turn(alloc, cache)?;
-    make(cache, turn.delete)?;
+    let Ok(trial) = first_trial(alloc, cache) else {
+        return Err(OptFault::Memory);
+    };
+    make(cache, trial.delete)?;
     let optimum = optimize(cache, pivots)?;
     match optimum {
         Optimum::None(duals) => {
             walked.duals = duals;
             Ok(())
         }
-        Optimum::Point(x) => add_again(cache, turn.add, walked, turn.name, x),
+        Optimum::Point(x) => add_again(cache, trial.add, walked, trial.name, x),
     }
 }
 
@@ -121,27 +123,29 @@ fn add_again<B: Bridge>(
     walked: &mut Walked,
     name: Name,
     x: Ratios,
-) -> Result<(), ConflictFault>
+) -> Result<(), OptFault>
     requires attached { cache.old.attached ≡ true }
     requires accepted { first_refusal (model_in cache.old) add ≡ None }
     requires bridged { Bridging (with_model (state_of cache.old) (edited (model_in cache.old) add)) }
     ensures state { OnOk result (state_of cache.new
         ≡ with_model (state_of cache.old) (edited (model_in cache.old) add)) }
     ensures noted { OnOk result (walked.new ≡ with_needed walked.old name x) }
-    ensures err { IfErr result (λ fault. fault ≡ ConflictFault.Memory) }
+    ensures err { IfErr result (λ fault. fault ≡ OptFault.Memory) }
 {
     make(cache, add)?;
-    keep(walked, name, x)?;
-    Ok(())
+    match keep(walked, name, x) {
+        Ok(()) => Ok(()),
+        Err(_) => Err(OptFault::Memory),
+    }
 }
 
-// The edits of the row that stands first.
-fn first_turn<B: Bridge>(alloc: Global, cache: &Cache<B>) -> Result<Turn, Memory>
+// The trial of the first row.
+fn first_trial<B: Bridge>(alloc: Global, cache: &Cache<B>) -> Result<Trial, Memory>
     requires attached { cache.now.attached ≡ true }
     requires first { (row : Row) × (rest : List Row)
-        × StandsFirst (model_in cache.now) row rest }
-    ensures turn { (row : Row) (rest : List Row) → StandsFirst (model_in cache.now) row rest
-        → IfOk result (IsTurnOf (model_in cache.now) row) }
+        × IsFirstRow (model_in cache.now) row rest }
+    ensures trial { (row : Row) (rest : List Row) → IsFirstRow (model_in cache.now) row rest
+        → IfOk result (IsTrialOf (model_in cache.now) row) }
     ensures stands { Bridging (state_of cache.now) }
     ensures valid { IsValid (model_in cache.now) }
 {
@@ -149,12 +153,12 @@ fn first_turn<B: Bridge>(alloc: Global, cache: &Cache<B>) -> Result<Turn, Memory
     let _stands = cache.attached();
     let user = cache.model();
     let row = first_row(user);
-    turn_of(alloc, user, row)
+    trial_of(alloc, user, row)
 }
 
 fn first_row(model: &UserModel) -> &Row
-    requires { (row : Row) × (rest : List Row) × StandsFirst model.now.model row rest }
-    ensures is { (row : Row) (rest : List Row) → StandsFirst model.now.model row rest
+    requires { (row : Row) × (rest : List Row) × IsFirstRow model.now.model row rest }
+    ensures is { (row : Row) (rest : List Row) → IsFirstRow model.now.model row rest
         → result.now ≡ row }
     ensures valid { IsValid model.now.model }
 {
@@ -164,11 +168,11 @@ fn first_row(model: &UserModel) -> &Row
     }
 }
 
-fn turn_of(alloc: Global, model: &UserModel, row: &Row) -> Result<Turn, Memory>
+fn trial_of(alloc: Global, model: &UserModel, row: &Row) -> Result<Trial, Memory>
     requires { IsValidRow model.now.model.groups row.now }
-    ensures { IfOk result (IsTurnOf model.now.model row.now) }
+    ensures { IfOk result (IsTrialOf model.now.model row.now) }
 {
-    Ok(Turn {
+    Ok(Trial {
         name: row.name.copy()?,
         delete: Edit::DeleteRow {
             row: row.name.copy()?,
@@ -178,41 +182,34 @@ fn turn_of(alloc: Global, model: &UserModel, row: &Row) -> Result<Turn, Memory>
 }
 
 // Makes an edit that isn't refused, nor is the bridging of its model.
-fn make<B: Bridge>(cache: &mut Cache<B>, edit: Edit) -> Result<(), ConflictFault>
+fn make<B: Bridge>(cache: &mut Cache<B>, edit: Edit) -> Result<(), OptFault>
     requires attached { cache.old.attached ≡ true }
     requires accepted { first_refusal (model_in cache.old) edit ≡ None }
     requires bridged { Bridging (with_model (state_of cache.old)
         (edited (model_in cache.old) edit)) }
     ensures ok { OnOk result (state_of cache.new
         ≡ with_model (state_of cache.old) (edited (model_in cache.old) edit)) }
-    ensures err { IfErr result (λ fault. fault ≡ ConflictFault.Memory) }
+    ensures err { IfErr result (λ fault. fault ≡ OptFault.Memory) }
 {
     // what these ensure: the choices are sound, and the model is valid
     let _sound = cache.lazy().table();
     let _valid = cache.model().rows();
     match cache.edit(edit) {
         Ok(_changed) => Ok(()),
-        Err(fault) => Err(want_of_memory(fault)),
+        Err(fault) => match fault {
+            EditFault::Memory => Err(OptFault::Memory),
+            _ => unreachable!(),
+        },
     }
 }
 
-fn want_of_memory(fault: EditFault) -> ConflictFault
-    requires { fault ≡ EditFault.Memory }
-    ensures { result ≡ ConflictFault.Memory }
-{
-    match fault {
-        EditFault::Memory => ConflictFault::Memory,
-        _ => unreachable!(),
-    }
-}
-
-// Notes a row that is needed, which now stands last, as do its duals.
+// Notes a row that is needed, which is the last one now. Its duals become the last, too.
 fn keep(walked: &mut Walked, name: Name, x: Ratios) -> Result<(), Memory>
     ensures { OnOk result (walked.new ≡ with_needed walked.old name x) }
 {
     push(&mut walked.rows, name)?;
     push(&mut walked.points, x)?;
-    turn_duals(&mut walked.duals);
+    rotate_duals(&mut walked.duals);
     Ok(())
 }
 
@@ -226,17 +223,17 @@ fn push<T: Drop>(list: &mut Sequence<T>, item: T) -> Result<(), Memory>
 }
 
 // The first row's duals go last.
-fn turn_duals(duals: &mut Duals)
-    ensures { duals.new ≡ turned duals.old }
+fn rotate_duals(duals: &mut Duals)
+    ensures { duals.new ≡ rotated duals.old }
 {
     let none = DualRows::new(duals.vars.allocator());
     let rows = mem::replace(&mut duals.rows, none);
-    duals.rows = turned_rows(rows);
+    duals.rows = rotated_rows(rows);
 }
 
-#[tactic(auto, using(crate::proofs::Rotated::turned_is, crate::proofs::Rotated::turned_none))]
-fn turned_rows(rows: DualRows) -> DualRows
-    ensures { result ≡ turned_list rows }
+#[tactic(auto, using(crate::proofs::Rotated::rotated_is, crate::proofs::Rotated::rotated_none))]
+fn rotated_rows(rows: DualRows) -> DualRows
+    ensures { result ≡ rotated_list rows }
 {
     let mut list = rows.into_vec();
     if list.is_empty() {

@@ -19,29 +19,29 @@ use Rattle.user_model.specs.declared.group.Group.{Group}
 use Rattle.user_model.specs.declared.row.Row.{Row}
 
 -- the first of a list of duals last
-abbrev pub turned_list : List (List Rational) → List (List Rational)
-turned_list [] = []
-turned_list (y ∷ ys) = ys ++ y ∷ []
+abbrev pub rotated_list : List (List Rational) → List (List Rational)
+rotated_list [] = []
+rotated_list (y ∷ ys) = ys ++ y ∷ []
 
 -- ---- sums in another order
 
-turned_sum : (f : DualRow → Rational) (h : DualRow) (hs : List DualRow)
+rotated_sum : (f : DualRow → Rational) (h : DualRow) (hs : List DualRow)
     → sum_by_ℚ f (hs ++ h ∷ []) ≡ sum_by_ℚ f (h ∷ hs)
-turned_sum f h hs =
+rotated_sum f h hs =
     sum_by_ℚ-append f hs (h ∷ [])
     ∙ ap (λ q. sum_by_ℚ f hs +ℚ q) (+ℚ-zero (f h))
     ∙ +ℚ_comm (sum_by_ℚ f hs) (f h)
 
-turned_gap : (h : DualRow) (hs gs : List DualRow)
+rotated_gap : (h : DualRow) (hs gs : List DualRow)
     → held.gap ((hs ++ h ∷ []) ++ gs) ≡ held.gap ((h ∷ hs) ++ gs)
-turned_gap h hs gs =
+rotated_gap h hs gs =
     sum_by_ℚ-append gap_of (hs ++ h ∷ []) gs
-    ∙ ap (λ q. q +ℚ sum_by_ℚ gap_of gs) (turned_sum gap_of h hs)
+    ∙ ap (λ q. q +ℚ sum_by_ℚ gap_of gs) (rotated_sum gap_of h hs)
     ∙ sym (sum_by_ℚ-append gap_of (h ∷ hs) gs)
 
-turned_all : (P : DualRow → Type 0) (h : DualRow) (hs gs : List DualRow) → All P ((h ∷ hs) ++ gs)
+rotated_all : (P : DualRow → Type 0) (h : DualRow) (hs gs : List DualRow) → All P ((h ∷ hs) ++ gs)
     → All P ((hs ++ h ∷ []) ++ gs)
-turned_all P h hs gs all =
+rotated_all P h hs gs all =
     All-append P (hs ++ h ∷ []) gs
     (All-append P hs (h ∷ []) (All-tail P h hs (all_first P (h ∷ hs) gs all))
     (All-cons P h [] (All-head P h (hs ++ gs) all) (All-nil P)))
@@ -60,9 +60,9 @@ rows_with-append (y ∷ ys) zs (r ∷ rows) others e =
 
 module _ (gap : Rational) (y : List Rational) (ys : List (List Rational)) (vars : List Rational)
     (groups : List Group) (h : DualRow) (hs : List DualRow) (n : ℕ) where
-  turned_parts : InfeasibleBy gap (y ∷ ys) vars groups (h ∷ hs) (suc n)
+  rotated_parts : InfeasibleBy gap (y ∷ ys) vars groups (h ∷ hs) (suc n)
       → InfeasibleBy gap (ys ++ y ∷ []) vars groups (hs ++ h ∷ []) (suc n)
-  turned_parts p =
+  rotated_parts p =
       let gs = groups_with (spread (all_addresses groups) vars) groups in record {
         each_row = (
             let count = length-append ys (y ∷ []) in
@@ -70,28 +70,28 @@ module _ (gap : Rational) (y : List Rational) (ys : List (List Rational)) (vars 
             omega (arith, count, before)
             );
         each_variable = p.each_variable;
-        duals = turned_all HasDuals h hs gs p.duals;
+        duals = rotated_all HasDuals h hs gs p.duals;
         equations = All-weaker
             (λ v. adjoint (h ∷ hs) v +ℚ spread (all_addresses groups) vars v ≡ zero_ℚ)
             (λ v. adjoint (hs ++ h ∷ []) v +ℚ spread (all_addresses groups) vars v ≡ zero_ℚ)
             (λ v e. ap (λ q. q +ℚ spread (all_addresses groups) vars v)
-            (turned_sum (λ k. adjoint_of k v) h hs) ∙ e) (all_addresses groups) p.equations;
-        is_gap = p.is_gap ∙ sym (turned_gap h hs gs);
+            (rotated_sum (λ k. adjoint_of k v) h hs) ∙ e) (all_addresses groups) p.equations;
+        is_gap = p.is_gap ∙ sym (rotated_gap h hs gs);
         positive = p.positive;
       }
 
 -- ---- models
 
-pub turned_infeasible : (model other : ModelValue) (r last : Row) (rest : List Row) (gap : Rational)
+pub rotated_infeasible : (model other : ModelValue) (r last : Row) (rest : List Row) (gap : Rational)
     (ys : List (List Rational)) (vars : List Rational) → model.rows ≡ r ∷ rest
     → other.groups ≡ model.groups → other.rows ≡ rest ++ last ∷ []
     → ((y : List Rational) → row_with y last ≡ row_with y r) → IsInfeasible model gap ys vars
-    → IsInfeasible other gap (turned_list ys) vars
-turned_infeasible model other r last rest gap [] vars whole groups now same h =
+    → IsInfeasible other gap (rotated_list ys) vars
+rotated_infeasible model other r last rest gap [] vars whole groups now same h =
     let none = h.duals.each_row in
     let some = ap length whole in
     absurd (omega (arith, none, some))
-turned_infeasible model other r last rest gap (y ∷ ys) vars whole groups now same h =
+rotated_infeasible model other r last rest gap (y ∷ ys) vars whole groups now same h =
     let short : length ys ≡ length rest =
     (let count = h.duals.each_row in
     let some = ap length whole in
@@ -102,7 +102,7 @@ turned_infeasible model other r last rest gap (y ∷ ys) vars whole groups now s
     (row_with y r ∷ rows_with ys rest) (suc (length rest)) =
     subst (λ rows. InfeasibleBy gap (y ∷ ys) vars model.groups (rows_with (y ∷ ys) rows)
     (length rows)) whole (parts_of model gap (y ∷ ys) vars h) in
-    let after = turned_parts gap y ys vars model.groups (row_with y r) (rows_with ys rest)
+    let after = rotated_parts gap y ys vars model.groups (row_with y r) (rows_with ys rest)
     (length rest) before in
     let hs : rows_with ys rest ++ row_with y r ∷ []
     ≡ rows_with (ys ++ y ∷ []) (rest ++ last ∷ []) =

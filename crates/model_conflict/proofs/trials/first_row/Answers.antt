@@ -1,6 +1,6 @@
 use Rattle.std.proofs.Common.{◌∙◌}
 use Rattle.model_conflict.proofs.Tried.{none_is_first}
-use Rattle.model_conflict.proofs.turns.first_row.Goals as goal
+use Rattle.model_conflict.proofs.trials.first_row.Goals as goal
 
 pub unreachable-requires : goal.unreachable-requires
 unreachable-requires c =

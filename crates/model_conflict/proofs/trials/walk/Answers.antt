@@ -1,8 +1,8 @@
 use Rattle.std.proofs.Common.{◌≡◌, ◌<◌, ◌≤◌, arith, length, subst, sym, Ok}
 use Rattle.cache_layer.specs.Cached.{state_of}
 use Rattle.model_conflict.proofs.Tried.{count_is, handed_on}
-use Rattle.model_conflict.proofs.Walking.{all_tried, at_start, can_try, one_failed, one_more, stands_first}
-use Rattle.model_conflict.proofs.turns.walk.Goals as goal
+use Rattle.model_conflict.proofs.Walking.{all_tried, at_start, can_try, one_failed, one_more, is_first_row}
+use Rattle.model_conflict.proofs.trials.walk.Goals as goal
 use Rattle.model_conflict.specs.Walk.{FindsFrom}
 use Rattle.model_conflict.specs.declared.found.Found.TheVariants.{Conflict}
 
@@ -22,7 +22,7 @@ try_first-requires g c =
     record {
       can = can_try start c.args.pivots c.args.duals c.loop.counter (state_of c.loop.cache)
           c.loop.walked c.loop.invariant more;
-      first = stands_first start c.args.pivots c.args.duals c.loop.counter (state_of c.loop.cache)
+      first = is_first_row start c.args.pivots c.args.duals c.loop.counter (state_of c.loop.cache)
           c.loop.walked c.loop.invariant more;
     }
 

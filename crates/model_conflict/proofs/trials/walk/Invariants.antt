@@ -1,6 +1,6 @@
 use Rattle.cache_layer.specs.Cached.{state_of}
 use Rattle.model_conflict.proofs.Walking.{WalkedSoFar}
-use Rattle.model_conflict.proofs.turns.walk.Given as goal
+use Rattle.model_conflict.proofs.trials.walk.Given as goal
 
 abbrev pub invariant-loop : goal.invariant-loop
 invariant-loop g l =
