@@ -11,11 +11,14 @@ use crate::trials::walk;
 use bridge_face::Bridge;
 use cache_layer::{Cache, OptFault};
 
+/// Why neither a point nor a conflict is found: the fault of the first optimise that gives no
+/// certificate, which is never `NotAttached`.
+pub type ConflictFault = OptFault;
+
 /// A feasible point of an attached model without an objective, or rows that can't hold together, none
 /// of which can be left out. There is room for a further number for each row. The solver is asked once
-/// for the model, and then once for each of its rows; the first time that it gives no certificate,
-/// its fault is the answer.
-pub fn find<B: Bridge>(cache: Cache<B>, pivots: u64) -> Result<Found, OptFault>
+/// for the model, and then once for each of its rows, until it gives no certificate.
+pub fn find<B: Bridge>(cache: Cache<B>, pivots: u64) -> Result<Found, ConflictFault>
     requires { CanWalk (state_of cache) (length (model_in cache).rows) }
     ensures finds { Finds (state_of cache) pivots result }
     ensures shows { IfOk result (Shows (model_in cache)) }
@@ -26,7 +29,7 @@ pub fn find<B: Bridge>(cache: Cache<B>, pivots: u64) -> Result<Found, OptFault>
 
 /// A feasible point or a conflict, as `find` gives it, of a cache that is kept. After a conflict its
 /// model has the rows of the conflict alone, in their order.
-pub fn find_in<B: Bridge>(cache: &mut Cache<B>, pivots: u64) -> Result<Found, OptFault>
+pub fn find_in<B: Bridge>(cache: &mut Cache<B>, pivots: u64) -> Result<Found, ConflictFault>
     requires { CanWalk (state_of cache.old) (length (model_in cache.old).rows) }
     ensures finds { Finds (state_of cache.old) pivots result }
     ensures shows { IfOk result (Shows (model_in cache.old)) }
@@ -37,7 +40,7 @@ pub fn find_in<B: Bridge>(cache: &mut Cache<B>, pivots: u64) -> Result<Found, Op
 }
 
 // What is found, without what it shows of the model.
-fn seek<B: Bridge>(cache: &mut Cache<B>, pivots: u64) -> Result<Found, OptFault>
+fn seek<B: Bridge>(cache: &mut Cache<B>, pivots: u64) -> Result<Found, ConflictFault>
     requires { CanWalk (state_of cache.old) (length (model_in cache.old).rows) }
     ensures finds { Finds (state_of cache.old) pivots result }
     ensures groups { OnOk result ((model_in cache.new).groups ≡ (model_in cache.old).groups) }

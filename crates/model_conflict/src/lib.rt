@@ -9,5 +9,5 @@ mod optimizing;
 mod trials;
 
 pub use cache_layer::Certificate;
-pub use finding::{find, find_in};
+pub use finding::{ConflictFault, find, find_in};
 pub use found::{Found, Points};
