@@ -25,6 +25,9 @@ use Rattle.relaxed_model.specs.Relaxed.{with_slacks}
 abbrev pub IsBelow : ℕ → Function → Type 0
 IsBelow n f = (v : Address) → ¬ (coefficient f v ≡ zero_ℚ) → v.number < n
 
+pub below_from : (first n : ℕ) → first ≤ n → (f : Function) → IsBelow first f → IsBelow n f
+below_from first n h f below v some = let less = below v some in omega (arith, less, h)
+
 -- points that agree below n give such a function one value
 pub value_below : (n : ℕ) (f : Function) (x y : Address → Rational) → IsBelow n f
     → ((v : Address) → v.number < n → x v ≡ y v) → value_of f x ≡ value_of f y
@@ -147,8 +150,9 @@ value_with_slacks n (q ∷ qs) f x below =
     ∙ +ℚ_assoc (value_of f x) (q *ℚ x (variable_address n))
     (dot qs (numbers_from x (suc n) (length qs)))
 
-apart_below : (n : ℕ) (v : Address) → v.number < n → v ≢ variable_address n
-apart_below n v h e =
+-- an address of a lesser number is another
+pub other_number : (v : Address) (n : ℕ) → v.number < n → v ≢ variable_address n
+other_number v n h e =
     let same : v.number ≡ n = ap (λ (a : Address). a.number) e in absurd (omega (arith, same, h))
 
 -- below n nothing is changed
@@ -159,7 +163,7 @@ coefficient_kept n (q ∷ qs) f v h =
     coefficient_kept (suc n) qs (with_coefficient f (variable_address n) q) v (omega (arith, h))
     ∙ coefficient-with address_order f (variable_address n) q v
     ∙ ap (λ b. cond b q (coefficient f v))
-    (other_key address_order v (variable_address n) (apart_below n v h))
+    (other_key address_order v (variable_address n) (other_number v n h))
 
 pub constant_kept : (n : ℕ) (qs : List Rational) (f : Function)
     → (with_slacks n qs f).constant ≡ f.constant

@@ -37,8 +37,8 @@ use Rattle.relaxed_model.specs.PlacedLaws.{first_part, last_part, length-first_p
 use Rattle.relaxed_model.specs.Relaxed.{hard_model, overs, relaxed_model, slack_count, slack_group, slack_names, slack_overs, sum_from, total}
 use Rattle.relaxed_model.specs.RowLaws.{AreEnoughFor, length-row_slacks, row_slacks, row_slacks_nonneg, row_slacks_sum, rows_enough, rows_relaxed}
 
--- the point meets the hard rows, and misses each soft row by the number that is said, together by
--- the value, than which no point that meets the hard rows has less
+-- The point meets the hard rows, and misses each soft row by its number in `missed`. These numbers
+-- add up to the value. No point that meets the hard rows misses the soft rows by less in all.
 pub record IsLeast (model : ModelValue) (value : Rational) (x missed : List Rational) : Type 0 where
   pub feasible : IsFeasible (hard_model model) x
   pub each : missed ≡ overs model x
