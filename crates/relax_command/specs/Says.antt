@@ -70,7 +70,7 @@ abbrev pub Says : Setting → ModelValue → Answer → Type 0
 Says setting model answer =
     SaysMade model setting (after_edits model (relaxed_edits model)) answer
 
--- ---- what the code tells
+-- ---- what the code says
 
 -- a model was made its relaxation, or this is answered
 abbrev pub Relaxes : Stored → Result Unit Answer → Stored → Type 0
