@@ -1,4 +1,5 @@
 // A run that is to be made.
+use lists::Memory;
 use std::alloc::Global;
 
 /// A kind of call, one of which fails.
@@ -13,8 +14,12 @@ pub struct Case {
     pub words: Vec<String>,
     /// What the file `m.json` has.
     pub model: Vec<u8>,
-    /// Whether there is that file.
+    /// Whether that file isn't there.
     pub is_missing: bool,
+    /// What the file `maps.txt` has.
+    pub maps: Vec<u8>,
+    /// Whether that file isn't there.
+    pub is_without_maps: bool,
     /// Whether there are no bridges.
     pub is_bare: bool,
     /// How many bytes a write takes.
@@ -24,15 +29,18 @@ pub struct Case {
 }
 
 impl Case {
-    pub fn new(alloc: Global) -> Case {
-        Case {
-            words: Vec::new(alloc),
+    /// A case with these arguments, which are separated by spaces, and two empty files.
+    pub fn new(alloc: Global, words: &str) -> Result<Case, Memory> {
+        Ok(Case {
+            words: words_of(alloc, words)?,
             model: Vec::new(alloc),
             is_missing: false,
+            maps: Vec::new(alloc),
+            is_without_maps: false,
             is_bare: false,
             piece: 4096,
             failing: None,
-        }
+        })
     }
 
     /// The number of the call of a kind that fails, and 0 where none does.
@@ -43,4 +51,13 @@ impl Case {
             _ => 0,
         }
     }
+}
+
+/// Words that are separated by spaces.
+pub fn words_of(alloc: Global, text: &str) -> Result<Vec<String>, Memory> {
+    let mut words = Vec::new(alloc);
+    for word in text.split(' ') {
+        words.push(String::from_str(alloc, word)?)?;
+    }
+    Ok(words)
 }

@@ -1,7 +1,7 @@
 // A case that is run.
+use crate::Command;
 use crate::case::{Call, Case};
-use any_bridge::{AnyBridge, all_bridges};
-use dual_command::run;
+use any_bridge::all_bridges;
 use io_face::{Calls, MemShelf, MemSink, NamedFile, NamedFiles};
 use lists::Memory;
 use std::alloc::Global;
@@ -9,7 +9,7 @@ use std::str;
 use test_support::Stop;
 
 /// Runs a case, and prints how it ends and what it writes.
-pub fn run_case(rt: &HostRuntime, case: &Case) -> Result<(), Stop> {
+pub fn run_case<C: Command>(rt: &HostRuntime, case: &Case) -> Result<(), Stop> {
     if case.piece == 0 {
         return Err(Stop);
     }
@@ -18,31 +18,32 @@ pub fn run_case(rt: &HostRuntime, case: &Case) -> Result<(), Stop> {
     let writes = failing(alloc, case.failing(Call::Write))?;
     let mut shelf = MemShelf::new(files_of(alloc, case)?, fetches);
     let mut output = MemSink::new(alloc, case.piece, writes);
-    let status = if case.is_bare {
-        let none: Vec<AnyBridge> = Vec::new(alloc);
-        run(alloc, &case.words, &mut shelf, &mut output, none)
+    let bridges = if case.is_bare {
+        Vec::new(alloc)
     } else {
-        run(
-            alloc,
-            &case.words,
-            &mut shelf,
-            &mut output,
-            all_bridges(alloc)?,
-        )
+        all_bridges(alloc)?
     };
+    let status = C::run(alloc, &case.words, &mut shelf, &mut output, bridges);
     tell(rt, status.number(), output.written())
 }
 
-// The file of the model, unless it is missing.
+// The files of the model and of the maps, unless they are missing.
 fn files_of(alloc: Global, case: &Case) -> Result<NamedFiles, Memory> {
     let mut files = Vec::new(alloc);
     if !case.is_missing {
-        files.push(NamedFile {
-            name: String::from_str(alloc, "m.json")?,
-            bytes: Vec::from_slice(alloc, &case.model)?,
-        })?;
+        files.push(file_of(alloc, "m.json", &case.model)?)?;
+    }
+    if !case.is_without_maps {
+        files.push(file_of(alloc, "maps.txt", &case.maps)?)?;
     }
     Ok(NamedFiles::from_vec(files))
+}
+
+fn file_of(alloc: Global, name: &str, bytes: &[u8]) -> Result<NamedFile, Memory> {
+    Ok(NamedFile {
+        name: String::from_str(alloc, name)?,
+        bytes: Vec::from_slice(alloc, bytes)?,
+    })
 }
 
 // The one call of this number fails, or none.
