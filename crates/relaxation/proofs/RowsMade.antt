@@ -1,89 +1,37 @@
--- Edits one after another, and those that give each soft row its slacks.
-use Rattle.std.specs.Prelude.{◌≡◌, ◌≢◌, ℕ, zero, suc, ◌+◌, ◌*◌, ◌^◌, ◌<◌, ◌≤◌, Bool, true, false, cond, List, [], ◌∷◌, ◌++◌, All, AllPairs, None, Option, Some, Ok, Err, Result, bytes_eq, drop, find, length, map, nat_lt, replicate, slice_index_or, take, unwrap_or, refl}
-use Rattle.std.specs.List.{IsDistinct}
-use Rattle.std.specs.Option.{option_map, option_map_or}
-use Rattle.std.proofs.Common.{ap, ap₂, arith, subst, sym, ◌∙◌}
-use Rattle.std.proofs.Math.Seq.{drop-append_seam, take-append_seam}
-use Rattle.std.proofs.lemmas.List.{append-nil, append_assoc, length-append, length-drop, length-map, length-take-le, map-append, take-append-drop}
-use Rattle.std.proofs.lemmas.List.Concat.{flat_map-append}
+-- The edits that give each soft row its slacks lead to the rows of the relaxation.
+use Rattle.std.specs.Prelude.{◌≡◌, ◌≢◌, ℕ, zero, suc, ◌+◌, ◌<◌, ◌≤◌, Bool, true, false, cond, List, [], ◌∷◌, ◌++◌, All, AllPairs, Option, Some, bytes_eq, drop, find, is_some, length, map, nat_lt, not, take, refl}
+use Rattle.std.specs.Option.{option_map_or}
+use Rattle.std.proofs.Common.{ap, ap₂, arith, subst, sym, true≢false, ◌∙◌}
+use Rattle.std.proofs.lemmas.Bool.{or_from}
+use Rattle.std.proofs.lemmas.List.{append-nil, append_assoc, length-append, length-map, length-take-le, map-append, take-append-drop}
 use Rattle.std.proofs.lemmas.List.Elements.{All-append, All-cons, All-head, All-nil, All-tail, All-weaker, filter-append}
-use Rattle.std.proofs.lemmas.List.Folds.{find-append}
 use Rattle.std.proofs.lemmas.Slice.Eq.{bytes_eq-Decides}
-use Rattle.map_laws.specs.EachLaws.{cons_head, cons_tail}
-use Rattle.map_laws.specs.PairLaws.{AllPairs-across, AllPairs-head, AllPairs-tail}
-use Rattle.ratio_core.specs.Rational.{Rational, one_ℚ, zero_ℚ}
-use Rattle.aff_core.specs.Address.{Address, address_cmp}
-use Rattle.aff_core.specs.Function.{Function, function_of, gathered, with_coefficient}
-use Rattle.aff_core.specs.FunctionLaws.{coefficient-function_of, coefficient-gathered, constant-function_of, same_coefficients}
-use Rattle.aff_core.specs.KeyOrder.{address_order}
-use Rattle.aff_core.specs.Rising.{RiseStrictly}
-use Rattle.aff_core.specs.declared.sense.Sense.TheVariants.{Min}
-use Rattle.named_aff.specs.declared.terms.NamedTerm.{NamedTerm}
+use Rattle.limit_laws.specs.Leads.{Leads, PassesTests}
+use Rattle.limit_laws.specs.LeadsLaws.{leads_both, leads_first, leads_none}
+use Rattle.limit_laws.specs.NewNames.{none_passes, other_name}
+use Rattle.map_laws.specs.EachLaws.{all_first, all_second, cons_head, cons_tail}
+use Rattle.map_laws.specs.PairLaws.{AllPairs-head, AllPairs-tail}
+use Rattle.ratio_core.specs.Rational.{Rational}
+use Rattle.aff_core.specs.Address.{Address}
+use Rattle.aff_core.specs.Function.{Function, with_coefficient}
 use Rattle.model_laws.specs.Changed.{change_row-found}
-use Rattle.model_laws.specs.Located.{free_variable}
 use Rattle.numbered_list.specs.Laws.{Rise-head, Rise-tail}
 use Rattle.numbered_list.specs.Numbered.{Rise, above, below, put, set_at}
 use Rattle.numbered_list.specs.SetLaws.{above-all, above-none, below-all, below-none}
-use Rattle.user_model.specs.declared.edit.Edit.{Edit}
 use Rattle.user_model.specs.declared.edit.Edit.TheVariants.{Coef}
 use Rattle.user_model.specs.declared.function.UserFunc.{UserFunc}
-use Rattle.user_model.specs.declared.function.UserFunc.TheVariants.{Plain, Affine, PlainVec, AffineVec}
-use Rattle.user_model.specs.declared.group.Group.{Group}
-use Rattle.user_model.specs.declared.group.GroupVar.{GroupVar}
-use Rattle.user_model.specs.declared.objective.Objective.{Objective}
-use Rattle.user_model.specs.declared.objective.Objective.TheVariants as objective
-use Rattle.user_model.specs.declared.refusal.Refusal.{Refusal}
 use Rattle.user_model.specs.declared.row.Row.{Row}
-use Rattle.user_model.specs.Edited.{edited, numbered_from, on_affine, row_number}
-use Rattle.user_model.specs.Model.{ModelValue, address_named, row_named, variable_address, variables}
-use Rattle.user_model.specs.Refusals.{first_refusal}
-use Rattle.user_model.specs.Valid.{IsValid}
-use Rattle.certificates.specs.Points.{variables_of}
-use Rattle.dual_model.specs.DualOf.{numbered_groups, terms_from}
-use Rattle.dual_model.specs.NumberLaws.{terms_rise}
+use Rattle.user_model.specs.Edited.{edited, on_affine, row_number}
+use Rattle.user_model.specs.Model.{ModelValue, address_named, row_named, variable_address}
+use Rattle.user_model.specs.Functions.{is_scalar_affine}
+use Rattle.user_model.specs.Refusals.{has_variable_named}
 use Rattle.dual_model.specs.PlaceLaws.{addresses_from, joined_alike, length-addresses_from}
-use Rattle.model_load.specs.Loads.{after_edits}
-use Rattle.relaxed_model.specs.NameLaws.{IsFree, names_apart, names_distinct, names_free}
-use Rattle.relaxed_model.specs.PlacedLaws.{length-free_names}
-use Rattle.relaxed_model.specs.Relaxed.{free_names, is_soft, relaxed_model, relaxed_row, relaxed_rows, row_signs, signs_on, slack_count, slack_group, slack_names, sum_from, with_slacks}
+use Rattle.relaxed_model.specs.Relaxed.{is_soft, relaxed_row, relaxed_rows, row_signs, signs_on, slack_count, with_slacks}
 use Rattle.relaxed_model.specs.RowLaws.{with_func}
 use Rattle.relaxed_model.specs.SoftOrHard.{SoftOrHard, of_hard, of_soft, soft_or_hard}
-use Rattle.relaxation.specs.RelaxedEdits.{edit_of_slack, edit_of_sum, edits_in, edits_of_rows, relaxed_edits, slack_term}
-
--- ---- edits one after another
-
--- what edits make of a model, none of them refused
-abbrev pub made : ModelValue → List Edit → ModelValue
-made model [] = model
-made model (e ∷ es) = made (edited model e) es
-
-pub made_both : (es fs : List Edit) (model : ModelValue)
-    → made model (es ++ fs) ≡ made (made model es) fs
-made_both [] fs model = refl
-made_both (e ∷ es) fs model = made_both es fs (edited model e)
-
-pub made_after : (es : List Edit) (model m : ModelValue) → after_edits model es ≡ Ok m
-    → m ≡ made model es
-unfolding after_edits
-made_after [] model m e = cc
-made_after (edit ∷ es) model m e =
-    by (first_refusal model edit) e (made_after es (edited model edit) m)
-  where
-    by : (o : Option Refusal)
-        → option_map_or Err o (after_edits (edited model edit) es) ≡ Ok m
-        → (after_edits (edited model edit) es ≡ Ok m → m ≡ made (edited model edit) es)
-        → m ≡ made (edited model edit) es
-    by None e rest = rest e
-    by (Some refusal) e rest = cc
+use Rattle.relaxation.specs.RelaxedEdits.{edits_in, edits_of_rows}
 
 -- ---- one row
-
-pub other_bytes : (a b : List ℕ) → a ≢ b → bytes_eq a b ≡ false
-other_bytes a b other = by (bytes_eq a b) refl
-  where
-    by : (t : Bool) → bytes_eq a b ≡ t → t ≡ false
-    by true e = absurd (other ((bytes_eq-Decides a b).0 e))
-    by false e = refl
 
 abbrev pub with_rows : ModelValue → List Row → ModelValue
 with_rows model rows = record model { rows = rows }
@@ -105,7 +53,7 @@ row_found [] r after other =
     ((bytes_eq-Decides r.name r.name).1 refl)
 row_found (s ∷ before) r after other =
     ap (λ b. cond b (Some s) (find (λ (s : Row). bytes_eq s.name r.name) (before ++ r ∷ after)))
-    (other_bytes s.name r.name (All-head (λ (s : Row). s.name ≢ r.name) s before other))
+    (other_name s.name r.name (All-head (λ (s : Row). s.name ≢ r.name) s before other))
     ∙ row_found before r after (All-tail (λ (s : Row). s.name ≢ r.name) s before other)
 
 -- another row of its number takes its place
@@ -155,6 +103,42 @@ one_changed model before r after between name q =
     (on_func (on_affine (λ f. with_coefficient f (address_named model name) q)) r) after between
     refl)
 
+-- a coefficient of a variable that is there, in a soft row
+one_passes : (model : ModelValue) (before : List Row) (r : Row) (after : List Row)
+    → IsBetween before r after → is_soft r ≡ true → (name : List ℕ) (q : Rational)
+    → has_variable_named model name ≡ true
+    → PassesTests (with_rows model (before ++ r ∷ after)) (Coef r.name name q)
+one_passes model before r after between soft name q known =
+    let found : row_named (with_rows model (before ++ r ∷ after)) r.name ≡ Some r =
+    row_found before r after between.other in
+    let is_unknown : List ℕ → Bool = λ other. not (has_variable_named model other) in record {
+      known = or_from _ _
+          (none_passes is_unknown (name ∷ [])
+          (All-cons (λ other. is_unknown other ≡ false) name [] (ap not known)
+          (All-nil (λ other. is_unknown other ≡ false))))
+          (ap (λ (o : Option Row). not (is_some o)) found);
+      free = refl;
+      shaped = ap (λ (o : Option Row). option_map_or (λ s. not (is_scalar_affine s.func)) o false) found
+          ∙ ap not soft;
+      dimension = refl;
+      output = refl;
+      interval = refl;
+      lower = refl;
+      upper = refl;
+      of_type = refl;
+      deletable = refl;
+    }
+
+-- a soft row stays one
+soft_stays : (h : Function → Function) (func : UserFunc) → is_scalar_affine func ≡ true
+    → is_scalar_affine (on_affine h func) ≡ true
+soft_stays h func = by (soft_or_hard func)
+  where
+    by : {func : UserFunc} → SoftOrHard func → is_scalar_affine func ≡ true
+        → is_scalar_affine (on_affine h func) ≡ true
+    by (of_soft f) e = refl
+    by (of_hard no same) e = absurd (true≢false (sym e ∙ no))
+
 slacks_twice : (n : ℕ) (q : Rational) (qs : List Rational) (func : UserFunc)
     → on_affine (with_slacks (suc n) qs) (on_affine
     (λ f. with_coefficient f (variable_address n) q) func)
@@ -179,35 +163,52 @@ no_slacks n func = by (soft_or_hard func)
     by (of_soft f) = refl
     by (of_hard no same) = sym (same (with_slacks n []))
 
+abbrev pub AreKnown : ModelValue → List (List ℕ) → Type 0
+AreKnown model names = All (λ name. has_variable_named model name ≡ true) names
+
 -- the edits of one row's slacks, which are found at the numbers from n on
-row_made : (model : ModelValue) (before : List Row) (r : Row) (after : List Row)
+row_leads : (model : ModelValue) (before : List Row) (r : Row) (after : List Row)
     → IsBetween before r after → (n : ℕ) (names : List (List ℕ)) (qs : List Rational)
-    → length names ≡ length qs → map (address_named model) names ≡ addresses_from n (length names)
-    → made (with_rows model (before ++ r ∷ after)) (edits_in r.name names qs)
-    ≡ with_rows model (before ++ on_func (on_affine (with_slacks n qs)) r ∷ after)
-row_made model before r after between n [] [] size located =
-    ap (λ (func : UserFunc). with_rows model (before ++ record r { func = func } ∷ after))
-    (no_slacks n r.func)
-row_made model before r after between n [] (q ∷ qs) size located = absurd (omega (arith, size))
-row_made model before r after between n (name ∷ names) [] size located =
+    → length names ≡ length qs → (1 ≤ length qs → is_soft r ≡ true) → AreKnown model names
+    → map (address_named model) names ≡ addresses_from n (length names)
+    → Leads (with_rows model (before ++ r ∷ after)) (edits_in r.name names qs)
+    (with_rows model (before ++ on_func (on_affine (with_slacks n qs)) r ∷ after))
+row_leads model before r after between n [] [] size soft known located = record {
+  passes = tt;
+  is = ap (λ (func : UserFunc). with_rows model (before ++ record r { func = func } ∷ after))
+      (no_slacks n r.func);
+}
+row_leads model before r after between n [] (q ∷ qs) size soft known located =
     absurd (omega (arith, size))
-row_made model before r after between n (name ∷ names) (q ∷ qs) size located =
+row_leads model before r after between n (name ∷ names) [] size soft known located =
+    absurd (omega (arith, size))
+row_leads model before r after between n (name ∷ names) (q ∷ qs) size soft known located =
     let at : address_named model name ≡ variable_address n =
     cons_head (address_named model name) (variable_address n) (map (address_named model) names)
     (addresses_from (suc n) (length names)) located in
     let next : Row =
     on_func (on_affine (λ f. with_coefficient f (variable_address n) q)) r in
-    ap (λ m. made m (edits_in r.name names qs))
+    let is_soft_row : is_soft r ≡ true = soft (omega arith) in
+    let others : Leads (with_rows model (before ++ next ∷ after)) (edits_in r.name names qs)
+        (with_rows model (before ++ on_func (on_affine (with_slacks (suc n) qs)) next ∷ after)) =
+    row_leads model before next after
+    (record { low = between.low; high = between.high; other = between.other }) (suc n) names qs
+    (omega (arith, size))
+    (λ some. soft_stays (λ f. with_coefficient f (variable_address n) q) r.func is_soft_row)
+    (All-tail (λ name. has_variable_named model name ≡ true) name names known)
+    (cons_tail (address_named model name) (variable_address n) (map (address_named model) names)
+    (addresses_from (suc n) (length names)) located) in
+    leads_first (Coef r.name name q) (edits_in r.name names qs)
+    (with_rows model (before ++ r ∷ after)) (with_rows model (before ++ next ∷ after))
+    (with_rows model (before ++ on_func (on_affine (with_slacks n (q ∷ qs))) r ∷ after))
+    (one_passes model before r after between is_soft_row name q
+    (All-head (λ name. has_variable_named model name ≡ true) name names known))
     (one_changed model before r after between name q
     ∙ ap (λ (a : Address). with_rows model (before ++ on_func
     (on_affine (λ f. with_coefficient f a q)) r ∷ after)) at)
-    ∙ row_made model before next after
-    (record { low = between.low; high = between.high; other = between.other }) (suc n) names qs
-    (omega (arith, size))
-    (cons_tail (address_named model name) (variable_address n) (map (address_named model) names)
-    (addresses_from (suc n) (length names)) located)
-    ∙ ap (λ (func : UserFunc). with_rows model (before ++ record r { func = func } ∷ after))
-    (slacks_twice n q qs r.func)
+    (subst (λ (func : UserFunc). Leads (with_rows model (before ++ next ∷ after))
+    (edits_in r.name names qs) (with_rows model (before ++ record r { func = func } ∷ after)))
+    (slacks_twice n q qs r.func) others)
 
 -- a row with the slacks of its own is the row relaxed
 row_relaxed : (n : ℕ) (r : Row) → on_func (on_affine (with_slacks n (row_signs r))) r
@@ -221,6 +222,14 @@ row_relaxed n r = by (soft_or_hard r.func)
     by (of_hard {func} no same) = ap (with_func r)
         (same (with_slacks n (row_signs (with_func r func)))
         ∙ sym (same (with_slacks n (signs_on r.set))))
+
+-- a row that has slacks is soft
+has_slacks : (r : Row) → 1 ≤ length (row_signs r) → is_soft r ≡ true
+has_slacks r some = by (is_soft r) some
+  where
+    by : (b : Bool) → 1 ≤ length (cond b (signs_on r.set) []) → b ≡ true
+    by true some = refl
+    by false some = absurd (omega (arith, some))
 
 -- ---- all rows
 
@@ -283,13 +292,13 @@ addresses_parts n (suc j) k =
     ∙ ap (λ m. addresses_from (suc n) j ++ addresses_from m k) on)
 
 -- all rows are relaxed, whose slacks are found at the numbers from n on
-pub rows_made : (model : ModelValue) (rows before : List Row) (n : ℕ) (names : List (List ℕ))
-    → AreBehind before rows → length names ≡ slack_count rows
+pub rows_lead : (model : ModelValue) (rows before : List Row) (n : ℕ) (names : List (List ℕ))
+    → AreBehind before rows → length names ≡ slack_count rows → AreKnown model names
     → map (address_named model) names ≡ addresses_from n (length names)
-    → made (with_rows model (before ++ rows)) (edits_of_rows rows names)
-    ≡ with_rows model (before ++ relaxed_rows n rows)
-rows_made model [] before n names behind size located = refl
-rows_made model (r ∷ rows) before n names behind size located =
+    → Leads (with_rows model (before ++ rows)) (edits_of_rows rows names)
+    (with_rows model (before ++ relaxed_rows n rows))
+rows_lead model [] before n names behind size known located = leads_none (with_rows model (before ++ []))
+rows_lead model (r ∷ rows) before n names behind size known located =
     let own : ℕ = length (row_signs r) in
     let mine : List (List ℕ) = take own names in
     let others : List (List ℕ) = drop own names in
@@ -297,6 +306,7 @@ rows_made model (r ∷ rows) before n names behind size located =
     let mine_size : length mine ≡ own = length-take-le own names (omega (arith, size)) in
     let others_size : length others ≡ slack_count rows =
     omega (arith, size, mine_size, ap length whole, length-append mine others) in
+    let all_known : AreKnown model (mine ++ others) = subst (AreKnown model) (sym whole) known in
     let both = joined_alike (map (address_named model) mine) (map (address_named model) others)
     (addresses_from n own) (addresses_from (n + own) (slack_count rows))
     (length-map mine (address_named model) ∙ mine_size ∙ sym (length-addresses_from n own))
@@ -304,14 +314,19 @@ rows_made model (r ∷ rows) before n names behind size located =
     ∙ ap (map (address_named model)) whole ∙ located ∙ ap (addresses_from n) size
     ∙ addresses_parts n own (slack_count rows)) in
     let first : Row = relaxed_row n r in
-    made_both (edits_in r.name mine (row_signs r)) (edits_of_rows rows others)
-    (with_rows model (before ++ r ∷ rows))
-    ∙ ap (λ m. made m (edits_of_rows rows others))
-    (row_made model before r rows (between_of before r rows behind) n mine (row_signs r) mine_size
-    (both.0 ∙ ap (addresses_from n) (sym mine_size))
-    ∙ ap (λ (q : Row). with_rows model (before ++ q ∷ rows)) (row_relaxed n r)
+    let from : ModelValue = with_rows model (before ++ r ∷ rows) in
+    let middle : ModelValue = with_rows model ((before ++ first ∷ []) ++ rows) in
+    leads_both (edits_in r.name mine (row_signs r)) (edits_of_rows rows others) from middle
+    (with_rows model (before ++ first ∷ relaxed_rows (n + own) rows))
+    (subst (Leads from (edits_in r.name mine (row_signs r)))
+    (ap (λ (q : Row). with_rows model (before ++ q ∷ rows)) (row_relaxed n r)
     ∙ ap (with_rows model) (sym (append_assoc before (first ∷ []) rows)))
-    ∙ rows_made model rows (before ++ first ∷ []) (n + own) others
+    (row_leads model before r rows (between_of before r rows behind) n mine (row_signs r) mine_size
+    (has_slacks r) (all_first (λ name. has_variable_named model name ≡ true) mine others all_known)
+    (both.0 ∙ ap (addresses_from n) (sym mine_size))))
+    (subst (Leads middle (edits_of_rows rows others))
+    (ap (with_rows model) (append_assoc before (first ∷ []) (relaxed_rows (n + own) rows)))
+    (rows_lead model rows (before ++ first ∷ []) (n + own) others
     (one_behind before r first rows behind refl refl) others_size
-    (both.1 ∙ ap (addresses_from (n + own)) (sym others_size))
-    ∙ ap (with_rows model) (append_assoc before (first ∷ []) (relaxed_rows (n + own) rows))
+    (all_second (λ name. has_variable_named model name ≡ true) mine others all_known)
+    (both.1 ∙ ap (addresses_from (n + own)) (sym others_size))))

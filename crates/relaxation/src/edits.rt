@@ -2,6 +2,7 @@
 ghost use Rattle.std.specs.Prelude.{◌≡◌, ◌∷◌, ◌++◌, ◌≤◌, [], Ok, IfOk, OnOk, length, map};
 ghost use Rattle.std.specs.List.{IsDistinct};
 ghost use Rattle.std.specs.Str.{bytes_eq};
+ghost use Rattle.limit_laws.specs.Limits.{LimitsAlone};
 ghost use Rattle.model_load.specs.Loads.{after_edits};
 ghost use Rattle.named_aff.specs.Distinct.{HasDistinctNames};
 ghost use Rattle.user_model.specs.Model.{ModelValue};
@@ -25,11 +26,12 @@ pub type Edits = Sequence<Edit>;
 
 /// The edits that lead from a model to its relaxation: a variable of at least 0 for each side on which
 /// a scalar affine row may be missed, its coefficients, and the least sum of these variables as the
-/// objective.
+/// objective. None of them is refused for anything but a limit of models.
 pub fn relaxed(alloc: Global, model: &UserModel) -> Result<Edits, Memory>
     ensures edits { IfOk result (λ edits. edits ≡ relaxed_edits model.now.model) }
     ensures leads { IfOk result (λ edits. (m : ModelValue)
         → after_edits model.now.model edits ≡ Ok m → m ≡ relaxed_model model.now.model) }
+    ensures limits { IfOk result (LimitsAlone model.now.model) }
 {
     let rows = model.rows();
     let names = free_names(alloc, model, slack_count(rows))?;
