@@ -190,7 +190,7 @@ row_leads model before r after between n (name ∷ names) (q ∷ qs) size soft k
     on_func (on_affine (λ f. with_coefficient f (variable_address n) q)) r in
     let is_soft_row : is_soft r ≡ true = soft (omega arith) in
     let others : Leads (with_rows model (before ++ next ∷ after)) (edits_in r.name names qs)
-        (with_rows model (before ++ on_func (on_affine (with_slacks (suc n) qs)) next ∷ after)) =
+    (with_rows model (before ++ on_func (on_affine (with_slacks (suc n) qs)) next ∷ after)) =
     row_leads model before next after
     (record { low = between.low; high = between.high; other = between.other }) (suc n) names qs
     (omega (arith, size))
