@@ -22,7 +22,7 @@ use std::alloc::Global;
 /// nothing.
 ///
 /// A model that can't be loaded is refused as `load` refuses it. Where neither is found, one line
-/// tells why: 15 a board too large, 16 and 17 no bridging, 17 a number that exceeds 128 bits, 18 too
+/// says why: 15 a board too large, 16 and 17 no bridging, 17 a number that exceeds 128 bits, 18 too
 /// many pivots.
 pub fn run<H: Shelf, O: Sink, B: Bridge>(
     alloc: Global,

@@ -1,4 +1,4 @@
-//! The conflict of a model, found and told.
+//! The conflict of a model, found and reported.
 ghost use Rattle.std.specs.Prelude.{◌≡◌, ◌≤◌, ◌+◌, IfOk, OnOk, false, length};
 ghost use Rattle.cache_layer.specs.Cached.{model_in, state_of};
 ghost use Rattle.conflict_command.specs.Says.{Says, SaysSought, bare};

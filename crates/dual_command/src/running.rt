@@ -23,7 +23,7 @@ use std::alloc::Global;
 /// the bridges, and they keep nothing.
 ///
 /// A model that can't be loaded is refused as `load` refuses it. Where the dual has none of these
-/// answers, one line tells why: 12 a limit, 15 a board too large, 16 and 17 no bridging, 17 a number
+/// answers, one line says why: 12 a limit, 15 a board too large, 16 and 17 no bridging, 17 a number
 /// that exceeds 128 bits, 18 too many pivots.
 pub fn run<H: Shelf, O: Sink, B: Bridge>(
     alloc: Global,

@@ -48,7 +48,7 @@ pub(crate) fn solved<B: Bridge>(
     attached(alloc, model, &mut cache)
 }
 
-// The same, where the cache is lent, so that it is freed once.
+// What is answered by a cache of the dual, which is lent so that it is freed once.
 fn attached<B: Bridge>(
     alloc: Global,
     model: &UserModel,

@@ -21,7 +21,7 @@ use std::alloc::Global;
 /// rows. No family occurs twice among the bridges, and they keep nothing.
 ///
 /// A model that can't be loaded is refused as `load` refuses it. Where the relaxation has no answer,
-/// one line tells why: 12 a limit, 15 a board too large, 16 and 17 no bridging, 17 a number that
+/// one line says why: 12 a limit, 15 a board too large, 16 and 17 no bridging, 17 a number that
 /// exceeds 128 bits, 18 too many pivots.
 pub fn run<H: Shelf, O: Sink, B: Bridge>(
     alloc: Global,
