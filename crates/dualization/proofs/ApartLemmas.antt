@@ -17,7 +17,8 @@ use Rattle.set_core.specs.declared.set.Set.{Set}
 use Rattle.set_core.specs.declared.set.Set.TheVariants.{Interval}
 use Rattle.user_model.specs.declared.group.Group.{Group}
 use Rattle.user_model.specs.declared.row.Row.{Row}
-use Rattle.dual_model.specs.DualOf.{NewGroup, each_placed, group_groups, groups_for, own_groups, part_name, part_names, row_groups, row_size}
+use Rattle.group_numbering.specs.NewGroups.{NewGroup}
+use Rattle.dual_model.specs.DualOf.{each_placed, group_groups, groups_for, own_groups, part_name, part_names, row_groups, row_size}
 
 -- ---- a name tells its parts
 

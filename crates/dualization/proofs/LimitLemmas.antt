@@ -36,7 +36,8 @@ use Rattle.user_model.specs.declared.objective.Objective.TheVariants as objectiv
 use Rattle.user_model.specs.declared.row.Row.{Row}
 use Rattle.certificates.specs.Points.{addresses_of, objective_value, sense_of, variables_of}
 use Rattle.dual_parts.specs.Parts.{own_bounds}
-use Rattle.dual_model.specs.DualOf.{bound_numbers, costs, dual_objective_of, dual_rows, function_in, group_rows, left_for, left_less_two, new_groups, numbered_groups, opposite, row_for, row_variables, scalar_function, signed, terms_from, variable_count}
+use Rattle.group_numbering.specs.NewGroups.{numbered_groups, terms_from, variable_count}
+use Rattle.dual_model.specs.DualOf.{bound_numbers, costs, dual_objective_of, dual_rows, function_in, group_rows, left_for, left_less_two, new_groups, opposite, row_for, row_variables, scalar_function, signed}
 use Rattle.dual_model.specs.GroupRowLaws.{HasGroupSetOf, own_total}
 use Rattle.limit_laws.specs.Leads.{AllPass, PassesTests, all_edited}
 use Rattle.limit_laws.specs.LeadsLaws.{limits_alone, pass_both}

@@ -33,9 +33,10 @@ use Rattle.user_model.specs.Edited.{affine, edited, located, numbered_from}
 use Rattle.user_model.specs.Model.{ModelValue, address_named, empty_model, variable_address}
 use Rattle.certificates.specs.Points.{addresses_of, objective_value, sense_of, variables_of}
 use Rattle.dual_parts.specs.Parts.{own_bounds}
-use Rattle.dual_model.specs.DualOf.{NewGroup, bound_numbers, column_in, cost_of, costs, dual_objective_of, dual_of_model, dual_rows, function_in, group_rows, left_for, left_less_two, new_groups, numbered_groups, opposite, row_for, row_variables, scalar_function, signed, terms_from, variable_count}
+use Rattle.group_numbering.specs.NewGroups.{NewGroup, numbered_groups, terms_from, variable_count}
+use Rattle.group_numbering.specs.NumberLaws.{terms_rise as from_rises}
+use Rattle.dual_model.specs.DualOf.{bound_numbers, column_in, cost_of, costs, dual_objective_of, dual_of_model, dual_rows, function_in, group_rows, left_for, left_less_two, new_groups, opposite, row_for, row_variables, scalar_function, signed}
 use Rattle.dual_model.specs.GroupRowLaws.{own_total}
-use Rattle.dual_model.specs.NumberLaws.{terms_rise as from_rises}
 use Rattle.limit_laws.specs.Leads.{all_edited}
 use Rattle.limit_laws.specs.LeadsLaws.{both_edited}
 use Rattle.dualization.specs.Rows.{ColumnsFit}

@@ -21,7 +21,8 @@ use Rattle.user_model.specs.declared.row.Row.{Row}
 use Rattle.user_model.specs.Edited.{edited, numbered_from}
 use Rattle.user_model.specs.Model.{ModelValue}
 use Rattle.certificates.specs.Points.{variables_of}
-use Rattle.dual_model.specs.DualOf.{NewGroup, each_placed, part_name, two_groups, group_groups, groups_for, new_groups, own_groups, part_names, row_groups}
+use Rattle.group_numbering.specs.NewGroups.{NewGroup}
+use Rattle.dual_model.specs.DualOf.{each_placed, part_name, two_groups, group_groups, groups_for, new_groups, own_groups, part_names, row_groups}
 use Rattle.dual_model.specs.RowPartLaws.{HasSetOf, length-part_names}
 use Rattle.limit_laws.specs.Leads.{AllPass}
 use Rattle.limit_laws.specs.NewNames.{IsNewIn, group_passes, named_first, other_name}

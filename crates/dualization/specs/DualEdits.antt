@@ -17,7 +17,8 @@ use Rattle.user_model.specs.declared.objective.Objective.{Objective}
 use Rattle.user_model.specs.declared.objective.Objective.TheVariants as objective
 use Rattle.user_model.specs.declared.row.Row.{Row}
 use Rattle.user_model.specs.Model.{ModelValue}
-use Rattle.dual_model.specs.DualOf.{NewGroup, dual_objective_of, dual_rows, new_groups}
+use Rattle.group_numbering.specs.NewGroups.{NewGroup}
+use Rattle.dual_model.specs.DualOf.{dual_objective_of, dual_rows, new_groups}
 
 -- the names of the dual's variables, in the order of their numbers
 abbrev pub dual_names : ModelValue → List (List ℕ)

@@ -37,9 +37,9 @@ use Rattle.user_model.specs.Model.{ModelValue, address_named, variable_address, 
 use Rattle.user_model.specs.Refusals.{has_variable_named}
 use Rattle.user_model.specs.Valid.{IsValid}
 use Rattle.certificates.specs.Points.{variables_of}
-use Rattle.dual_model.specs.DualOf.{numbered_groups, terms_from}
-use Rattle.dual_model.specs.NumberLaws.{terms_rise}
-use Rattle.dual_model.specs.PlaceLaws.{addresses_from}
+use Rattle.group_numbering.specs.NewGroups.{numbered_groups, terms_from}
+use Rattle.group_numbering.specs.NumberLaws.{terms_rise}
+use Rattle.group_numbering.specs.PlaceLaws.{addresses_from}
 use Rattle.model_load.specs.Loads.{after_edits}
 use Rattle.relaxed_model.specs.NameLaws.{IsFree, names_apart, names_distinct, names_free}
 use Rattle.relaxed_model.specs.PlacedLaws.{length-free_names}

@@ -25,7 +25,7 @@ use Rattle.user_model.specs.Edited.{edited, on_affine, row_number}
 use Rattle.user_model.specs.Model.{ModelValue, address_named, row_named, variable_address}
 use Rattle.user_model.specs.Functions.{is_scalar_affine}
 use Rattle.user_model.specs.Refusals.{has_variable_named}
-use Rattle.dual_model.specs.PlaceLaws.{addresses_from, joined_alike, length-addresses_from}
+use Rattle.group_numbering.specs.PlaceLaws.{addresses_from, addresses_on, joined_alike, length-addresses_from}
 use Rattle.relaxed_model.specs.Relaxed.{is_soft, relaxed_row, relaxed_rows, row_signs, signs_on, slack_count, with_slacks}
 use Rattle.relaxed_model.specs.RowLaws.{with_func}
 use Rattle.relaxed_model.specs.SoftOrHard.{SoftOrHard, of_hard, of_soft, soft_or_hard}
@@ -278,19 +278,6 @@ one_behind before r q rows behind same_id same_name = record {
       ));
 }
 
-addresses_parts : (n j k : ℕ)
-    → addresses_from n (j + k) ≡ addresses_from n j ++ addresses_from (n + j) k
-addresses_parts n zero k =
-    let none : 0 + k ≡ k = omega arith in
-    let stay : n ≡ n + 0 = omega arith in
-    ap (addresses_from n) none ∙ ap (λ m. addresses_from m k) stay
-addresses_parts n (suc j) k =
-    let more : suc j + k ≡ suc (j + k) = omega arith in
-    let on : suc n + j ≡ n + suc j = omega arith in
-    ap (addresses_from n) more
-    ∙ ap (λ qs. variable_address n ∷ qs) (addresses_parts (suc n) j k
-    ∙ ap (λ m. addresses_from (suc n) j ++ addresses_from m k) on)
-
 -- all rows are relaxed, whose slacks are found at the numbers from n on
 pub rows_lead : (model : ModelValue) (rows before : List Row) (n : ℕ) (names : List (List ℕ))
     → AreBehind before rows → length names ≡ slack_count rows → AreKnown model names
@@ -312,7 +299,7 @@ rows_lead model (r ∷ rows) before n names behind size known located =
     (length-map mine (address_named model) ∙ mine_size ∙ sym (length-addresses_from n own))
     (sym (map-append (address_named model) mine others)
     ∙ ap (map (address_named model)) whole ∙ located ∙ ap (addresses_from n) size
-    ∙ addresses_parts n own (slack_count rows)) in
+    ∙ addresses_on n own (slack_count rows)) in
     let first : Row = relaxed_row n r in
     let from : ModelValue = with_rows model (before ++ r ∷ rows) in
     let middle : ModelValue = with_rows model ((before ++ first ∷ []) ++ rows) in

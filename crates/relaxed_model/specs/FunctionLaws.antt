@@ -18,8 +18,8 @@ use Rattle.linear_laws.specs.EvaluationLaws.{evaluated_sum, evaluated_value}
 use Rattle.linear_laws.specs.SlopeLaws.{slope_agreeing}
 use Rattle.linear_laws.specs.UnitLaws.{zero_or_other}
 use Rattle.user_model.specs.Model.{variable_address}
-use Rattle.dual_model.specs.DualOf.{terms_from}
-use Rattle.dual_model.specs.NumberLaws.{numbers_from, terms_rise, value_from}
+use Rattle.group_numbering.specs.NewGroups.{terms_from}
+use Rattle.group_numbering.specs.NumberLaws.{numbers_from, terms_rise, value_from}
 use Rattle.relaxed_model.specs.Relaxed.{with_slacks}
 
 abbrev pub IsBelow : ℕ → Function → Type 0

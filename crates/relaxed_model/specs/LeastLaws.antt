@@ -27,10 +27,9 @@ use Rattle.certificates.specs.Points.{at_point, functions_of_group, objective_sl
 use Rattle.certificates.specs.Feasible.{IsFeasible}
 use Rattle.certificates.specs.Good.{IsOptimal, IsUnbounded}
 use Rattle.certificates.specs.GoodLaws.{none_is_better}
-use Rattle.dual_model.specs.DualOf.{numbered_groups, terms_from}
-use Rattle.dual_model.specs.NumberLaws.{numbers_from, value_from}
-use Rattle.dual_model.specs.PlaceLaws.{GroupIn, groups_from_hold, hold_from_groups}
-use Rattle.dual_model.specs.RowPartLaws.{HoldFrom}
+use Rattle.group_numbering.specs.HoldLaws.{GroupIn, HoldFrom, groups_from_hold, hold_from_groups}
+use Rattle.group_numbering.specs.NewGroups.{numbered_groups, terms_from}
+use Rattle.group_numbering.specs.NumberLaws.{numbers_from, value_from}
 use Rattle.relaxed_model.specs.FunctionLaws.{values_below}
 use Rattle.relaxed_model.specs.OwnLaws.{IsOwnGroup, own_groups, own_rows}
 use Rattle.relaxed_model.specs.PlacedLaws.{first_part, last_part, length-first_part, length-free_names, length-last_part, length-relaxed, own_numbers, parts_join, slack_numbers}

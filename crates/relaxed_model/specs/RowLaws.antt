@@ -22,8 +22,8 @@ use Rattle.user_model.specs.declared.function.UserFunc.{UserFunc}
 use Rattle.user_model.specs.declared.function.UserFunc.TheVariants.{Affine}
 use Rattle.user_model.specs.declared.row.Row.{Row}
 use Rattle.certificates.specs.Points.{functions_of}
-use Rattle.dual_model.specs.NumberLaws.{length-numbers_from, numbers_from, numbers_from-append}
-use Rattle.dual_model.specs.PlaceLaws.{joined_alike}
+use Rattle.group_numbering.specs.NumberLaws.{length-numbers_from, numbers_from, numbers_from-append}
+use Rattle.group_numbering.specs.PlaceLaws.{joined_alike}
 use Rattle.relaxed_model.specs.FunctionLaws.{IsBelow, below_from, value_below, value_with_slacks, values_below}
 use Rattle.relaxed_model.specs.Relaxed.{hard_rows, is_soft, missed_by, relaxed_row, relaxed_rows, row_over, row_signs, row_value, signs_on, slack_count, slack_overs, soft_rows, with_slacks}
 use Rattle.relaxed_model.specs.SoftOrHard.{SoftOrHard, of_hard, of_soft, soft_or_hard}

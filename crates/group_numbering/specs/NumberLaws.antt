@@ -1,5 +1,5 @@
--- Functions of the dual's variables at a point: a function of coefficients in the variables' order
--- is the product of the coefficients with the numbers that stand there.
+-- Functions of such variables at a point: a function of coefficients in the variables' order is the
+-- product of the coefficients with the numbers that are there.
 use Rattle.std.specs.Prelude.{◌≡◌, ℕ, zero, suc, ◌+◌, ◌<◌, ◌≤◌, Bool, true, false, ◌&&◌, cond, filter, List, [], ◌∷◌, ◌++◌, length, not, refl}
 use Rattle.std.specs.FinMap.{is_sorted}
 use Rattle.std.specs.FinMap.Entries.{below_all}
@@ -17,7 +17,7 @@ use Rattle.aff_core.specs.FunctionLaws.{constant-function_of, terms-function_of}
 use Rattle.aff_core.specs.Rising.{RiseStrictly}
 use Rattle.aff_core.specs.Terms.{is_nonzero, linear}
 use Rattle.user_model.specs.Model.{variable_address}
-use Rattle.dual_model.specs.DualOf.{terms_from}
+use Rattle.group_numbering.specs.NewGroups.{terms_from}
 
 -- the numbers at the variables from the n-th on
 abbrev pub numbers_from : (Address → Rational) → ℕ → ℕ → List Rational
