@@ -118,7 +118,7 @@ one_passes model before r after between soft name q known =
           (All-nil (λ other. is_unknown other ≡ false))))
           (ap (λ (o : Option Row). not (is_some o)) found);
       free = refl;
-      shaped = ap (λ (o : Option Row). option_map_or (λ s. not (is_scalar_affine s.func)) o false) found
+      shaped = ap (λ (o : Option Row). option_map_or (λ (s : Row). not (is_scalar_affine s.func)) o false) found
           ∙ ap not soft;
       dimension = refl;
       output = refl;
