@@ -173,7 +173,7 @@ fn reduced_costs(
     Ok(left)
 }
 
-// Finds the first variable for which what is left doesn't fit.
+// Finds the first variable for which what is left exceeds 128 bits.
 fn test_groups(alloc: Global, model: &UserModel, duals: &[Ratios]) -> Result<(), DualFault>
     requires { HasRowDuals model.now.model.rows duals.now }
     ensures { let model = model.now.model in
