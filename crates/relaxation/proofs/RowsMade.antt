@@ -137,7 +137,7 @@ soft_stays h func = by (soft_or_hard func)
     by : {func : UserFunc} → SoftOrHard func → is_scalar_affine func ≡ true
         → is_scalar_affine (on_affine h func) ≡ true
     by (of_soft f) e = refl
-    by (of_hard no same) e = absurd (true≢false (sym e ∙ no))
+    by (of_hard isnt same) e = absurd (true≢false (sym e ∙ isnt))
 
 slacks_twice : (n : ℕ) (q : Rational) (qs : List Rational) (func : UserFunc)
     → on_affine (with_slacks (suc n) qs) (on_affine
@@ -150,7 +150,7 @@ slacks_twice n q qs func = by (soft_or_hard func)
         (λ f. with_coefficient f (variable_address n) q) func)
         ≡ on_affine (with_slacks n (q ∷ qs)) func
     by (of_soft f) = refl
-    by (of_hard no same) =
+    by (of_hard isnt same) =
         ap (on_affine (with_slacks (suc n) qs))
         (same (λ f. with_coefficient f (variable_address n) q))
         ∙ same (with_slacks (suc n) qs)
@@ -161,7 +161,7 @@ no_slacks n func = by (soft_or_hard func)
   where
     by : {func : UserFunc} → SoftOrHard func → func ≡ on_affine (with_slacks n []) func
     by (of_soft f) = refl
-    by (of_hard no same) = sym (same (with_slacks n []))
+    by (of_hard isnt same) = sym (same (with_slacks n []))
 
 abbrev pub AreKnown : ModelValue → List (List ℕ) → Type 0
 AreKnown model names = All (λ name. has_variable_named model name ≡ true) names
@@ -219,7 +219,7 @@ row_relaxed n r = by (soft_or_hard r.func)
         → on_func (on_affine (with_slacks n (row_signs (with_func r func)))) (with_func r func)
         ≡ relaxed_row n (with_func r func)
     by (of_soft f) = refl
-    by (of_hard {func} no same) = ap (with_func r)
+    by (of_hard {func} isnt same) = ap (with_func r)
         (same (with_slacks n (row_signs (with_func r func)))
         ∙ sym (same (with_slacks n (signs_on r.set))))
 

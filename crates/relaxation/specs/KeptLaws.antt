@@ -14,4 +14,4 @@ soft_kept n r = by (soft_or_hard r.func)
     by : {func : UserFunc} → SoftOrHard func
         → is_soft (relaxed_row n (with_func r func)) ≡ is_soft (with_func r func)
     by (of_soft f) = refl
-    by (of_hard no same) = ap is_scalar_affine (same (with_slacks n (signs_on r.set)))
+    by (of_hard isnt same) = ap is_scalar_affine (same (with_slacks n (signs_on r.set)))

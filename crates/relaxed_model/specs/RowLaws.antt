@@ -229,9 +229,9 @@ module _ (first : ℕ) (x y : Address → Rational)
           (sym (soft_value n h (signs_on r.set) f (All-head (IsBelow first) f [] own.below)
           ∙ ap (slackened r.set (value_of f y)) slacks))
           (slacks_meet r.set (value_of f y) own.uncrossed (own.scalar refl))
-      by (of_hard {func} no same) own slacks hard =
+      by (of_hard {func} isnt same) own slacks hard =
           subst (λ (g : UserFunc). In r.set (values (functions_of g) x))
-          (sym (same (with_slacks n (signs_on r.set)))) (kept func own.below (hard no))
+          (sym (same (with_slacks n (signs_on r.set)))) (kept func own.below (hard isnt))
 
   pub rows_relaxed : (n : ℕ) → first ≤ n → (rows : List Row) → All (IsOwnRow first) rows
       → numbers_from x n (slack_count rows) ≡ row_slacks y rows → All (RowIn y) (hard_rows rows)
@@ -278,14 +278,14 @@ module _ (first : ℕ) (x y : Address → Rational)
             least = enough.least;
             exact = λ _. enough.exact;
           }
-      by (of_hard {func} no same) own nonneg inside = record {
+      by (of_hard {func} isnt same) own nonneg inside = record {
         hard = λ _. kept func own.below
             (subst (λ (g : UserFunc). In r.set (values (functions_of g) x))
             (same (with_slacks n (signs_on r.set))) inside);
         least = subst (λ b. cond b (row_over y (with_func r func)) zero_ℚ
-            ≤ℚ sum_ℚ (numbers_from x n (length (cond b (signs_on r.set) [])))) (sym no)
+            ≤ℚ sum_ℚ (numbers_from x n (length (cond b (signs_on r.set) [])))) (sym isnt)
             (≤ℚ_refl zero_ℚ);
-        exact = λ e. absurd (true≢false (sym e ∙ no));
+        exact = λ e. absurd (true≢false (sym e ∙ isnt));
       }
 
   pub rows_enough : (n : ℕ) → first ≤ n → (rows : List Row) → All (IsOwnRow first) rows

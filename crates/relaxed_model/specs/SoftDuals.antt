@@ -125,7 +125,7 @@ module _ (first n : ℕ) (after : first ≤ n) where
           (coefficient_kept n (signs_on r.set) f (variable_address m) before
           ∙ zero_from first f (All-head (IsBelow first) f [] below) (variable_address m) from)
           (All-nil (λ q. q ≡ zero_ℚ))
-      by (of_hard {func} no same) below =
+      by (of_hard {func} isnt same) below =
           subst (λ (g : UserFunc). All (λ q. q ≡ zero_ℚ)
           (coefficients (functions_of g) (variable_address m)))
           (sym (same (with_slacks n (signs_on r.set))))
@@ -149,7 +149,7 @@ module _ (first n : ℕ) (after : first ≤ n) where
           (slacks_below n (signs_on r.set) f
           (below_from first n after f (All-head (IsBelow first) f [] below))) (variable_address m) behind)
           (All-nil (λ q. q ≡ zero_ℚ))
-      by (of_hard {func} no same) below behind =
+      by (of_hard {func} isnt same) below behind =
           subst (λ (g : UserFunc). All (λ q. q ≡ zero_ℚ)
           (coefficients (functions_of g) (variable_address m)))
           (sym (same (with_slacks n (signs_on r.set))))
@@ -186,7 +186,7 @@ module _ (first n : ℕ) (after : first ≤ n) where
           ≤ℚ zero_ℚ)
           → CountsNothing (row_with y (relaxed_row n (with_func r func)))
       by (of_soft f) y scalar soft duals cancels = lone f y scalar duals.size duals.dual cancels
-      by (of_hard no same) y scalar soft duals cancels = absurd (true≢false (sym soft ∙ no))
+      by (of_hard isnt same) y scalar soft duals cancels = absurd (true≢false (sym soft ∙ isnt))
 
 pub hard_row_kept : (n : ℕ) (r : Row) → is_soft r ≡ false → relaxed_row n r ≡ r
 hard_row_kept n r hard = by (soft_or_hard r.func) hard
@@ -194,7 +194,7 @@ hard_row_kept n r hard = by (soft_or_hard r.func) hard
     by : {func : UserFunc} → SoftOrHard func → is_soft (with_func r func) ≡ false
         → relaxed_row n (with_func r func) ≡ with_func r func
     by (of_soft f) hard = absurd (true≢false hard)
-    by (of_hard no same) hard = ap (with_func r) (same (with_slacks n (signs_on r.set)))
+    by (of_hard isnt same) hard = ap (with_func r) (same (with_slacks n (signs_on r.set)))
 
 -- ---- all rows
 
