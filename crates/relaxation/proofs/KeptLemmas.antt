@@ -13,7 +13,7 @@ use Rattle.user_model.specs.Valid.{IsValid}
 use Rattle.relaxed_model.specs.HardLaws.{hard_infeasible}
 use Rattle.relaxed_model.specs.LeastLaws.{least_is, never_unbounded}
 use Rattle.relaxed_model.specs.PlacedLaws.{length-relaxed}
-use Rattle.relaxed_model.specs.Relaxed.{at_hard_rows, is_hard, is_soft, missed_by, relaxed_model, relaxed_row, relaxed_rows, row_signs, signs_on, slack_count, slack_overs}
+use Rattle.relaxed_model.specs.Relaxed.{at_hard_rows, is_hard, is_soft, missed_by, relaxed_row, relaxed_rows, row_signs, signs_on, slack_count, slack_overs}
 use Rattle.relaxation.specs.Answers.{IsRelaxedFrom, Reads, Shows, hopeless_by, least_by}
 use Rattle.relaxation.specs.KeptLaws.{soft_kept}
 use Rattle.relaxation.specs.declared.reading.Relaxation.{Relaxation}

@@ -19,7 +19,6 @@ use Rattle.set_core.specs.Membership.{In}
 use Rattle.set_core.specs.Shapes.{is_crossed, is_scalar}
 use Rattle.set_core.specs.Vectors.{AllNonnegative}
 use Rattle.user_model.specs.declared.function.UserFunc.{UserFunc}
-use Rattle.user_model.specs.declared.function.UserFunc.TheVariants.{Affine}
 use Rattle.user_model.specs.declared.row.Row.{Row}
 use Rattle.certificates.specs.Points.{functions_of}
 use Rattle.group_numbering.specs.NumberLaws.{length-numbers_from, numbers_from, numbers_from-append}
