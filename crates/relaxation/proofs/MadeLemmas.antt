@@ -126,7 +126,7 @@ address_in vars name =
     (find (λ (v : GroupVar). bytes_eq v.name name) vars)) 0)
 
 found_behind : (vars : List GroupVar) (n : ℕ) (name : List ℕ) (others : List GroupVar)
-    → Named vars name → address_in (vars ++ record { number = n; name = name } ∷ others) name
+    → IsNewIn vars name → address_in (vars ++ record { number = n; name = name } ∷ others) name
     ≡ variable_address n
 found_behind [] n name others free =
     ap (λ b. variable_address (unwrap_or (option_map (λ (v : GroupVar). v.number)

@@ -15,19 +15,24 @@ pub returns-in-Subtracted : goal.returns-in-Subtracted
 returns-in-Subtracted c =
     let name = c.index-names-0.result in
     on_ok_weaker c.push_coefficient.result
-    (λ e. e ∙ lone_coefficient c.args.row.now c.args.edits.now.items c.args.names.now
+    (λ e. e
+    ∙ ap (λ q. c.args.edits.now.items ++ Coef c.args.row.now name q ∷ [])
+    (c.neg.ensures ∙ ap neg_ℚ c.one-one.ensures)
+    ∙ lone_coefficient c.args.row.now c.args.edits.now.items c.args.names.now
     (signs_of c.args.slacks) name (neg_ℚ one_ℚ) c.requires (ap signs_of c.in-Subtracted.is)
     c.index-names-0.is)
     c.push_coefficient.ensures
 
 pub returns-in-Added : goal.returns-in-Added
 returns-in-Added c =
-    let name = c.index-names-0.result in
-    on_ok_weaker c.push_coefficient.result
-    (λ e. e ∙ lone_coefficient c.args.row.now c.args.edits.now.items c.args.names.now
+    let name = c.index-names-0-in-Added.result in
+    on_ok_weaker c.push_coefficient-in-Added.result
+    (λ e. e
+    ∙ ap (λ q. c.args.edits.now.items ++ Coef c.args.row.now name q ∷ []) c.one-one.ensures
+    ∙ lone_coefficient c.args.row.now c.args.edits.now.items c.args.names.now
     (signs_of c.args.slacks) name one_ℚ c.requires (ap signs_of c.in-Added.is)
-    c.index-names-0.is)
-    c.push_coefficient.ensures
+    c.index-names-0-in-Added.is)
+    c.push_coefficient-in-Added.ensures
 
 pub returns-in-Both : goal.returns-in-Both
 returns-in-Both c =

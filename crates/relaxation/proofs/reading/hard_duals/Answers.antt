@@ -8,13 +8,13 @@ use Rattle.relaxation.proofs.reading.hard_duals.Goals as goal
 pub loop-own-preserved : goal.loop-own-preserved
 loop-own-preserved c =
     let own = c.in-Some.own in
-    let row = c.in-Some-2.row.now in
+    let row = c.in-Some-next.row.now in
     let ys = into_iter_items c.loop-own.own-iterator in
     let others = into_iter_items c.next.new.self in
     rest_more c.loop-own.kept.items c.push_hard.new.kept.items (own_duals row own)
-    (at_hard_rows c.next-2.new.self others) (at_hard_rows c.loop-own.left ys) _
+    (at_hard_rows c.next-in-loop-own.new.self others) (at_hard_rows c.loop-own.left ys) _
     c.loop-own.invariant
-    (duals_first c.loop-own.left c.next-2.new.self row ys others own c.in-Some-2.ensures.steps
+    (duals_first c.loop-own.left c.next-in-loop-own.new.self row ys others own c.in-Some-next.ensures.steps
     c.in-Some.ensures.steps.0)
     c.in_ok-push_hard.ensures
 
