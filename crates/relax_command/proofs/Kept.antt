@@ -5,7 +5,7 @@ use Rattle.std.specs.Prelude.{not}
 use Rattle.std.proofs.lemmas.List.Concat.{flat_map-append}
 use Rattle.cert_text.specs.Text.{certificate_text, number_line, row_lines, text_of_lines, variable_line, variable_lines}
 use Rattle.certificates.specs.Points.{variables_of}
-use Rattle.dual_model.specs.DualOf.{numbered_groups}
+use Rattle.group_numbering.specs.NewGroups.{numbered_groups}
 use Rattle.ratio_core.specs.Rational.{Rational}
 use Rattle.relax_command.specs.Text.{missed_line, missed_lines, relaxation_text}
 use Rattle.relaxation.specs.Answers.{IsRelaxedFrom, Shows}

@@ -14,6 +14,7 @@ use Rattle.cache_layer.specs.declared.fault.OptFault.{OptFault}
 use Rattle.certificates.specs.declared.certificate.Certificate.{Certificate}
 use Rattle.file_answers.specs.FileAnswers.{refused}
 use Rattle.fresh_bridging.specs.TheRules.{Setting}
+use Rattle.limit_laws.specs.Limits.{IsFull}
 use Rattle.model_command.specs.Alone.{alone}
 use Rattle.model_command.specs.Telling.{attach_fault_answer, optimize_fault_answer}
 use Rattle.model_load.specs.Loads.{after_edits}
@@ -64,13 +65,13 @@ module _ (model : ModelValue) where
   abbrev pub SaysMade : Setting → Result ModelValue Refusal → Answer → Type 0
   SaysMade setting (Ok relaxed) answer =
       (relaxed ≡ relaxed_model model) × SaysSolved (alone setting relaxed) answer
-  SaysMade setting (Err refusal) answer = answer ≡ refused (refused_of refusal)
+  SaysMade setting (Err refusal) answer = IsFull refusal × (answer ≡ refused (refused_of refusal))
 
 abbrev pub Says : Setting → ModelValue → Answer → Type 0
 Says setting model answer =
     SaysMade model setting (after_edits model (relaxed_edits model)) answer
 
--- ---- what the code tells
+-- ---- what the code says
 
 -- a model was made its relaxation, or this is answered
 abbrev pub Relaxes : Stored → Result Unit Answer → Stored → Type 0

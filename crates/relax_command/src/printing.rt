@@ -4,13 +4,12 @@ ghost use Rattle.cert_text.specs.Text.{ended, row_lines, text_of_lines};
 ghost use Rattle.relax_command.specs.Text.{missed_line, missed_lines, relaxation_text};
 ghost use Rattle.relaxed_model.specs.Relaxed.{hard_rows, soft_rows};
 
-use crate::parts::RowsLeft;
 use file_command::{push_numbers, push_row_duals};
 use lists::Memory;
 use model_store::UserModel;
 use name_index::Text;
 use ratio_core::{Ratio, Ratios};
-use relaxation::Relaxation;
+use relaxation::{Relaxation, is_soft};
 use report_core::Draft;
 use std::alloc::Global;
 use user_model::{Row, Rows};
@@ -70,12 +69,15 @@ fn push_missed(draft: &mut Draft, rows: &Rows, missed: &[Ratio]) -> Result<(), M
     ensures { OnOk result (draft.new ≡ draft.old
         ++ text_of_lines (missed_lines (soft_rows rows.now.items) missed.now)) }
 {
-    let mut left = RowsLeft::soft(rows);
-    for number in missed {
-        let Some(row) = left.next() else {
-            return Ok(());
-        };
-        push_one_missed(draft, row, number)?;
+    let mut left = missed;
+    for row in rows.iter() {
+        if is_soft(row) {
+            let Some((number, others)) = left.split_first() else {
+                return Ok(());
+            };
+            push_one_missed(draft, row, number)?;
+            left = others;
+        }
     }
     Ok(())
 }
@@ -114,12 +116,15 @@ fn push_duals(draft: &mut Draft, rows: &Rows, duals: &[Ratios]) -> Result<(), Me
     ensures { OnOk result (draft.new ≡ draft.old
         ++ text_of_lines (row_lines (hard_rows rows.now.items) duals.now)) }
 {
-    let mut left = RowsLeft::hard(rows);
-    for own in duals {
-        let Some(row) = left.next() else {
-            return Ok(());
-        };
-        push_row_duals(draft, row, own.as_slice())?;
+    let mut left = duals;
+    for row in rows.iter() {
+        if !is_soft(row) {
+            let Some((own, others)) = left.split_first() else {
+                return Ok(());
+            };
+            push_row_duals(draft, row, own.as_slice())?;
+            left = others;
+        }
     }
     Ok(())
 }

@@ -7,29 +7,20 @@ use Rattle.ratio_core.specs.Rational.{Rational}
 use Rattle.certificates.specs.declared.certificate.Certificate.{Certificate}
 use Rattle.certificates.specs.declared.certificate.Certificate.TheVariants.{Infeasible, Optimal, Unbounded}
 use Rattle.certificates.specs.Good.{Good, IsInfeasible, IsOptimal, IsUnbounded}
-use Rattle.user_model.specs.declared.function.UserFunc.{UserFunc}
-use Rattle.user_model.specs.declared.function.UserFunc.TheVariants.{Plain, Affine, PlainVec, AffineVec}
 use Rattle.user_model.specs.declared.row.Row.{Row}
 use Rattle.user_model.specs.Model.{ModelValue, variables}
 use Rattle.user_model.specs.Valid.{IsValid}
 use Rattle.relaxed_model.specs.HardLaws.{hard_infeasible}
 use Rattle.relaxed_model.specs.LeastLaws.{least_is, never_unbounded}
 use Rattle.relaxed_model.specs.PlacedLaws.{length-relaxed}
-use Rattle.relaxed_model.specs.Relaxed.{at_hard_rows, is_hard, is_soft, missed_by, relaxed_model, relaxed_row, relaxed_rows, row_signs, slack_count, slack_overs}
+use Rattle.relaxed_model.specs.Relaxed.{at_hard_rows, is_hard, is_soft, missed_by, relaxed_row, relaxed_rows, row_signs, signs_on, slack_count, slack_overs}
 use Rattle.relaxation.specs.Answers.{IsRelaxedFrom, Reads, Shows, hopeless_by, least_by}
 use Rattle.relaxation.specs.KeptLaws.{soft_kept}
 use Rattle.relaxation.specs.declared.reading.Relaxation.{Relaxation}
 use Rattle.relaxation.specs.declared.reading.Relaxation.TheVariants.{Hopeless, Least}
 
 signs_kept : (n : ℕ) (r : Row) → row_signs (relaxed_row n r) ≡ row_signs r
-signs_kept n r = by r.func
-  where
-    by : (func : UserFunc) → row_signs (relaxed_row n (record r { func = func }))
-        ≡ row_signs (record r { func = func })
-    by (Plain var) = refl
-    by (Affine f) = refl
-    by (PlainVec vars) = refl
-    by (AffineVec fs) = refl
+signs_kept n r = ap (λ b. cond b (signs_on r.set) []) (soft_kept n r)
 
 count_kept : (n : ℕ) (rows : List Row) → slack_count (relaxed_rows n rows) ≡ slack_count rows
 count_kept n [] = refl

@@ -5,9 +5,9 @@ ghost use Rattle.user_model.specs.Model.{ModelValue};
 ghost use Rattle.relaxed_model.specs.Relaxed.{at_hard_rows, missed_by, slack_count, slack_overs};
 ghost use Rattle.relaxation.specs.Answers.{IsRelaxedFrom, Reads, Shows, hopeless_by, least_by, own_duals, own_overs};
 
-use crate::rows::{is_soft, sign_count, slack_count};
+use crate::rows::{is_soft, slack_count, slacks_of};
 use certificates::{Certificate, DualRows};
-use lists::{Duplicate, Memory, Sequence};
+use lists::{Memory, Sequence};
 use model_store::UserModel;
 use ratio_core::{Ratio, Ratios};
 use std::alloc::Global;
@@ -54,7 +54,7 @@ pub fn relaxation_of(
             gap,
             rows: duals,
             vars,
-        } => hopeless(alloc, rows, count, gap, &duals, vars),
+        } => hopeless(alloc, rows, count, gap, duals, vars),
         Certificate::Unbounded { .. } => unreachable!(),
     }
 }
@@ -91,7 +91,7 @@ fn missed(alloc: Global, rows: &Rows, slacks: &[Ratio]) -> Result<Ratios, Memory
     let mut missed = Vec::new(alloc);
     let mut left = slacks;
     for row in rows.iter() {
-        let (own, others) = left.split_at(sign_count(row));
+        let (own, others) = left.split_at(slacks_of(row).count());
         push_missed(&mut missed, row, own)?;
         left = others;
     }
@@ -125,14 +125,14 @@ fn hopeless(
     rows: &Rows,
     count: usize,
     gap: Ratio,
-    duals: &DualRows,
+    duals: DualRows,
     vars: Ratios,
 ) -> Result<Relaxation, Memory>
     requires { count ≤ length vars }
     ensures { IfOk result (λ answer. answer
-        ≡ hopeless_by rows.now.items (length vars - count) gap duals.now vars) }
+        ≡ hopeless_by rows.now.items (length vars - count) gap duals vars) }
 {
-    let kept = hard_duals(alloc, rows, duals.as_slice())?;
+    let kept = hard_duals(alloc, rows, duals)?;
     let mut own = vars.into_vec();
     own.truncate(own.len() - count);
     Ok(Relaxation::Hopeless {
@@ -143,12 +143,12 @@ fn hopeless(
 }
 
 // The duals of the hard rows.
-fn hard_duals(alloc: Global, rows: &Rows, duals: &[Ratios]) -> Result<DualRows, Memory>
-    ensures { IfOk result (λ kept. kept ≡ at_hard_rows rows.now.items duals.now) }
+fn hard_duals(alloc: Global, rows: &Rows, duals: DualRows) -> Result<DualRows, Memory>
+    ensures { IfOk result (λ kept. kept ≡ at_hard_rows rows.now.items duals) }
 {
     let mut kept = Vec::new(alloc);
     let mut left = rows.iter();
-    for own in duals {
+    for own in duals.into_vec() {
         let Some(row) = left.next() else {
             return Ok(Sequence::from_vec(kept));
         };
@@ -158,11 +158,11 @@ fn hard_duals(alloc: Global, rows: &Rows, duals: &[Ratios]) -> Result<DualRows, 
 }
 
 // Appends the duals of a row, where it is hard.
-fn push_hard(kept: &mut Vec<Ratios>, row: &Row, own: &Ratios) -> Result<(), Memory>
-    ensures { OnOk result (kept.new.items ≡ kept.old.items ++ own_duals row.now own.now) }
+fn push_hard(kept: &mut Vec<Ratios>, row: &Row, own: Ratios) -> Result<(), Memory>
+    ensures { OnOk result (kept.new.items ≡ kept.old.items ++ own_duals row.now own) }
 {
     if !is_soft(row) {
-        kept.push(own.copy()?)?;
+        kept.push(own)?;
     }
     Ok(())
 }

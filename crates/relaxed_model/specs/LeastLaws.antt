@@ -27,18 +27,17 @@ use Rattle.certificates.specs.Points.{at_point, functions_of_group, objective_sl
 use Rattle.certificates.specs.Feasible.{IsFeasible}
 use Rattle.certificates.specs.Good.{IsOptimal, IsUnbounded}
 use Rattle.certificates.specs.GoodLaws.{none_is_better}
-use Rattle.dual_model.specs.DualOf.{numbered_groups, terms_from}
-use Rattle.dual_model.specs.NumberLaws.{numbers_from, value_from}
-use Rattle.dual_model.specs.PlaceLaws.{GroupIn, groups_from_hold, hold_from_groups}
-use Rattle.dual_model.specs.RowPartLaws.{HoldFrom}
+use Rattle.group_numbering.specs.HoldLaws.{GroupIn, HoldFrom, groups_from_hold, hold_from_groups}
+use Rattle.group_numbering.specs.NewGroups.{numbered_groups, terms_from}
+use Rattle.group_numbering.specs.NumberLaws.{numbers_from, value_from}
 use Rattle.relaxed_model.specs.FunctionLaws.{values_below}
 use Rattle.relaxed_model.specs.OwnLaws.{IsOwnGroup, own_groups, own_rows}
 use Rattle.relaxed_model.specs.PlacedLaws.{first_part, last_part, length-first_part, length-free_names, length-last_part, length-relaxed, own_numbers, parts_join, slack_numbers}
 use Rattle.relaxed_model.specs.Relaxed.{hard_model, overs, relaxed_model, slack_count, slack_group, slack_names, slack_overs, sum_from, total}
 use Rattle.relaxed_model.specs.RowLaws.{AreEnoughFor, length-row_slacks, row_slacks, row_slacks_nonneg, row_slacks_sum, rows_enough, rows_relaxed}
 
--- the point meets the hard rows, and misses each soft row by the number that is said, together by
--- the value, than which no point that meets the hard rows has less
+-- The point meets the hard rows, and misses each soft row by its number in `missed`. These numbers
+-- add up to the value. No point that meets the hard rows misses the soft rows by less in all.
 pub record IsLeast (model : ModelValue) (value : Rational) (x missed : List Rational) : Type 0 where
   pub feasible : IsFeasible (hard_model model) x
   pub each : missed ≡ overs model x

@@ -25,7 +25,7 @@ use Rattle.user_model.specs.Functions.{is_scalar_affine}
 use Rattle.user_model.specs.Model.{ModelValue, variable_address, variables}
 use Rattle.user_model.specs.Refusals.{has_variable_named}
 use Rattle.certificates.specs.Points.{at_point, functions_of}
-use Rattle.dual_model.specs.DualOf.{NewGroup, numbered_groups, terms_from}
+use Rattle.group_numbering.specs.NewGroups.{NewGroup, numbered_groups, terms_from}
 use Rattle.std.specs.Prelude.{Bool, drop, take}
 
 -- ---- soft and hard rows

@@ -19,13 +19,13 @@ use Rattle.set_core.specs.Membership.{In}
 use Rattle.set_core.specs.Shapes.{is_crossed, is_scalar}
 use Rattle.set_core.specs.Vectors.{AllNonnegative}
 use Rattle.user_model.specs.declared.function.UserFunc.{UserFunc}
-use Rattle.user_model.specs.declared.function.UserFunc.TheVariants.{Plain, Affine, PlainVec, AffineVec}
 use Rattle.user_model.specs.declared.row.Row.{Row}
 use Rattle.certificates.specs.Points.{functions_of}
-use Rattle.dual_model.specs.NumberLaws.{length-numbers_from, numbers_from, numbers_from-append}
-use Rattle.dual_model.specs.PlaceLaws.{joined_alike}
-use Rattle.relaxed_model.specs.FunctionLaws.{IsBelow, value_below, value_with_slacks, values_below}
+use Rattle.group_numbering.specs.NumberLaws.{length-numbers_from, numbers_from, numbers_from-append}
+use Rattle.group_numbering.specs.PlaceLaws.{joined_alike}
+use Rattle.relaxed_model.specs.FunctionLaws.{IsBelow, below_from, value_below, value_with_slacks, values_below}
 use Rattle.relaxed_model.specs.Relaxed.{hard_rows, is_soft, missed_by, relaxed_row, relaxed_rows, row_over, row_signs, row_value, signs_on, slack_count, slack_overs, soft_rows, with_slacks}
+use Rattle.relaxed_model.specs.SoftOrHard.{SoftOrHard, of_hard, of_soft, soft_or_hard}
 use Rattle.relaxed_model.specs.SlackLaws.{AreEnough, both_equal, length-slacks_on, slackened, slacks_enough, slacks_meet, slacks_nonneg, slacks_on, slacks_sum}
 
 abbrev pub RowIn : (Address → Rational) → Row → Type 0
@@ -198,15 +198,12 @@ module _ (y : Address → Rational) (r : Row) (rows : List Row) (own others : Li
 
 module _ (first : ℕ) (x y : Address → Rational)
     (agree : (v : Address) → v.number < first → x v ≡ y v) where
-  below_from : (n : ℕ) → first ≤ n → (f : Function) → IsBelow first f → IsBelow n f
-  below_from n h f below v some = let less = below v some in omega (arith, less, h)
-
   -- a soft row's value at x
   soft_value : (n : ℕ) → first ≤ n → (qs : List Rational) (f : Function) → IsBelow first f
       → value_of (with_slacks n qs f) x
       ≡ value_of f y +ℚ dot qs (numbers_from x n (length qs))
   soft_value n h qs f below =
-      value_with_slacks n qs f x (below_from n h f below)
+      value_with_slacks n qs f x (below_from first n h f below)
       ∙ ap (λ q. q +ℚ dot qs (numbers_from x n (length qs))) (value_below first f x y below agree)
 
   -- ---- slacks that meet the sets
@@ -214,26 +211,26 @@ module _ (first : ℕ) (x y : Address → Rational)
   one_relaxed : (n : ℕ) → first ≤ n → (r : Row) → IsOwnRow first r
       → numbers_from x n (length (row_signs r)) ≡ own_slacks y r → (is_soft r ≡ false → RowIn y r)
       → RowIn x (relaxed_row n r)
-  one_relaxed n h r own slacks hard = by r.func own slacks hard
+  one_relaxed n h r own slacks hard = by (soft_or_hard r.func) own slacks hard
     where
       kept : (func : UserFunc) → All {X = Function} (IsBelow first) (functions_of func)
           → In r.set (values (functions_of func) y) → In r.set (values (functions_of func) x)
       kept func below inside =
           subst (In r.set) (sym (values_below first (functions_of func) x y below agree)) inside
 
-      by : (func : UserFunc) → IsOwnRow first (with_func r func)
+      by : {func : UserFunc} → SoftOrHard func → IsOwnRow first (with_func r func)
           → numbers_from x n (length (row_signs (with_func r func)))
           ≡ own_slacks y (with_func r func)
           → (is_soft (with_func r func) ≡ false → RowIn y (with_func r func))
           → RowIn x (relaxed_row n (with_func r func))
-      by (Affine f) own slacks hard =
+      by (of_soft f) own slacks hard =
           subst (λ q. In r.set (q ∷ []))
           (sym (soft_value n h (signs_on r.set) f (All-head (IsBelow first) f [] own.below)
           ∙ ap (slackened r.set (value_of f y)) slacks))
           (slacks_meet r.set (value_of f y) own.uncrossed (own.scalar refl))
-      by (Plain var) own slacks hard = kept (Plain var) own.below (hard refl)
-      by (PlainVec vars) own slacks hard = kept (PlainVec vars) own.below (hard refl)
-      by (AffineVec fs) own slacks hard = kept (AffineVec fs) own.below (hard refl)
+      by (of_hard {func} isnt same) own slacks hard =
+          subst (λ (g : UserFunc). In r.set (values (functions_of g) x))
+          (sym (same (with_slacks n (signs_on r.set)))) (kept func own.below (hard isnt))
 
   pub rows_relaxed : (n : ℕ) → first ≤ n → (rows : List Row) → All (IsOwnRow first) rows
       → numbers_from x n (slack_count rows) ≡ row_slacks y rows → All (RowIn y) (hard_rows rows)
@@ -256,19 +253,19 @@ module _ (first : ℕ) (x y : Address → Rational)
   one_enough : (n : ℕ) → first ≤ n → (r : Row) → IsOwnRow first r
       → AllNonnegative (numbers_from x n (length (row_signs r))) → RowIn x (relaxed_row n r)
       → IsEnoughFor y r (numbers_from x n (length (row_signs r)))
-  one_enough n h r own nonneg inside = by r.func own nonneg inside
+  one_enough n h r own nonneg inside = by (soft_or_hard r.func) own nonneg inside
     where
       kept : (func : UserFunc) → All {X = Function} (IsBelow first) (functions_of func)
           → In r.set (values (functions_of func) x) → In r.set (values (functions_of func) y)
       kept func below inside =
           subst (In r.set) (values_below first (functions_of func) x y below agree) inside
 
-      by : (func : UserFunc) → IsOwnRow first (with_func r func)
+      by : {func : UserFunc} → SoftOrHard func → IsOwnRow first (with_func r func)
           → AllNonnegative (numbers_from x n (length (row_signs (with_func r func))))
           → RowIn x (relaxed_row n (with_func r func))
           → IsEnoughFor y (with_func r func)
           (numbers_from x n (length (row_signs (with_func r func))))
-      by (Affine f) own nonneg inside =
+      by (of_soft f) own nonneg inside =
           let ts : List Rational = numbers_from x n (length (signs_on r.set)) in
           let enough : AreEnough r.set (value_of f y) ts =
           slacks_enough r.set (value_of f y) ts own.uncrossed
@@ -280,20 +277,14 @@ module _ (first : ℕ) (x y : Address → Rational)
             least = enough.least;
             exact = λ _. enough.exact;
           }
-      by (Plain var) own nonneg inside = record {
-        hard = λ _. kept (Plain var) own.below inside;
-        least = ≤ℚ_refl zero_ℚ;
-        exact = λ e. absurd (true≢false (sym e));
-      }
-      by (PlainVec vars) own nonneg inside = record {
-        hard = λ _. kept (PlainVec vars) own.below inside;
-        least = ≤ℚ_refl zero_ℚ;
-        exact = λ e. absurd (true≢false (sym e));
-      }
-      by (AffineVec fs) own nonneg inside = record {
-        hard = λ _. kept (AffineVec fs) own.below inside;
-        least = ≤ℚ_refl zero_ℚ;
-        exact = λ e. absurd (true≢false (sym e));
+      by (of_hard {func} isnt same) own nonneg inside = record {
+        hard = λ _. kept func own.below
+            (subst (λ (g : UserFunc). In r.set (values (functions_of g) x))
+            (same (with_slacks n (signs_on r.set))) inside);
+        least = subst (λ b. cond b (row_over y (with_func r func)) zero_ℚ
+            ≤ℚ sum_ℚ (numbers_from x n (length (cond b (signs_on r.set) [])))) (sym isnt)
+            (≤ℚ_refl zero_ℚ);
+        exact = λ e. absurd (true≢false (sym e ∙ isnt));
       }
 
   pub rows_enough : (n : ℕ) → first ≤ n → (rows : List Row) → All (IsOwnRow first) rows

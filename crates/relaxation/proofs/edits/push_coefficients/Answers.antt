@@ -1,35 +1,46 @@
-use Rattle.std.proofs.Common.{◌+◌, ◌++◌, ◌∷◌, ◌∙◌, [], ap, ap₂, arith, drop, sym}
-use Rattle.std.proofs.Math.ListN.{drop_of_length-le}
-use Rattle.std.proofs.lemmas.List.{drop_more}
-use Rattle.relaxation.proofs.LoopLemmas.{coefficient_first, no_coefficients, rest_all, rest_more}
-use Rattle.relaxation.specs.RelaxedEdits.{edits_in}
+use Rattle.std.proofs.Common.{◌∷◌, ◌++◌, ◌∙◌, [], ap, sym}
+use Rattle.std.proofs.lemmas.Result.{on_ok_weaker}
+use Rattle.ratio_core.specs.Rational.{neg_ℚ, one_ℚ}
+use Rattle.relaxation.proofs.LoopLemmas.{lone_coefficient, no_coefficient, two_coefficients}
+use Rattle.relaxation.specs.Signs.{signs_of}
 use Rattle.user_model.specs.declared.edit.Edit.TheVariants.{Coef}
 use Rattle.relaxation.proofs.edits.push_coefficients.Goals as goal
 
-pub loop-i-preserved : goal.loop-i-preserved
-loop-i-preserved c =
-    let names = c.args.names.now in
-    let signs = c.args.signs.now in
-    let i = c.loop-i.i in
-    let name = c.index-names-i.result in
-    let sign = c.index-signs-i.result in
-    rest_more c.loop-i.edits.items c.push.new.self.items (Coef c.args.row.now name sign ∷ [])
-    (edits_in c.args.row.now (drop (i + 1) names) (drop (i + 1) signs))
-    (edits_in c.args.row.now (drop i names) (drop i signs)) _ c.loop-i.invariant
-    (coefficient_first c.args.row.now (drop i names) (drop (i + 1) names) (drop i signs)
-    (drop (i + 1) signs) name sign
-    (drop_more names i name (omega arith) ∙ ap (λ y. y ∷ drop (i + 1) names)
-    (sym c.index-names-i.is))
-    (drop_more signs i sign c.loop-i-test.true ∙ ap (λ y. y ∷ drop (i + 1) signs)
-    (sym c.index-signs-i.is)))
-    (c.in_ok-push.ensures.items
-    ∙ ap₂ (λ r v. c.loop-i.edits.items ++ Coef r v sign ∷ []) c.in_ok-row.ensures
-    c.in_ok-var.ensures)
+pub returns-in-None : goal.returns-in-None
+returns-in-None c =
+    no_coefficient c.args.row.now c.args.edits.now.items c.args.names.now
+    (signs_of c.args.slacks) (ap signs_of c.in-None.is)
 
-pub returns : goal.returns
-returns c =
-    rest_all c.loop-i.edits.items
-    (edits_in c.args.row.now (drop c.loop-i.i c.args.names.now)
-    (drop c.loop-i.i c.args.signs.now)) _ c.loop-i.invariant
-    (no_coefficients c.args.row.now (drop c.loop-i.i c.args.names.now)
-    (drop c.loop-i.i c.args.signs.now) (drop_of_length-le c.args.signs.now (omega arith)))
+pub returns-in-Subtracted : goal.returns-in-Subtracted
+returns-in-Subtracted c =
+    let name = c.index-names-0.result in
+    on_ok_weaker c.push_coefficient.result
+    (λ e. e
+    ∙ ap (λ q. c.args.edits.now.items ++ Coef c.args.row.now name q ∷ [])
+    (c.neg.ensures ∙ ap neg_ℚ c.one-one.ensures)
+    ∙ lone_coefficient c.args.row.now c.args.edits.now.items c.args.names.now
+    (signs_of c.args.slacks) name (neg_ℚ one_ℚ) c.requires (ap signs_of c.in-Subtracted.is)
+    c.index-names-0.is)
+    c.push_coefficient.ensures
+
+pub returns-in-Added : goal.returns-in-Added
+returns-in-Added c =
+    let name = c.index-names-0-in-Added.result in
+    on_ok_weaker c.push_coefficient-in-Added.result
+    (λ e. e
+    ∙ ap (λ q. c.args.edits.now.items ++ Coef c.args.row.now name q ∷ []) c.one-one.ensures
+    ∙ lone_coefficient c.args.row.now c.args.edits.now.items c.args.names.now
+    (signs_of c.args.slacks) name one_ℚ c.requires (ap signs_of c.in-Added.is)
+    c.index-names-0-in-Added.is)
+    c.push_coefficient-in-Added.ensures
+
+pub returns-in-Both : goal.returns-in-Both
+returns-in-Both c =
+    let second = c.index-names-1.result in
+    on_ok_weaker c.push_coefficient-2.result
+    (λ e. e
+    ∙ ap (λ es. es ++ Coef c.args.row.now second (neg_ℚ one_ℚ) ∷ []) c.in_ok-push_coefficient.ensures
+    ∙ two_coefficients c.args.row.now c.args.edits.now.items c.args.names.now
+    (signs_of c.args.slacks) c.index-names-0.result second one_ℚ (neg_ℚ one_ℚ) c.requires
+    (ap signs_of c.in-Both.is) c.index-names-0.is c.index-names-1.is)
+    c.push_coefficient-2.ensures

@@ -1,8 +1,9 @@
-use Rattle.std.specs.Prelude.{◌≡◌, ◌++◌, drop}
+use Rattle.std.specs.Prelude.{◌≡◌, ◌++◌}
+use Rattle.std.specs.Vec.Iter.{into_iter_items}
 use Rattle.relaxed_model.specs.Relaxed.{at_hard_rows}
 use Rattle.relaxation.proofs.reading.hard_duals.Given as goal
 
 abbrev pub invariant-loop-own : goal.invariant-loop-own
 invariant-loop-own l =
-    l.kept.items ++ at_hard_rows l.left (drop l.own-index l.duals)
-    ≡ at_hard_rows l.rows.items l.duals
+    l.kept.items ++ at_hard_rows l.left (into_iter_items l.own-iterator)
+    ≡ at_hard_rows l.rows.items l.fn.duals

@@ -4,13 +4,14 @@ use Rattle.relaxation.proofs.reading.missed.Goals as goal
 
 pub split_at-requires : goal.split_at-requires
 split_at-requires c =
-    subst (λ n. n ≤ length c.loop-row.left.now) (sym c.sign_count.ensures.count)
+    subst (λ n. n ≤ length c.loop-row.left.now)
+    (sym (c.count.ensures.count ∙ ap length c.slacks_of.ensures))
     (own_size c.loop-row.row-iterator c.next.new.self c.in-Some.row.now c.loop-row.left.now
     c.in-Some.ensures.steps c.loop-row.invariant.1)
 
 pub loop-row-preserved : goal.loop-row-preserved
 loop-row-preserved c =
-    let size = c.sign_count.ensures.count in
+    let size = c.count.ensures.count ∙ ap length c.slacks_of.ensures in
     let front = c.split_at.ensures.front ∙ ap (λ n. take n c.loop-row.left.now) size in
     let back = c.split_at.ensures.back ∙ ap (λ n. drop n c.loop-row.left.now) size in
     overs_more c.loop-row.row-iterator c.next.new.self c.in-Some.row.now c.loop-row.left.now
