@@ -8,7 +8,7 @@ returns-then-not-branch c =
       λ t. absurd (true≢false (sym t)),
       λ same. absurd (unit_failed m c.loop-i.i c.index-rows-i.result c.index-rows-i.is
           c.loop-i-test.true
-          (λ e. true≢false (sym (c.in_ok-is_unit_row.ensures.1 (c.as_slice.ensures ∙ e))
+          (λ e. true≢false (sym (c.is_unit_row.ensures.1 (c.as_slice.ensures ∙ e))
           ∙ c.if-not-branch.true)) same),
     )
 
@@ -16,4 +16,4 @@ pub loop-i-preserved : goal.loop-i-preserved
 loop-i-preserved c =
     unit_more c.args.rows.now c.loop-i.i c.index-rows-i.result c.index-rows-i.is
     c.loop-i-test.true c.loop-i.invariant
-    (sym c.as_slice.ensures ∙ c.in_ok-is_unit_row.ensures.0 c.if-not-branch.false)
+    (sym c.as_slice.ensures ∙ c.is_unit_row.ensures.0 c.if-not-branch.false)
