@@ -1,3 +1,3 @@
-// How the command of a program runs that answers the file of a model, said once for all of them, and
-// that a run is such a one. It has no code: its files in specs/ are what other crates cite.
+// The run of a program's command, said once for all commands that answer the file of a model, and one
+// lemma that proves it. It has no code: its files in specs/ are what other crates cite.
 #![tactic(auto)]

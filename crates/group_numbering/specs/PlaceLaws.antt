@@ -1,4 +1,5 @@
--- What is where: variables that are numbered one after another, and the numbers that a point has there.
+-- What is where: variables that are numbered one after another, and the numbers that a point has at
+-- them.
 use Rattle.std.specs.Prelude.{◌≡◌, ◌≢◌, ℕ, zero, suc, ◌+◌, ◌≤◌, List, [], ◌∷◌, ◌++◌, All, AllPairs, drop, length, map, take, refl}
 use Rattle.std.proofs.Common.{sym, ◌∙◌, ap, ap₂, arith}
 use Rattle.std.proofs.Math.Seq.{drop-append_seam, take-append_seam}

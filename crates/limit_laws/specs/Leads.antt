@@ -1,4 +1,4 @@
--- Edits that pass each test but those of limits, one after another, and the model that they lead to.
+-- Edits, one after another, that pass each test but those of limits, and the model that they lead to.
 use Rattle.std.specs.Prelude.{◌≡◌, false, List, [], ◌∷◌}
 use Rattle.user_model.specs.Edited.{edited}
 use Rattle.user_model.specs.Model.{ModelValue, has_lower_bound, has_upper_bound}
@@ -19,7 +19,7 @@ pub record PassesTests (m : ModelValue) (e : Edit) : Type 0 where
   pub of_type : meets_set_type_mismatch m e ≡ false
   pub deletable : meets_delete_not_allowed m e ≡ false
 
--- each edit does, of the model that the edits before it make
+-- each of the edits does, on the model that those before it make
 abbrev pub AllPass : ModelValue → List Edit → Type 0
 AllPass m [] = Unit {0}
 AllPass m (e ∷ es) = PassesTests m e × AllPass (edited m e) es

@@ -1,5 +1,5 @@
--- Edits that pass each test but those of limits are refused for a limit alone, and what they lead to
--- is what they make.
+-- Edits that pass each test but those of limits can be refused for a limit alone; and where none is
+-- refused, the model that they lead to is the one that they make.
 use Rattle.std.specs.Prelude.{◌≡◌, ℕ, Bool, true, false, if◌then◌else◌, List, [], ◌∷◌, ◌++◌, Option, Some, None, Result, Ok, Err, map, refl}
 use Rattle.std.specs.Option.{option_map_or}
 use Rattle.std.proofs.Common.{sym, ◌∙◌, ap, subst, true≢false}
@@ -16,7 +16,7 @@ use Rattle.user_model.specs.declared.refusal.Refusal.{Refusal}
 
 -- ---- one edit
 
--- each test that may hold is that of a limit
+-- each refusal whose test may hold is of a limit
 abbrev AreLimits : List (Bool × Refusal) → Type 0
 AreLimits [] = Unit {0}
 AreLimits (test ∷ tests) = (test.0 ≡ true → IsFull test.1) × AreLimits tests
@@ -42,7 +42,19 @@ full_alone : (m : ModelValue) (e : Edit) (s : Refusal) → PassesTests m e
     → first_refusal m e ≡ Some s → IsFull s
 unfolding first_refusal
 full_alone m e s p h =
-    first_is_full (refusal_tests m e) s (fails (meets_unknown_name m e) p.known, (fails (meets_name_taken m e) p.free, (fails (meets_function_shape m e) p.shaped, (fails (meets_bad_dimension m e) p.dimension, (fails (meets_output_index m e) p.output, (fails (meets_bad_interval e) p.interval, (fails (meets_bound_already_set sets_lower has_lower_bound m e) p.lower, (fails (meets_bound_already_set sets_upper has_upper_bound m e) p.upper, (fails (meets_set_type_mismatch m e) p.of_type, (fails (meets_delete_not_allowed m e) p.deletable, of_counts (counts m e))))))))))) h
+    first_is_full (refusal_tests m e) s (
+      fails (meets_unknown_name m e) p.known,
+      fails (meets_name_taken m e) p.free,
+      fails (meets_function_shape m e) p.shaped,
+      fails (meets_bad_dimension m e) p.dimension,
+      fails (meets_output_index m e) p.output,
+      fails (meets_bad_interval e) p.interval,
+      fails (meets_bound_already_set sets_lower has_lower_bound m e) p.lower,
+      fails (meets_bound_already_set sets_upper has_upper_bound m e) p.upper,
+      fails (meets_set_type_mismatch m e) p.of_type,
+      fails (meets_delete_not_allowed m e) p.deletable,
+      of_counts (counts m e),
+    ) h
 
 -- ---- one after another
 
@@ -64,7 +76,7 @@ limits_alone (e ∷ es) m p s h =
     by None is others h = others h
     by (Some r) is others h = full_alone m e s p.0 (is ∙ ap Some (same_refusal r s h))
 
--- where none is refused, the model is what they make
+-- where none is refused, the model is the one that they lead to
 pub made_after : (es : List Edit) (model m : ModelValue) → after_edits model es ≡ Ok m
     → m ≡ all_edited model es
 unfolding after_edits
@@ -79,7 +91,7 @@ made_after (edit ∷ es) model m e =
     by None e rest = rest e
     by (Some refusal) e rest = cc
 
--- ---- some and then others
+-- ---- edits, and others after them
 
 pub both_edited : (es fs : List Edit) (model : ModelValue)
     → all_edited model (es ++ fs) ≡ all_edited (all_edited model es) fs

@@ -1,4 +1,4 @@
--- What edits may be refused for that are made of a model: a limit of models, and nothing else.
+-- Edits of a model that are refused for nothing but a limit of models.
 use Rattle.std.specs.Prelude.{◌≡◌, List, Err}
 use Rattle.model_load.specs.Loads.{after_edits}
 use Rattle.user_model.specs.Model.{ModelValue}
@@ -11,7 +11,7 @@ abbrev pub IsFull : Refusal → Type 0
 IsFull (Full count limit) = Unit {0}
 IsFull _ = ⊥
 
--- where one of the edits is refused, a limit is passed
+-- where one of the edits is refused, a limit is exceeded
 abbrev pub LimitsAlone : ModelValue → List Edit → Type 0
 LimitsAlone model edits =
     (refusal : Refusal) → after_edits model edits ≡ Err refusal → IsFull refusal

@@ -1,4 +1,4 @@
--- Names that are new in a model, and a group of variables that have such names.
+-- Names that are new in a model, and the edit that adds a group of variables with such names.
 use Rattle.std.specs.Prelude.{◌≡◌, ◌≢◌, ℕ, Bool, true, false, ◌&&◌, ◌==◌, not, cond, List, [], ◌∷◌, All, AllPairs, Option, Some, find, is_some, length, refl}
 use Rattle.std.specs.List.{list_any}
 use Rattle.std.specs.Option.{option_map}
@@ -69,7 +69,7 @@ one_component set n h = by (is_scalar set) refl
     by true e = ap (λ b. not b) (eq-eqb n 1 (sym h.dimension ∙ scalar_one set e))
     by false e = refl
 
--- a group of variables with new names in a set of as many components
+-- a group of variables with new names, apart from each other, in a set of as many components
 pub group_passes : (m : ModelValue) (names : List (List ℕ)) (set : Set)
     → IsSetOf (length names) set → All (IsNewIn (variables m)) names
     → AllPairs {X = List ℕ} (λ a b. a ≢ b) names → PassesTests m (AddGroup names set)

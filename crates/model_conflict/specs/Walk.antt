@@ -1,7 +1,7 @@
 -- How a conflict is found (the deletion filter): the rows are tried one after another, each by the
--- model without it. Where that has no feasible point, the row is left out for good. Where it has
--- one, the row is needed, and is added again, last. So the next row to be tried is always the first,
--- and once each was tried, the rows that are needed are in their old order.
+-- model without it. Where that has no feasible point, the row is left out for good. Where it has one,
+-- the row is needed, and is added again, last. So the next row to be tried is always the first, and
+-- once each was tried, the rows that are needed are in their old order.
 --
 --     Walks pivots n s duals end     n rows are still to be tried of a state whose model has these
 --                                    duals of an infeasibility certificate

@@ -15,9 +15,10 @@ use cache_layer::{Cache, OptFault};
 /// certificate, which is never `NotAttached`.
 pub type ConflictFault = OptFault;
 
-/// A feasible point of an attached model without an objective, or rows that can't hold together, none
-/// of which can be left out. There is room for a further number for each row. The solver is asked once
-/// for the model, and then once for each of its rows, until it gives no certificate.
+/// A feasible point of an attached model without an objective, or a conflict: rows that can't hold
+/// together, none of which can be left out. Row numbers must leave room for one more number a row. The
+/// solver is asked once for the model and then once for each of its rows, until it gives no
+/// certificate.
 pub fn find<B: Bridge>(cache: Cache<B>, pivots: u64) -> Result<Found, ConflictFault>
     requires { CanWalk (state_of cache) (length (model_in cache).rows) }
     ensures finds { Finds (state_of cache) pivots result }
@@ -27,7 +28,7 @@ pub fn find<B: Bridge>(cache: Cache<B>, pivots: u64) -> Result<Found, ConflictFa
     find_in(&mut cache, pivots)
 }
 
-/// A feasible point or a conflict, as `find` gives it, of a cache that is kept. After a conflict its
+/// A feasible point or a conflict, as by `find`, of a cache that the caller keeps. After a conflict its
 /// model has the rows of the conflict alone, in their order.
 pub fn find_in<B: Bridge>(cache: &mut Cache<B>, pivots: u64) -> Result<Found, ConflictFault>
     requires { CanWalk (state_of cache.old) (length (model_in cache.old).rows) }

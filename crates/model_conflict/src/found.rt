@@ -15,7 +15,7 @@ pub enum Found {
         x: Ratios,
     },
     /// These rows, in the model's order, can't hold together: the certificate is of them alone. None
-    /// of them can be left out: for each there is a point that meets all others of them.
+    /// of them can be left out: each has a point that meets all others of them.
     Conflict {
         rows: Names,
         certificate: Certificate,

@@ -1,6 +1,7 @@
 //! Why a model has no feasible point: rows that can't hold together, none of which can be left out
-//! (an irreducible infeasible subsystem, by the deletion filter). MathOptInterface's
-//! `compute_conflict!`, with a certificate of the rows, and for each row a point that meets all others.
+//! (an irreducible infeasible subsystem, found by the deletion filter). This is MathOptInterface's
+//! `compute_conflict!`, with a certificate of the rows and, for each row, a point that meets all
+//! others.
 #![tactic(auto)]
 
 mod finding;

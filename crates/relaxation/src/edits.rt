@@ -25,7 +25,7 @@ use user_model::{Edit, NamedFunc, Rows, Sense};
 pub type Edits = Sequence<Edit>;
 
 /// The edits that lead from a model to its relaxation: a variable of at least 0 for each side on which
-/// a scalar affine row may be missed, its coefficients, and the least sum of these variables as the
+/// a scalar affine row may be violated, its coefficient, and the least sum of these variables as the
 /// objective. None of them is refused for anything but a limit of models.
 pub fn relaxed(alloc: Global, model: &UserModel) -> Result<Edits, Memory>
     ensures edits { IfOk result (λ edits. edits ≡ relaxed_edits model.now.model) }

@@ -6,7 +6,7 @@ ghost use Rattle.relaxation.specs.Signs.{signs_of};
 use set_core::Set;
 use user_model::{Row, Rows, UserFunc};
 
-/// The slacks of a row, by the sides on which it may be missed.
+/// The slacks of a row, by the sides on which it may be violated.
 #[derive(Clone, Copy)]
 pub(crate) enum Slacks {
     /// A hard row has none.
@@ -20,7 +20,7 @@ pub(crate) enum Slacks {
 }
 
 impl Slacks {
-    /// How many slacks they are.
+    /// How many there are.
     pub(crate) fn count(self) -> usize
         ensures count { result ≡ length (signs_of self) }
         ensures few { result ≤ 2 }
@@ -33,7 +33,7 @@ impl Slacks {
     }
 }
 
-/// Whether a row may be missed: it is a scalar affine one.
+/// Whether a row is soft, so that it may be violated: it is a scalar affine one.
 pub fn is_soft(row: &Row) -> bool
     ensures { result ≡ is_soft row.now }
 {

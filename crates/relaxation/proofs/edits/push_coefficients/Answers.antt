@@ -1,4 +1,4 @@
-use Rattle.std.proofs.Common.{◌∷◌, ◌++◌, ◌∙◌, [], ap, sym}
+use Rattle.std.proofs.Common.{◌∷◌, ◌++◌, ◌∙◌, [], ap, ap₂}
 use Rattle.std.proofs.lemmas.Result.{on_ok_weaker}
 use Rattle.ratio_core.specs.Rational.{neg_ℚ, one_ℚ}
 use Rattle.relaxation.proofs.LoopLemmas.{lone_coefficient, no_coefficient, two_coefficients}
@@ -34,13 +34,19 @@ returns-in-Added c =
     c.index-names-0-in-Added.is)
     c.push_coefficient-in-Added.ensures
 
-pub returns-in-Both : goal.returns-in-Both
-returns-in-Both c =
+pub returns-in_ok-push_coefficient-in-Both : goal.returns-in_ok-push_coefficient-in-Both
+returns-in_ok-push_coefficient-in-Both c =
+    let row = c.args.row.now in
+    let edits = c.args.edits.now.items in
+    let first = c.index-names-0-in-Both.result in
     let second = c.index-names-1.result in
-    on_ok_weaker c.push_coefficient-2.result
+    on_ok_weaker c.push_coefficient-in-Both-2.result
     (λ e. e
-    ∙ ap (λ es. es ++ Coef c.args.row.now second (neg_ℚ one_ℚ) ∷ []) c.in_ok-push_coefficient.ensures
-    ∙ two_coefficients c.args.row.now c.args.edits.now.items c.args.names.now
-    (signs_of c.args.slacks) c.index-names-0.result second one_ℚ (neg_ℚ one_ℚ) c.requires
-    (ap signs_of c.in-Both.is) c.index-names-0.is c.index-names-1.is)
-    c.push_coefficient-2.ensures
+    ∙ ap₂ (λ es q. es ++ Coef row second q ∷ [])
+    (c.in_ok-push_coefficient-in-Both.ensures
+    ∙ ap (λ q. edits ++ Coef row first q ∷ []) c.one-one.ensures)
+    (c.neg-in-Both.ensures ∙ ap neg_ℚ c.one-one.ensures)
+    ∙ two_coefficients row edits c.args.names.now (signs_of c.args.slacks) first second one_ℚ
+    (neg_ℚ one_ℚ) c.requires (ap signs_of c.in-Both.is) c.index-names-0-in-Both.is
+    c.index-names-1.is)
+    c.push_coefficient-in-Both-2.ensures
