@@ -22,8 +22,6 @@ loop-own-preserved c =
           let gone = c.in-Some.ensures.steps.1 in
           let short = ap length c.in-Some.ensures.steps.0 in
           omega arith,
-      tt,
-      tt,
     )
 
 pub returns : goal.returns

@@ -8,5 +8,3 @@ invariant-loop-own l =
     (l.kept.items ++ at_hard_rows l.left (into_iter_items l.own-iterator)
     ≡ at_hard_rows l.rows.items l.fn.duals)
     × (into_iter_len l.own-iterator ≡ length (into_iter_items l.own-iterator))
-    × goal.iterator-loop-own.can_next l.own-iterator
-    × goal.iterator-loop-own.is_finite l.own-iterator
