@@ -44,16 +44,34 @@ unfolding first_refusal
 full_alone m e s p h =
     first_is_full (refusal_tests m e) s (
       fails (meets_unknown_name m e) p.known,
-      fails (meets_name_taken m e) p.free,
-      fails (meets_function_shape m e) p.shaped,
-      fails (meets_bad_dimension m e) p.dimension,
-      fails (meets_output_index m e) p.output,
-      fails (meets_bad_interval e) p.interval,
-      fails (meets_bound_already_set sets_lower has_lower_bound m e) p.lower,
-      fails (meets_bound_already_set sets_upper has_upper_bound m e) p.upper,
-      fails (meets_set_type_mismatch m e) p.of_type,
-      fails (meets_delete_not_allowed m e) p.deletable,
-      of_counts (counts m e),
+      (
+        fails (meets_name_taken m e) p.free,
+        (
+          fails (meets_function_shape m e) p.shaped,
+          (
+            fails (meets_bad_dimension m e) p.dimension,
+            (
+              fails (meets_output_index m e) p.output,
+              (
+                fails (meets_bad_interval e) p.interval,
+                (
+                  fails (meets_bound_already_set sets_lower has_lower_bound m e) p.lower,
+                  (
+                    fails (meets_bound_already_set sets_upper has_upper_bound m e) p.upper,
+                    (
+                      fails (meets_set_type_mismatch m e) p.of_type,
+                      (
+                        fails (meets_delete_not_allowed m e) p.deletable,
+                        of_counts (counts m e),
+                      ),
+                    ),
+                  ),
+                ),
+              ),
+            ),
+          ),
+        ),
+      ),
     ) h
 
 -- ---- one after another
