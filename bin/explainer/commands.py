@@ -22,7 +22,7 @@ Runs moi_edit and explains what it prints.
 --program PATH, or the variable MOI_EDIT, names another program than bin/moi_edit.
 The exit status is moi_edit's; 70 where it can't be started.
 
-moi_edit is proved; this is not. It only reads what moi_edit prints, and computes `check`'s reasons anew.
+moi_edit is proved; this is not. It only reads what moi_edit prints, and works out `check`'s reasons itself.
 """
 MARGIN = " " * 7
 

@@ -14,12 +14,12 @@ HINTS = {
     (4, "objconst"): "the objective isn't of terms: after `minvar x` write `min 1*x` first",
     (4, "reset"): "only a variable made within a bound can be reset: add a row, `bound R x <= 4`",
     (4, "free"): "the variable is free already, or was made by `vars`",
-    (4, "coef"): "the row wasn't made by `row`: `vcoef R I X Q` serves after `vrow`, and a bound's variable has no number",
+    (4, "coef"): "the row wasn't made by `row`: `vcoef R I X Q` serves after `vrow`; a bound has no number at its variable, so delete it and write `row`",
     (4, "const"): "the row wasn't made by `row`: `vconst R I Q` serves after `vrow`",
     (4, "vcoef"): "the row wasn't made by `vrow`: `coef R X Q` serves after `row`",
     (4, "vconst"): "the row wasn't made by `vrow`: `const R Q` serves after `row`",
-    (4, "set"): "the row is of vectors, whose set has no number",
-    (10, "reset"): "the new bound is of another type than the old: add it as a row, `bound R x <= 4`",
+    (4, "set"): "the row is of vectors, whose set has no number: `vconst R I Q` changes the constant of a function",
+    (10, "reset"): "the new bound is of another type than the old: add it as a row, `bound R x <= 4`, after `free x` where the old one is to go",
     (10, "set"): "the row's relation can't change: delete the row and add another",
 }
 
@@ -50,15 +50,12 @@ def meaning(number):
 
 
 def explained(line, names):
-    """The lines below a refusal: the slip, where one is found, and what the table says."""
+    """The lines below a refusal: the slip, where one is found, and else what the table says."""
     number = refusal(line.answer[0])
     if number is None:
         return [f"note:  {NOTES[word]}" for word in NOTES if line.answer[0].split(" ")[0] == word]
-    if number == 1:
-        slip = slips.explain(line)
-        return meaning(1)[:1] + [f"here:  {slip}"] if slip else meaning(1)
-    here = names.hint(line.tokens) if number == 2 else HINTS.get((number, line.tokens[0]))
-    return [f"here:  {here}"] * bool(here) + meaning(number)
+    here = slips.explain(line) if number == 1 else names.hint(line.tokens) if number == 2 else HINTS.get((number, line.tokens[0]))
+    return [f"here:  {here}"] if here else meaning(number)
 
 
 def shown(script, output, status):

@@ -155,20 +155,20 @@ def star_behind(line):
 
 def star_apart(line):
     if any(token == "*" or token.endswith("*") or token.startswith("*") for token in line.tokens[1:]):
-        return "a term stands without spaces around `*`: `2*x`"
+        return "write a term without spaces around `*`: `2*x`"
 
 
 def plus(line):
     for token in line.tokens[1:]:
         if token in ("+", "-"):
-            return "terms stand side by side, without `+` and with the sign at the number: `2*x -3*y`"
+            return "write terms side by side, without `+` and with the sign at the number: `2*x -3*y`"
         if token.startswith("+"):
             return f"numbers are written without `+`: `{token[1:]}`"
 
 
 def spaced_fraction(line):
     if any(token == "/" or re.fullmatch(r"-?[0-9]+/|/[0-9]+", token) for token in line.tokens[1:]):
-        return "a fraction stands without spaces around `/`: `1/2`"
+        return "write a fraction without spaces around `/`: `1/2`"
 
 
 def bare_variable(line):
@@ -226,7 +226,7 @@ def form_of_keyword(line):
     if form:
         return f"the form is {form}"
     if line.tokens[0] in KEYWORDS:
-        return f"`{line.tokens[0]}` stands alone"
+        return f"`{line.tokens[0]}` takes no more words"
 
 
 SLIPS = (

@@ -45,7 +45,7 @@ CASES = [
     (b"row c <= 1/0 : 1*x\n", "denominator 0"),
     (b"var x >= 170141183460469231731687303715884105728\n", "exceeds 128 bits"),
     (b"coef c x\n", "the form is coef R X Q"),
-    (b"attach now\n", "`attach` stands alone"),
+    (b"attach now\n", "`attach` takes no more words"),
 ]
 
 

@@ -17,7 +17,7 @@ loop-entry-preserved c =
           l.addresses.items c.push.new.self.items (finite.keys vars) next l.invariant.0
           c.in_ok-push.ensures.items,
       made_next number l.entry-iterator c.next.new.self c.in-Some.entry.now
-          l.numbers.items c.push-2.new.self.items (map number (finite.entries vars)) next
+          l.numbers.items c.push-in-loop-entry.new.self.items (map number (finite.entries vars)) next
           l.invariant.1
           (c.in_ok-push-2.ensures.items ∙ ap (λ q. l.numbers.items ++ q ∷ []) c.number.ensures),
     )
