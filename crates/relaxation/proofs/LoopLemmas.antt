@@ -1,12 +1,11 @@
 -- Lists that are read row by row.
 use Rattle.std.specs.Prelude.{◌≡◌, ℕ, ◌+◌, ◌≤◌, Bool, true, false, cond, List, [], ◌∷◌, ◌++◌, drop, length, take, refl}
-use Rattle.std.proofs.Common.{ap, ap₂, arith, get_or, sym, ◌∙◌}
+use Rattle.std.proofs.Common.{ap, ap₂, arith, sym, ◌∙◌}
 use Rattle.std.proofs.lemmas.List.{append-nil, append_assoc, length-drop}
 use Rattle.ratio_core.specs.Rational.{Rational}
 use Rattle.user_model.specs.declared.edit.Edit.{Edit}
-use Rattle.user_model.specs.declared.edit.Edit.TheVariants.{Coef}
 use Rattle.user_model.specs.declared.row.Row.{Row}
-use Rattle.relaxed_model.specs.Relaxed.{at_hard_rows, is_hard, is_soft, slack_violation, row_signs, slack_count, slack_violations}
+use Rattle.relaxed_model.specs.Relaxed.{at_hard_rows, is_hard, is_soft, row_signs, slack_count, slack_violation, slack_violations}
 use Rattle.relaxation.proofs.RowLemmas.{first_count, hard_length}
 use Rattle.relaxation.specs.Answers.{own_duals, own_violations}
 use Rattle.relaxation.specs.RelaxedEdits.{edits_in, edits_of_rows}
@@ -64,47 +63,6 @@ pub edits_first : (left rest : List Row) (r : Row) (names : List (List ℕ)) →
     ≡ edits_in r.name (take (length (row_signs r)) names) (row_signs r)
     ++ edits_of_rows rest (drop (length (row_signs r)) names)
 edits_first left rest r names e = ap (λ rs. edits_of_rows rs names) e
-
--- those of no slack, of one, and of two
-module _ (row : List ℕ) (edits : List Edit) where
-  pub no_coefficient : (names : List (List ℕ)) (qs : List Rational) → qs ≡ []
-      → edits ≡ edits ++ edits_in row names qs
-  no_coefficient names qs e =
-      sym (append-nil edits) ∙ ap (λ es. edits ++ es) (sym (ap (edits_in row names) e ∙ none names))
-    where
-      none : (ns : List (List ℕ)) → edits_in row ns [] ≡ []
-      none [] = refl
-      none (n ∷ ns) = refl
-
-  pub lone_coefficient : (names : List (List ℕ)) (qs : List Rational) (name : List ℕ) (q : Rational)
-      → length names ≡ length qs → qs ≡ q ∷ [] → name ≡ get_or names 0 name
-      → edits ++ Coef row name q ∷ [] ≡ edits ++ edits_in row names qs
-  lone_coefficient names qs name q size is at =
-      ap (λ es. edits ++ es) (by names (size ∙ ap length is) at ∙ sym (ap (edits_in row names) is))
-    where
-      by : (ns : List (List ℕ)) → length ns ≡ 1 → name ≡ get_or ns 0 name
-          → Coef row name q ∷ [] ≡ edits_in row ns (q ∷ [])
-      by [] size at = absurd (omega (arith, size))
-      by (n ∷ []) size at = ap (λ m. Coef row m q ∷ []) at
-      by (n ∷ m ∷ ns) size at = absurd (omega (arith, size))
-
-  pub two_coefficients : (names : List (List ℕ)) (qs : List Rational) (first second : List ℕ)
-      (p q : Rational) → length names ≡ length qs → qs ≡ p ∷ q ∷ [] → first ≡ get_or names 0 first
-      → second ≡ get_or names 1 second
-      → (edits ++ Coef row first p ∷ []) ++ Coef row second q ∷ [] ≡ edits ++ edits_in row names qs
-  two_coefficients names qs first second p q size is at_first at_second =
-      append_assoc edits (Coef row first p ∷ []) (Coef row second q ∷ [])
-      ∙ ap (λ es. edits ++ es)
-      (by names (size ∙ ap length is) at_first at_second ∙ sym (ap (edits_in row names) is))
-    where
-      by : (ns : List (List ℕ)) → length ns ≡ 2 → first ≡ get_or ns 0 first
-          → second ≡ get_or ns 1 second
-          → Coef row first p ∷ Coef row second q ∷ [] ≡ edits_in row ns (p ∷ q ∷ [])
-      by [] size at_first at_second = absurd (omega (arith, size))
-      by (n ∷ []) size at_first at_second = absurd (omega (arith, size))
-      by (n ∷ m ∷ []) size at_first at_second =
-          ap₂ (λ a b. Coef row a p ∷ Coef row b q ∷ []) at_first at_second
-      by (n ∷ m ∷ k ∷ ns) size at_first at_second = absurd (omega (arith, size))
 
 -- ---- a row more
 
