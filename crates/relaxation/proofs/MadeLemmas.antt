@@ -26,7 +26,6 @@ use Rattle.aff_core.specs.Rising.{RiseStrictly}
 use Rattle.aff_core.specs.declared.sense.Sense.TheVariants.{Min}
 use Rattle.named_aff.specs.declared.terms.NamedTerm.{NamedTerm}
 use Rattle.model_laws.specs.Located.{free_variable}
-use Rattle.user_model.specs.declared.function.UserFunc.TheVariants.{Affine}
 use Rattle.user_model.specs.declared.group.Group.{Group}
 use Rattle.user_model.specs.declared.group.GroupVar.{GroupVar}
 use Rattle.user_model.specs.declared.objective.Objective.TheVariants as objective

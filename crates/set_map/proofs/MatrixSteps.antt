@@ -1,5 +1,5 @@
 -- Square matrices: the lengths of their rows and columns, and rows of the unit matrix so far.
-use Rattle.std.specs.Prelude.{◌≡◌, ◌↔◌, ◌==◌, ℕ, ◌+◌, ◌<◌, ◌≤◌, Bool, cond, replicate, true, false, ◌&&◌, IsTrue, List, [], ◌∷◌, ◌++◌, All, length, map, take, slice_index_or, refl}
+use Rattle.std.specs.Prelude.{◌≡◌, ◌↔◌, ◌==◌, ℕ, ◌+◌, ◌<◌, ◌≤◌, Bool, cond, not, replicate, true, false, ◌&&◌, IsTrue, List, [], ◌∷◌, ◌++◌, All, length, map, take, slice_index_or, refl}
 use Rattle.std.specs.List.{range_with_len}
 use Rattle.std.proofs.Common.{sym, ◌∙◌, ap, ap₂, arith, inl, inr, subst, get_or, true≢false}
 use Rattle.std.proofs.lemmas.Bool.{cases_Bool, eq-eqb, eqb-true}
@@ -8,7 +8,8 @@ use Rattle.std.proofs.lemmas.List.{get_or-replicate, get_or-set_other, get_or_de
 use Rattle.std.proofs.lemmas.List.Elements.{All-map, All-weaker}
 use Rattle.std.proofs.lemmas.List.FromFn.{get_or-map-range_with_len, map-range_with_len_more}
 use Rattle.map_laws.specs.LoopLaws.{map-take_more}
-use Rattle.ratio_core.specs.Rational.{Rational, one_ℚ, zero_ℚ}
+use Rattle.ratio_core.specs.Rational.{Rational, one_ℚ, rational_eq, zero_ℚ}
+use Rattle.ratio_core.specs.RationalLaws.{rational_eq_Decides}
 use Rattle.set_map.specs.Matrices.{AreInverse, ArePair, IsSquare, Matrix, column, product, transposed, unit, unit_number, unit_row}
 
 pub within : (n : ℕ) (m : Matrix) (i : ℕ) → IsSquare n m → i < n → All (λ row. i < length row) m
@@ -134,9 +135,23 @@ module _ (row : List Rational) (n i : ℕ) (within : i < n) where
   pub all_numbers : (j : ℕ) → length row ≡ n → length row ≤ j
       → take j row ≡ take j (unit_row n i) → row ≡ unit_row n i
   all_numbers j long all so_far =
-      sym (take_all row j all) ∙ so_far
-      ∙ take_all (unit_row n i) j
+      sym (take_all j row all) ∙ so_far
+      ∙ take_all j (unit_row n i)
       (subst (λ k. k ≤ j) (long ∙ sym (length-unit_row n i)) all)
+
+-- ---- a test of two numbers
+
+pub same_from_test : (p q : Rational) (b : Bool) → b ≡ not (rational_eq p q) → b ≡ false → p ≡ q
+same_from_test p q b is failed = (rational_eq_Decides p q).0 (by (rational_eq p q) refl)
+  where
+    by : (t : Bool) → rational_eq p q ≡ t → t ≡ true
+    by true e = refl
+    by false e = absurd (true≢false (sym (ap not e) ∙ sym is ∙ failed))
+
+pub other_from_test : (p q : Rational) (b : Bool) → b ≡ not (rational_eq p q) → b ≡ true
+    → ¬ (p ≡ q)
+other_from_test p q b is passed e =
+    true≢false (sym passed ∙ is ∙ ap not ((rational_eq_Decides p q).1 e))
 
 -- ---- both products
 

@@ -1,5 +1,5 @@
-use Rattle.std.proofs.Common.{◌≤◌, ap, arith, drop, length, subst, sym, take, ◌∙◌}
-use Rattle.relaxation.proofs.LoopLemmas.{edits_more, own_size, rest_all}
+use Rattle.std.proofs.Common.{◌≤◌, ap, drop, length, subst, sym, take, ◌∙◌}
+use Rattle.relaxation.proofs.LoopLemmas.{edits_more, own_size}
 use Rattle.relaxation.specs.Signs.{signs_of}
 use Rattle.relaxation.proofs.edits.push_rows.Goals as goal
 

@@ -1,5 +1,5 @@
-use Rattle.std.proofs.Common.{◌≤◌, ap, arith, drop, length, subst, sym, take, ◌∙◌}
-use Rattle.relaxation.proofs.LoopLemmas.{violations_more, own_size, rest_all}
+use Rattle.std.proofs.Common.{◌≤◌, ap, drop, length, subst, sym, take, ◌∙◌}
+use Rattle.relaxation.proofs.LoopLemmas.{violations_more, own_size}
 use Rattle.relaxation.proofs.reading.violations.Goals as goal
 
 pub split_at-requires : goal.split_at-requires
