@@ -1,6 +1,6 @@
 -- A run that gives one answer, and then ends with it, is the run of its command.
 use Rattle.std.specs.Prelude.{◌≡◌, ◌≢◌, ◌⊎◌, ℕ, List, [], ◌∷◌, IsSome, Option, Some, None, refl}
-use Rattle.std.proofs.Common.{inl, inr, subst, sym, ◌∙◌}
+use Rattle.std.proofs.Common.{inl, inr, subst, sym, true≢false, ◌∙◌}
 use Rattle.std.proofs.lemmas.Option.{none-some}
 use Rattle.command_run.specs.Run.{Asked, IsRun, IsRunOnFile, Seen}
 use Rattle.file_command.specs.Ending.{CanBeFetched, EndsWith, IsSound, IsThis}
@@ -100,7 +100,7 @@ module _ {C : Type 0} (answers : C → Answer → Type 0) (asks_for : C → Aske
   -- memory ran out before it was read
   pub out_of_memory : (command : Option C) → IsSome command → (old : Seen)
       → IsRun command answers asks_for can_be_fetched old old status.Memory
-  out_of_memory None some old = absurd some
+  out_of_memory None some old = absurd (true≢false (sym some))
   out_of_memory (Some c) some old = record {
     usage = (λ e. absurd (memory_usage e), λ e. absurd (none-some c (sym e)));
     ends = inl refl;
@@ -125,7 +125,8 @@ module _ {C : Type 0} (file : C → List ℕ) (says : C → ModelValue → Answe
   abbrev pub FileCanBeFetched : C → ℕ → ℕ → Type 0
   FileCanBeFetched c = CanBeFetched told (file c)
 
-  file_ends_well : (c : C) → SaysNoFault (says c) → EndsWell FileAnswers AsksForFile FileCanBeFetched c
+  file_ends_well : (c : C) → SaysNoFault (says c)
+      → EndsWell FileAnswers AsksForFile FileCanBeFetched c
   file_ends_well c plain end old new said read write fetched sound =
       ends_well (FileAnswers c) end old.written new.written told (file c) old.reads new.reads
       old.writes new.writes said (file_fails (says c) plain told (file c))

@@ -1,8 +1,8 @@
 -- How the command of a program runs.
 --
 --     IsRun          by what may be answered to the command, what it asks for, and when nothing speaks
---                    against fetching that
---     IsRunOnFile    the same of a command that asks for the file of a model alone
+--                    against fetching what it asks for
+--     IsRunOnFile    a command that asks for the file of a model alone
 use Rattle.std.specs.Prelude.{◌≡◌, ◌≢◌, ◌⊎◌, ◌↔◌, ℕ, List, [], ◌∷◌, IfSome, None, Option}
 use Rattle.file_command.specs.Ending.{CanBeFetched, EndsWith, IsSound}
 use Rattle.file_command.specs.Loading.{AnswersFile}
@@ -19,7 +19,7 @@ use Rattle.user_model.specs.Model.{ModelValue}
 abbrev pub Asked : Type 0
 Asked = Option (List (List ℕ))
 
--- what is seen of a shelf and of a sink: the files that were asked for and the faults of fetches, the
+-- what is seen of a shelf and a sink: the files that were asked for and the faults of fetches, the
 -- text that was written and the faults of writes
 pub record Seen : Type 0 where
   pub asked : Asked
@@ -55,4 +55,5 @@ abbrev pub IsRunOnFile : {C : Type 0} → Option C → (C → List ℕ)
     → (C → ModelValue → Answer → Type 0) → Told → Seen → Seen → Status → Type 0
 IsRunOnFile command file says told old new end =
     IsRun command (λ c. AnswersFile (says c) told (file c))
-    (λ c before after. AsksFor before after (file c ∷ [])) (λ c. CanBeFetched told (file c)) old new end
+    (λ c before after. AsksFor before after (file c ∷ [])) (λ c. CanBeFetched told (file c)) old new
+    end
