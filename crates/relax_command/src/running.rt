@@ -33,7 +33,7 @@ pub fn run<H: Shelf, O: Sink, B: Bridge>(
     requires once { IsTrue (occur_once (families_of (prelude.map B.state bridges.items))) }
     requires kept { All (λ s. s.kept ≡ finite.empty) (prelude.map B.state bridges.items) }
 
-    // What is written is the answer to the file's model, whole where the run ended; each status comes
+    // What is written is the answer to the file's model, whole where the run ended. Each status comes
     // for its cause alone.
     ensures runs { let setting = standard_by (prelude.map B.state bridges.items) in
         let told = told_by (H.files shelf.old) (H.sure shelf.old) in

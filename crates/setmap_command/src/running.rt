@@ -37,9 +37,9 @@ pub fn run<H: Shelf, O: Sink, B: Bridge>(
     requires once { IsTrue (occur_once (families_of (prelude.map B.state bridges.items))) }
     requires kept { All (λ s. s.kept ≡ finite.empty) (prelude.map B.state bridges.items) }
 
-    // What is written is the answer to the files, whole where the run ended; each status comes for its
-    // cause alone. The model's file is asked for once, and then the maps' once, where the model was
-    // made.
+    // What is written is the answer to the files, whole where the run ended. Each status comes for its
+    // cause alone. The model's file is asked for once, and then that of the maps once, where the model
+    // was made.
     ensures runs { let setting = standard_by (prelude.map B.state bridges.items) in
         let told = told_by (H.files shelf.old) (H.sure shelf.old) in
         IsRun (command_in (texts words.now))

@@ -18,7 +18,8 @@ returns-in-Ok-Some-clause-runs g c =
     let new = seen (g.H.Shelf.asked c.answer.new.shelf) (g.H.Shelf.faults c.answer.new.shelf)
     (g.O.Sink.written c.end_with.new.output) (g.O.Sink.faults c.end_with.new.output) in
     ran_on_file (λ (name : List ℕ). name) (λ _. Says setting) told _ c.in-Ok-Some.name
-    (sym c.in-Ok-Some.ensures.said ∙ c.in-Ok-Some.field-0-is) c.answer.result old new c.end_with.result
+    (sym c.in-Ok-Some.ensures.said ∙ c.in-Ok-Some.field-0-is) c.answer.result old new
+    c.end_with.result
     (record {
       says = c.answer.ensures.answers;
       asks = c.answer.ensures.asks;
@@ -40,7 +41,8 @@ returns-in-Ok-None-clause-runs g c =
     let told = told_by (g.H.Shelf.files c.args.shelf.now) (g.H.Shelf.sure c.args.shelf.now) in
     let old = seen (g.H.Shelf.asked c.args.shelf.now) (g.H.Shelf.faults c.args.shelf.now)
     (g.O.Sink.written c.args.output.now) (g.O.Sink.faults c.args.output.now) in
-    no_file (λ (name : List ℕ). name) (λ _. Says setting) told _ (sym c.in-Ok-None.ensures.said ∙ c.in-Ok-None.field-0-is) old
+    no_file (λ (name : List ℕ). name) (λ _. Says setting) told _
+    (sym c.in-Ok-None.ensures.said ∙ c.in-Ok-None.field-0-is) old
 
 pub returns-in-Err-clause-runs : goal.returns-in-Err-clause-runs
 returns-in-Err-clause-runs g c =

@@ -24,7 +24,8 @@ returns-in-Ok-Some-clause-runs g c =
     ran (λ (said : Command). AnswersFile (Says setting told said.maps) told said.model)
     (λ said before after. AsksFiles told said.model said.maps (AsksFor before after))
     (λ said. CanBothBeFetched told said.model said.maps) _ c.in-Ok-Some.command
-    (sym c.in-Ok-Some.ensures.said ∙ c.in-Ok-Some.field-0-is) c.answer.result old new c.end_with.result
+    (sym c.in-Ok-Some.ensures.said ∙ c.in-Ok-Some.field-0-is) c.answer.result old new
+    c.end_with.result
     (record {
       says = c.answer.ensures.answers;
       asks = c.answer.ensures.asks;
@@ -35,8 +36,8 @@ returns-in-Ok-Some-clause-runs g c =
       sound_writes = c.end_with.ensures.sound;
     })
     (λ end old new ends read write can sound.
-    both_end_well setting told command.model command.maps end old.written new.written old.reads new.reads old.writes
-    new.writes ends read write can sound)
+    both_end_well setting told command.model command.maps end old.written new.written old.reads
+    new.reads old.writes new.writes ends read write can sound)
 
 pub returns-in-Ok-Some-clause-untouched : goal.returns-in-Ok-Some-clause-untouched
 returns-in-Ok-Some-clause-untouched g c = λ e.
@@ -50,7 +51,8 @@ returns-in-Ok-None-clause-runs g c =
     (g.O.Sink.written c.args.output.now) (g.O.Sink.faults c.args.output.now) in
     no_command (λ (said : Command). AnswersFile (Says setting told said.maps) told said.model)
     (λ said before after. AsksFiles told said.model said.maps (AsksFor before after))
-    (λ said. CanBothBeFetched told said.model said.maps) _ (sym c.in-Ok-None.ensures.said ∙ c.in-Ok-None.field-0-is) old
+    (λ said. CanBothBeFetched told said.model said.maps) _
+    (sym c.in-Ok-None.ensures.said ∙ c.in-Ok-None.field-0-is) old
 
 pub returns-in-Err-clause-runs : goal.returns-in-Err-clause-runs
 returns-in-Err-clause-runs g c =
