@@ -1,5 +1,5 @@
 -- What an optimise of a state without an objective says.
-use Rattle.std.proofs.Common.{◌≡◌, ◌⊎◌, ℕ, Bool, true, false, List, length, inl, inr, refl, subst, sym, ◌∙◌, Ok, Err}
+use Rattle.std.proofs.Common.{◌≡◌, ℕ, true, false, inl, inr, subst, sym, ◌∙◌, Ok, Err}
 use Rattle.std.specs.Prelude.{Result}
 use Rattle.cache_layer.specs.Outcome.{IsOptimized}
 use Rattle.cache_layer.specs.State.{State}
@@ -10,13 +10,12 @@ use Rattle.certificates.specs.GoodLaws.{bounded_without_objective}
 use Rattle.certificates.specs.declared.certificate.Certificate.{Certificate}
 use Rattle.certificates.specs.declared.certificate.Certificate.TheVariants.{Infeasible, Optimal, Unbounded}
 use Rattle.model_conflict.specs.Optima.{IsBounded, IsOptimumOf, TellsOptimum}
-use Rattle.model_conflict.specs.Walk.{Finds, FindsFrom, Gives, WalksAll, found_as, infeasible_by}
+use Rattle.model_conflict.specs.Walk.{Finds, FindsFrom, Gives, found_as, infeasible_by}
 use Rattle.model_conflict.specs.declared.found.Found.{Found}
 use Rattle.model_conflict.specs.declared.found.Found.TheVariants.{Conflict, Feasible}
 use Rattle.model_conflict.specs.declared.optimizing.Duals.{Duals}
 use Rattle.model_conflict.specs.declared.optimizing.Optimum.{Optimum}
 use Rattle.model_conflict.specs.declared.optimizing.Optimum.TheVariants as optimum
-use Rattle.ratio_core.specs.Rational.{Rational}
 use Rattle.user_model.specs.Model.{ModelValue}
 use Rattle.user_model.specs.declared.objective.Objective.TheVariants.{Feasibility}
 

@@ -1,6 +1,6 @@
 -- What a walk shows: the rows that are needed are some of the model's, in its order; the last duals
 -- are theirs alone; and each one's point meets all others of them.
-use Rattle.std.proofs.Common.{◌≡◌, ℕ, zero, suc, List, [], ◌∷◌, ◌++◌, length, map, ap, ap₂, append-nil, append_assoc, arith, refl, subst, sym, ◌∙◌, Ok, Err}
+use Rattle.std.proofs.Common.{◌≡◌, ℕ, List, [], ◌∷◌, ◌++◌, length, map, ap, ap₂, append-nil, append_assoc, arith, refl, subst, sym, ◌∙◌, Ok, Err}
 use Rattle.std.specs.Prelude.{All, IfOk, Result}
 use Rattle.std.proofs.lemmas.List.{map-append}
 use Rattle.std.proofs.lemmas.List.Elements.{All-append, All-cons, All-head, All-nil, All-tail}
@@ -11,8 +11,8 @@ use Rattle.certificates.specs.Feasible.{IsFeasible}
 use Rattle.certificates.specs.Good.{IsInfeasible}
 use Rattle.conflict_laws.specs.Contents.{AreSame, RowMeets, all_same, feasible_with, infeasible_with, plain}
 use Rattle.conflict_laws.specs.Rotated.{rotated_infeasible}
-use Rattle.model_conflict.specs.Conflict.{EachIsNeeded, IsConflict, IsSublist, NeededRow, Shows, left, none, rows_of, taken, with_rows_alone}
-use Rattle.model_conflict.specs.Walk.{End, Finds, Walks, WalksAll, ended, found_as, left_out, needed, stopped, rotated, with_kept, with_last, with_rows}
+use Rattle.model_conflict.specs.Conflict.{EachIsNeeded, IsSublist, NeededRow, Shows, left, none, rows_of, taken, with_rows_alone}
+use Rattle.model_conflict.specs.Walk.{End, Finds, Walks, WalksAll, ended, found_as, left_out, needed, stopped, with_kept, with_last, with_rows}
 use Rattle.model_conflict.specs.declared.optimizing.Duals.{Duals}
 use Rattle.model_conflict.specs.declared.found.Found.{Found}
 use Rattle.model_conflict.specs.declared.found.Found.TheVariants.{Conflict, Feasible}

@@ -4,7 +4,7 @@ use Rattle.std.specs.Prelude.{All, IfErr, IfOk, IsErrAnd, OnOk, Result}
 use Rattle.std.proofs.lemmas.List.Elements.{All-head}
 use Rattle.cache_layer.specs.Cached.{Cached, Stands, model_in, state_of}
 use Rattle.cache_layer.specs.Outcome.{IsOptimized}
-use Rattle.cache_layer.specs.State.{Bridging, State, with_model}
+use Rattle.cache_layer.specs.State.{Bridging, State}
 use Rattle.cache_layer.specs.declared.fault.OptFault.{OptFault}
 use Rattle.cache_layer.specs.declared.fault.OptFault.TheVariants as fault
 use Rattle.certificates.specs.declared.certificate.Certificate.TheVariants.{Optimal}

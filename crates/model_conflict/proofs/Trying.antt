@@ -1,6 +1,6 @@
 -- The edits by which a row is tried are accepted, their models are bridged, and they lead to the
 -- states of the walk.
-use Rattle.std.proofs.Common.{◌≡◌, ℕ, ◌+◌, ◌≤◌, ◌<◌, List, [], ◌∷◌, ◌++◌, None, ap, arith, refl, subst, sym, ◌∙◌}
+use Rattle.std.proofs.Common.{◌≡◌, ◌≤◌, ◌<◌, List, ◌∷◌, None, ap, arith, refl, subst, sym, ◌∙◌}
 use Rattle.std.specs.Prelude.{All}
 use Rattle.std.proofs.lemmas.List.Elements.{All-head, All-weaker}
 use Rattle.aff_core.specs.Address.{Address}
@@ -11,19 +11,15 @@ use Rattle.cache_layer.specs.State.{Bridging, State, with_model}
 use Rattle.model_conflict.specs.Steps.{CanWalk, IsTrialOf, IsFirstRow}
 use Rattle.model_conflict.specs.Walk.{with_last, with_rows}
 use Rattle.model_conflict.specs.declared.trials.Trial.{Trial}
-use Rattle.mof_laws.specs.EditLaws.{row_edit}
 use Rattle.mof_laws.specs.VariableLaws.{HasVariableAt}
 use Rattle.mof_round_trip_laws.specs.Functions.{HasTerms, HasVariable, IsPlaced}
-use Rattle.mof_write.specs.Written.{naming}
-use Rattle.ratio_core.specs.Rational.{Rational}
 use Rattle.row_again_laws.specs.AddedAgain.{added, addition_accepted, this_placed}
 use Rattle.row_again_laws.specs.Deleted.{deleted, deletion_accepted}
-use Rattle.user_model.specs.Edited.{add_row, edited}
+use Rattle.user_model.specs.Edited.{edited}
 use Rattle.user_model.specs.Limits.{LAST_NUMBER}
 use Rattle.user_model.specs.Model.{ModelValue}
 use Rattle.user_model.specs.Refusals.{first_refusal}
 use Rattle.user_model.specs.Valid.{IsValid}
-use Rattle.user_model.specs.declared.edit.Edit.TheVariants as edit
 use Rattle.user_model.specs.declared.function.UserFunc.{UserFunc}
 use Rattle.user_model.specs.declared.function.UserFunc.TheVariants.{Affine, AffineVec, Plain, PlainVec}
 use Rattle.user_model.specs.declared.row.Row.{Row}

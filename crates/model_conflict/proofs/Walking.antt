@@ -1,18 +1,16 @@
 -- A walk that has come so far, and one row more.
-use Rattle.std.proofs.Common.{◌≡◌, ℕ, zero, suc, ◌+◌, ◌≤◌, ◌<◌, List, [], ◌∷◌, ◌++◌, length, map, ap, append-nil, append_assoc, arith, refl, subst, sym, ◌∙◌, Ok, Err}
-use Rattle.std.specs.Prelude.{Result}
+use Rattle.std.proofs.Common.{◌≡◌, ℕ, suc, ◌+◌, ◌≤◌, ◌<◌, List, [], ◌∷◌, ◌++◌, length, map, ap, append-nil, append_assoc, arith, refl, subst, sym, ◌∙◌, Ok, Err}
 use Rattle.std.proofs.lemmas.List.{map-append}
 use Rattle.cache_layer.specs.State.{State}
 use Rattle.cache_layer.specs.declared.fault.OptFault.{OptFault}
 use Rattle.cache_layer.specs.declared.fault.OptFault.TheVariants as fault
 use Rattle.model_conflict.specs.Conflict.{NeededRow, rows_of}
 use Rattle.model_conflict.specs.Steps.{CanWalk, IsFirstRow, Tries, TriesFirst, left_out as stays_out, needed as is_needed}
-use Rattle.model_conflict.specs.Walk.{End, FindsFrom, Walks, ended, found_as, infeasible_by, left_out, needed, stopped, rotated, with_kept, with_last, with_rows}
+use Rattle.model_conflict.specs.Walk.{End, FindsFrom, Walks, ended, infeasible_by, left_out, needed, stopped, with_kept, with_last, with_rows}
 use Rattle.model_conflict.specs.declared.found.Found.TheVariants.{Conflict}
 use Rattle.model_conflict.specs.declared.optimizing.Duals.{Duals}
 use Rattle.model_conflict.specs.declared.trials.Walked.{Walked}
 use Rattle.ratio_core.specs.Rational.{Rational}
-use Rattle.user_model.specs.Limits.{LAST_NUMBER}
 use Rattle.user_model.specs.declared.row.Row.{Row}
 
 -- these rows were needed before

@@ -1,7 +1,7 @@
 -- What shows why a model has no feasible point: a conflict is a list of its rows that can't hold
 -- together, none of which can be left out. So it is irreducible: for each of its rows there is a
 -- point that meets all others.
-use Rattle.std.specs.Prelude.{◌≡◌, ℕ, List, [], ◌∷◌, ◌++◌, map}
+use Rattle.std.specs.Prelude.{◌≡◌, List, [], ◌∷◌, ◌++◌, map}
 use Rattle.certificates.specs.Feasible.{IsFeasible}
 use Rattle.certificates.specs.Good.{Good}
 use Rattle.certificates.specs.declared.certificate.Certificate.{Certificate}

@@ -1,11 +1,11 @@
 -- The steps of a walk, as the code makes them.
-use Rattle.std.specs.Prelude.{◌≡◌, ◌≤◌, ◌+◌, ◌-◌, ◌⊎◌, ℕ, true, List, [], ◌∷◌, ◌++◌, Result, Ok, Err, length, map}
+use Rattle.std.specs.Prelude.{◌≡◌, ◌≤◌, ◌+◌, ℕ, true, List, [], ◌∷◌, ◌++◌, Result, Ok, Err}
 use Rattle.cache_layer.specs.Outcome.{IsOptimized}
 use Rattle.cache_layer.specs.State.{State}
 use Rattle.cache_layer.specs.declared.fault.OptFault.{OptFault}
 use Rattle.cache_layer.specs.declared.fault.OptFault.TheVariants.{Memory, NotAttached}
 use Rattle.certificates.specs.declared.certificate.Certificate.TheVariants.{Optimal}
-use Rattle.model_conflict.specs.Walk.{End, Gives, Walks, infeasible_by, rotated, with_last, with_rows}
+use Rattle.model_conflict.specs.Walk.{Gives, infeasible_by, rotated, with_last, with_rows}
 use Rattle.model_conflict.specs.declared.optimizing.Duals.{Duals}
 use Rattle.model_conflict.specs.declared.trials.Trial.{Trial}
 use Rattle.model_conflict.specs.declared.trials.Walked.{Walked}

@@ -7,7 +7,7 @@
 --                                    duals of an infeasibility certificate
 --     Finds s pivots result          what is found of the whole model, by a walk over all its rows
 --                                    where it has no feasible point
-use Rattle.std.specs.Prelude.{◌≡◌, ◌⊎◌, ℕ, zero, suc, List, [], ◌∷◌, ◌++◌, Result, Ok, Err, length, map}
+use Rattle.std.specs.Prelude.{◌≡◌, ◌⊎◌, ℕ, suc, List, [], ◌∷◌, Result, Ok, Err, length, map}
 use Rattle.cache_layer.specs.Outcome.{IsOptimized}
 use Rattle.cache_layer.specs.State.{State, with_model}
 use Rattle.cache_layer.specs.declared.fault.OptFault.{OptFault}
