@@ -6,8 +6,8 @@ use Rattle.certificates.specs.Points.{variables_of}
 use Rattle.certificates.specs.declared.certificate.Certificate.{Certificate}
 use Rattle.certificates.specs.declared.certificate.Certificate.TheVariants.{Infeasible, Optimal, Unbounded}
 use Rattle.conflict_command.specs.Says.{SaysFound}
-use Rattle.conflict_command.specs.Text.{found_text, rows_text, without_text}
-use Rattle.model_conflict.specs.Conflict.{Shows, rows_of}
+use Rattle.conflict_command.specs.Text.{conflict_text, feasible_text, found_text, rows_text, without_text}
+use Rattle.model_conflict.specs.Conflict.{Shows, conflict_of, rows_of}
 use Rattle.model_conflict.specs.Walk.{NamesRows}
 use Rattle.model_conflict.specs.declared.found.Found.{Found}
 use Rattle.model_conflict.specs.declared.found.Found.TheVariants.{Conflict, Feasible}
@@ -80,7 +80,21 @@ same_text variables rows others (Infeasible gap duals vars) e =
     (same_lines rows others duals e)
 same_text variables rows others (Unbounded x d) e = refl
 
+same_rows : (variables : List GroupVar) (rows others : List Row) (names : List (List ℕ))
+    (certificate : Certificate) (points : List (List Rational))
+    → map name_of rows ≡ map name_of others
+    → conflict_text variables rows names certificate points
+    ≡ conflict_text variables others names certificate points
+same_rows variables rows others names certificate points e =
+    ap (λ text. rows_text names ++ text ++ flat_map (without_text variables) (zip names points))
+    (same_text variables rows others certificate e)
+
 -- ---- what is found, in the names of a model that has the rows of a conflict alone
+
+same_names : (names others : List (List ℕ)) (c d : Certificate)
+    (points others_points : List (List Rational))
+    → Conflict names c points ≡ Conflict others d others_points → names ≡ others
+same_names names others c d points others_points e = cc
 
 pub says_found : (old new : ModelValue) (found : Found) (answer : Answer) → Shows old found
     → new.groups ≡ old.groups → NamesRows new found
@@ -88,15 +102,16 @@ pub says_found : (old new : ModelValue) (found : Found) (answer : Answer) → Sh
     → SaysFound old (Ok found) answer
 says_found old new (Feasible x) answer shows groups names told = (
   shows,
-  told ∙ ap (λ gs. Printed (found_text (variables_of gs) [] (Feasible x))) groups,
+  told ∙ ap (λ gs. Printed (feasible_text (variables_of gs) x)) groups,
 )
 says_found old new (Conflict rows certificate points) answer shows groups names told = (
-  shows,
+  shows.0,
+  shows.1,
+  shows.2,
   told
-      ∙ ap (λ gs. Printed (found_text (variables_of gs) new.rows
-      (Conflict rows certificate points))) groups
-      ∙ ap (λ text. Printed (rows_text rows ++ text
-      ++ flat_map (without_text (variables_of old.groups)) (zip rows points)))
-      (same_text (variables_of old.groups) new.rows (rows_of shows.0) certificate
-      (sym names ∙ shows.2)),
+      ∙ ap (λ gs. Printed (conflict_text (variables_of gs) new.rows rows certificate points)) groups
+      ∙ ap Printed (same_rows (variables_of old.groups) new.rows (rows_of shows.0) rows certificate
+      points
+      (sym names ∙ same_names rows (map name_of (rows_of shows.0)) certificate certificate points
+      _ shows.2)),
 )

@@ -85,7 +85,7 @@ listed : (o : Option Edit) → IsSome_of_file o → All IsOfFile (option_to_list
 listed None h = All-nil IsOfFile
 listed (Some e) h = All-cons IsOfFile e [] h (All-nil IsOfFile)
 
--- what stands at a place of such a list
+-- what is at a place of such a list
 one_there : (left : List (Option Edit)) (g : ℕ) → All IsSome_of_file left
     → IsSome_of_file (option_and_then (λ group. group) (slice_get left g))
 one_there [] g h = tt

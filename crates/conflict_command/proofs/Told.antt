@@ -17,9 +17,7 @@ use Rattle.lists.specs.declared.memory.Memory.{Memory as NoMemory}
 use Rattle.model_command.specs.Alone.{alone}
 use Rattle.model_command.specs.Telling.{optimize_fault_answer}
 use Rattle.model_conflict.specs.Conflict.{Shows}
-use Rattle.model_conflict.specs.Faults.{opt_fault}
 use Rattle.model_conflict.specs.Walk.{Finds, NamesRows}
-use Rattle.model_conflict.specs.declared.fault.ConflictFault.{ConflictFault}
 use Rattle.model_conflict.specs.declared.found.Found.{Found}
 use Rattle.model_store.specs.Store.{Stored}
 use Rattle.report_core.specs.declared.answer.Answer.{Answer}
@@ -48,12 +46,11 @@ module _ (s : State) (told : Result Answer NoMemory) where
       (subst (λ (u : Stored). IfOk told (λ answer. answer
       ≡ Printed (found_text (variables_of u.model.groups) u.model.rows found))) is h)
 
-  pub says_why : (why : ConflictFault) (given : OptFault) → Finds s pivots (Err why)
-      → given ≡ opt_fault why → IfOk told (λ answer. answer ≡ optimize_fault_answer given)
-      → IfOk told (SaysSought s)
-  says_why why given finds is =
-      IfOk-weaker told (λ answer. answer ≡ optimize_fault_answer given) (SaysSought s)
-      (λ answer e. (Err why, finds, e ∙ ap optimize_fault_answer is))
+  pub says_why : (why : OptFault) → Finds s pivots (Err why)
+      → IfOk told (λ answer. answer ≡ optimize_fault_answer why) → IfOk told (SaysSought s)
+  says_why why finds =
+      IfOk-weaker told (λ answer. answer ≡ optimize_fault_answer why) (SaysSought s)
+      (λ answer e. (Err why, finds, e))
 
 -- ---- a model
 

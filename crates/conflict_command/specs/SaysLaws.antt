@@ -2,28 +2,22 @@
 use Rattle.std.specs.Prelude.{◌≡◌, ℕ, None, Result, Ok, Err, refl}
 use Rattle.cache_layer.specs.State.{State}
 use Rattle.cache_layer.specs.declared.fault.AttachFault.{AttachFault}
+use Rattle.cache_layer.specs.declared.fault.OptFault.{OptFault}
 use Rattle.conflict_command.specs.Says.{Says, SaysAttached, SaysFound}
 use Rattle.file_command.specs.LoadingLaws.{SaysNoFault, same_fault, shelf_fault}
 use Rattle.fresh_bridging.specs.TheRules.{Setting}
-use Rattle.model_command.specs.Telling.{optimize_fault_answer}
-use Rattle.model_command.specs.TellingLaws.{attach_fault}
-use Rattle.model_conflict.specs.Faults.{opt_fault}
-use Rattle.model_conflict.specs.declared.fault.ConflictFault.{ConflictFault}
-use Rattle.model_conflict.specs.declared.fault.ConflictFault.TheVariants as fault
+use Rattle.model_command.specs.TellingLaws.{attach_fault, optimize_fault}
 use Rattle.model_conflict.specs.declared.found.Found.{Found}
+use Rattle.model_conflict.specs.declared.found.Found.TheVariants.{Conflict, Feasible}
 use Rattle.report_core.specs.declared.answer.Answer.{Answer}
 use Rattle.user_model.specs.Model.{ModelValue}
 
-found_fault : (why : ConflictFault) → shelf_fault (optimize_fault_answer (opt_fault why)) ≡ None
-found_fault (fault.TooLarge cells) = refl
-found_fault (fault.Overflow place) = refl
-found_fault (fault.Limit n) = refl
-found_fault fault.Memory = refl
-
-found_plain : (model : ModelValue) (result : Result Found ConflictFault) (answer : Answer)
+found_plain : (model : ModelValue) (result : Result Found OptFault) (answer : Answer)
     → SaysFound model result answer → shelf_fault answer ≡ None
-found_plain model (Ok found) answer h = same_fault answer _ h.1 refl
-found_plain model (Err why) answer h = same_fault answer _ h (found_fault why)
+found_plain model (Ok (Feasible x)) answer h = same_fault answer _ h.1 refl
+found_plain model (Ok (Conflict names certificate points)) answer h =
+    same_fault answer _ h.3 refl
+found_plain model (Err why) answer h = same_fault answer _ h (optimize_fault why)
 
 attached_plain : (made : Result ℕ AttachFault) (s : State) (answer : Answer)
     → SaysAttached made s answer → shelf_fault answer ≡ None

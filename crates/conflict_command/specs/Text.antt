@@ -11,6 +11,7 @@
 use Rattle.std.specs.Prelude.{ℕ, List, ◌++◌, codes, decimal, flat_map, length}
 use Rattle.std.specs.List.{zip}
 use Rattle.cert_text.specs.Text.{certificate_text}
+use Rattle.certificates.specs.declared.certificate.Certificate.{Certificate}
 use Rattle.file_command.specs.Numbers.{numbers_text}
 use Rattle.model_conflict.specs.declared.found.Found.{Found}
 use Rattle.model_conflict.specs.declared.found.Found.TheVariants.{Conflict, Feasible}
@@ -35,8 +36,18 @@ abbrev pub without_text : List GroupVar → List ℕ × List Rational → List �
 without_text variables entry =
     named_line (codes "without ") entry.0 ++ numbers_text (codes "primal ") variables entry.1
 
-abbrev pub found_text : List GroupVar → List Row → Found → List ℕ
-found_text variables rows (Feasible x) = codes "feasible" ++ newline ++ numbers_text (codes "primal ") variables x
-found_text variables rows (Conflict names certificate points) =
+abbrev pub feasible_text : List GroupVar → List Rational → List ℕ
+feasible_text variables x =
+    codes "feasible" ++ newline ++ numbers_text (codes "primal ") variables x
+
+-- the rows by their names, their certificate, and for each the point that meets all others
+abbrev pub conflict_text : List GroupVar → List Row → List (List ℕ) → Certificate
+    → List (List Rational) → List ℕ
+conflict_text variables rows names certificate points =
     rows_text names ++ certificate_text variables rows certificate
     ++ flat_map (without_text variables) (zip names points)
+
+abbrev pub found_text : List GroupVar → List Row → Found → List ℕ
+found_text variables rows (Feasible x) = feasible_text variables x
+found_text variables rows (Conflict names certificate points) =
+    conflict_text variables rows names certificate points

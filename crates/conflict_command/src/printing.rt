@@ -15,7 +15,7 @@ use ratio_core::Ratios;
 use report_core::{Answer, Draft};
 use std::alloc::Global;
 
-/// What is found of a model, in its names. Of a conflict the model has the rows alone.
+/// What is found of a model, in its names. After a conflict the model has its rows alone.
 pub(crate) fn tell_found(alloc: Global, model: &UserModel, found: &Found) -> Result<Answer, Memory>
     ensures { IfOk result (λ answer. answer ≡ Answer.Printed (found_text
         (variables_of model.now.model.groups) model.now.model.rows found.now)) }

@@ -1,16 +1,12 @@
 //! A run of the command.
-ghost use Rattle.std.specs.Prelude.{◌≡◌, ◌≢◌, [], ◌∷◌, ◌⊎◌, ◌↔◌, All, IfSome, IsTrue, None};
+ghost use Rattle.std.specs.Prelude.{◌≡◌, All, IsTrue};
 ghost use Rattle.std.specs.Prelude as prelude;
 ghost use Rattle.std.specs.FinMap as finite;
 ghost use Rattle.bridge_set.specs.Bridges.{families_of, occur_once};
+ghost use Rattle.command_run.specs.Run.{IsRunOnFile, seen};
 ghost use Rattle.command_words.specs.Texts.{texts};
 ghost use Rattle.conflict_command.specs.Says.{Says};
-ghost use Rattle.file_command.specs.Ending.{CanBeFetched, EndsWith, IsSound};
-ghost use Rattle.file_command.specs.Loading.{AnswersFile};
-ghost use Rattle.file_command.specs.Status.{IsEnded};
 ghost use Rattle.file_command.specs.Words.{model_word};
-ghost use Rattle.io_face.specs.Fault.{HasFaulted};
-ghost use Rattle.io_face.specs.Shelf.{AsksFor};
 ghost use Rattle.io_face.specs.Told.{told_by};
 ghost use Rattle.model_command.specs.Alone.{standard_by};
 
@@ -26,7 +22,7 @@ use std::alloc::Global;
 /// nothing.
 ///
 /// A model that can't be loaded is refused as `load` refuses it. Where neither is found, one line
-/// tells why: 15 a board too large, 16 and 17 no bridging, 17 a number that exceeds 128 bits, 18 too
+/// says why: 15 a board too large, 16 and 17 no bridging, 17 a number that exceeds 128 bits, 18 too
 /// many pivots.
 pub fn run<H: Shelf, O: Sink, B: Bridge>(
     alloc: Global,
@@ -38,36 +34,18 @@ pub fn run<H: Shelf, O: Sink, B: Bridge>(
     requires once { IsTrue (occur_once (families_of (prelude.map B.state bridges.items))) }
     requires kept { All (λ s. s.kept ≡ finite.empty) (prelude.map B.state bridges.items) }
 
+    // What is written is the answer to the file's model, whole where the run ended. Each status comes
+    // for its cause alone.
+    ensures runs { let setting = standard_by (prelude.map B.state bridges.items) in
+        let told = told_by (H.files shelf.old) (H.sure shelf.old) in
+        IsRunOnFile (model_word (texts words.now)) (λ name. name) (λ _. Says setting) told
+        (seen (H.asked shelf.old) (H.faults shelf.old) (O.written output.old) (O.faults output.old))
+        (seen (H.asked shelf.new) (H.faults shelf.new) (O.written output.new) (O.faults output.new))
+        result }
+
     // Nothing is fetched or written at other arguments.
-    ensures usage { (result ≡ Status.Usage) ↔ (model_word (texts words.now) ≡ None) }
     ensures untouched { result ≡ Status.Usage → (shelf.new ≡ shelf.old)
         × (output.new ≡ output.old) }
-
-    // What is written is the answer to the file's model, whole where the run ended.
-    ensures ends { let setting = standard_by (prelude.map B.state bridges.items) in
-        let told = told_by (H.files shelf.old) (H.sure shelf.old) in
-        IfSome (model_word (texts words.now)) (λ name.
-        EndsWith (AnswersFile (Says setting) told name) result
-        (O.written output.old) (O.written output.new)) }
-
-    // A fault was counted, and each that was counted ends the run.
-    ensures read_fault { result ≡ Status.ReadFault
-        → HasFaulted (H.faults shelf.old) (H.faults shelf.new) }
-    ensures write_fault { result ≡ Status.WriteFault
-        → HasFaulted (O.faults output.old) (O.faults output.new) }
-    ensures sound_fetches { IsEnded result → H.faults shelf.new ≡ H.faults shelf.old }
-    ensures sound_writes { IsEnded result → O.faults output.new ≡ O.faults output.old }
-
-    // The model's file is asked for once, and no other is.
-    ensures asks { result ≢ Status.Memory → IfSome (model_word (texts words.now)) (λ name.
-        AsksFor (H.asked shelf.old) (H.asked shelf.new) (name ∷ [])) }
-
-    // With nothing against it, the run ends, unless memory runs out.
-    ensures complete { let told = told_by (H.files shelf.old) (H.sure shelf.old) in
-        IfSome (model_word (texts words.now)) (λ name.
-        CanBeFetched told name (H.faults shelf.old) (H.faults shelf.new)
-        → IsSound (O.faults output.old) (O.faults output.new)
-        → IsEnded result ⊎ (result ≡ Status.Memory)) }
 {
     match model_word(alloc, words) {
         Ok(Some(name)) => end_with(answer(alloc, &name, shelf, bridges), output),

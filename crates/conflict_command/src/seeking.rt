@@ -1,4 +1,4 @@
-//! The conflict of a model, found and told.
+//! The conflict of a model, found and reported.
 ghost use Rattle.std.specs.Prelude.{◌≡◌, ◌≤◌, ◌+◌, IfOk, OnOk, false, length};
 ghost use Rattle.cache_layer.specs.Cached.{model_in, state_of};
 ghost use Rattle.conflict_command.specs.Says.{Says, SaysSought, bare};
@@ -7,7 +7,7 @@ ghost use Rattle.user_model.specs.Limits.{LAST_NUMBER};
 
 use crate::printing::tell_found;
 use bridge_face::Bridge;
-use cache_layer::{Cache, EditFault, OptFault};
+use cache_layer::{Cache, EditFault};
 use lists::Memory;
 use model_command::{tell_attach, tell_optimize};
 use model_conflict::find_in;
@@ -41,26 +41,20 @@ fn drop_objective<B: Bridge>(cache: &mut Cache<B>) -> Result<(), Memory>
 {
     match cache.edit(Edit::Feasibility) {
         Ok(_changed) => Ok(()),
-        Err(fault) => Err(only_memory(fault)),
+        Err(fault) => match fault {
+            EditFault::Memory => Err(Memory),
+            _ => unreachable!(),
+        },
     }
 }
 
-fn only_memory(fault: EditFault) -> Memory
-    requires { fault ≡ EditFault.Memory }
-{
-    match fault {
-        EditFault::Memory => Memory,
-        _ => unreachable!(),
-    }
-}
-
-// What is found of a model to which a solver is attached. Of a conflict the rows alone are left.
+// What is found of a model to which a solver is attached. Of a conflict its rows alone are left.
 fn told<B: Bridge>(alloc: Global, cache: &mut Cache<B>) -> Result<Answer, Memory>
     requires { CanWalk (state_of cache.old) (length (model_in cache.old).rows) }
     ensures { IfOk result (SaysSought (state_of cache.old)) }
 {
     match find_in(cache, PIVOTS) {
         Ok(found) => tell_found(alloc, cache.model(), &found),
-        Err(fault) => tell_optimize(alloc, OptFault::from(fault)),
+        Err(fault) => tell_optimize(alloc, fault),
     }
 }

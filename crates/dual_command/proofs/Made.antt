@@ -1,6 +1,5 @@
 -- The dual as a model, made by its edits; and what is answered to it.
-use Rattle.std.proofs.Common.{◌≡◌, ◌≢◌, ◌∙◌, List, [], ◌∷◌, Option, Some, None, ap, refl, subst, sym, Ok, Err}
-use Rattle.std.specs.Option.{option_map_or}
+use Rattle.std.proofs.Common.{◌≡◌, ◌≢◌, ◌∙◌, List, ap, refl, subst, sym, Ok, Err}
 use Rattle.std.specs.Prelude.{IfOk, Result}
 use Rattle.std.specs.Result.{result_unwrap_or}
 use Rattle.dual_command.specs.Duals.{Duals, IsDualOf}
@@ -8,10 +7,13 @@ use Rattle.dual_command.specs.Says.{MakesDual, Says, SaysDual, full, made, unfit
 use Rattle.dual_command.specs.declared.command.Task.{Task}
 use Rattle.dual_model.specs.DualOf.{dual_of_model}
 use Rattle.dualization.specs.Answers.{IsDual, IsUnfit}
-use Rattle.dualization.specs.DualEdits.{all_edited, dual_edits}
+use Rattle.dualization.specs.DualEdits.{dual_edits}
 use Rattle.file_answers.specs.FileAnswers.{refused}
 use Rattle.file_command.specs.Loading.{AnswersMade, Makes}
 use Rattle.fresh_bridging.specs.TheRules.{Setting}
+use Rattle.limit_laws.specs.Leads.{all_edited}
+use Rattle.limit_laws.specs.LeadsLaws.{made_after}
+use Rattle.limit_laws.specs.Limits.{LimitsAlone}
 use Rattle.lists.specs.declared.memory.Memory.{Memory as NoMemory}
 use Rattle.model_load.specs.Loads.{after_edits}
 use Rattle.model_store.specs.Store.{Stored}
@@ -19,32 +21,16 @@ use Rattle.report_core.specs.declared.answer.Answer.{Answer}
 use Rattle.report_core.specs.declared.answer.Answer.TheVariants.{Memory}
 use Rattle.report_core.specs.declared.refused.Place.{Place}
 use Rattle.report_core.specs.declared.refused.Refused.TheVariants.{Overflow}
-use Rattle.user_model.specs.Edited.{edited}
 use Rattle.user_model.specs.Model.{ModelValue, empty_model}
-use Rattle.user_model.specs.Refusals.{first_refusal}
 use Rattle.user_model.specs.declared.edit.Edit.{Edit}
 use Rattle.user_model.specs.declared.refusal.Refusal.{Refusal}
-
--- edits of which none is refused lead to what they make one after another
-all_made : (edits : List Edit) (model new : ModelValue) → after_edits model edits ≡ Ok new
-    → all_edited model edits ≡ new
-unfolding after_edits
-all_made [] model new h = cc
-all_made (e ∷ es) model new h =
-    by (first_refusal model e) (all_made es (edited model e) new) h
-  where
-    by : (o : Option Refusal)
-        → (after_edits (edited model e) es ≡ Ok new → all_edited (edited model e) es ≡ new)
-        → option_map_or Err o (after_edits (edited model e) es) ≡ Ok new
-        → all_edited (edited model e) es ≡ new
-    by None others h = others h
-    by (Some refusal) others h = cc
 
 module _ (model : ModelValue) where
   -- ---- the dual is made, or an edit of it is refused
 
   module _ (edits listed : List Edit) (is : IsDual model (Ok edits))
-      (makes : all_edited empty_model edits ≡ dual_of_model model) (same : listed ≡ edits) where
+      (makes : all_edited empty_model edits ≡ dual_of_model model)
+      (limits : LimitsAlone empty_model edits) (same : listed ≡ edits) where
     leads_too : (gave : Result ModelValue Refusal) → after_edits empty_model listed ≡ gave
         → after_edits empty_model (dual_edits model) ≡ gave
     leads_too gave h = sym (ap (after_edits empty_model) (same ∙ is.1)) ∙ h
@@ -52,14 +38,15 @@ module _ (model : ModelValue) where
     dual_is : (new : ModelValue) → after_edits empty_model listed ≡ Ok new
         → new ≡ dual_of_model model
     dual_is new h =
-        sym (all_made edits empty_model new (sym (ap (after_edits empty_model) same) ∙ h)) ∙ makes
+        made_after edits empty_model new (sym (ap (after_edits empty_model) same) ∙ h) ∙ makes
 
     refused_edit : (gave : Result ModelValue Refusal) (answer : Answer)
         → after_edits empty_model listed ≡ gave → AnswersMade (λ m said. ⊥) gave answer
         → MakesDual (λ said. ⊥) model answer
     refused_edit (Ok new) answer h said = absurd said
     refused_edit (Err refusal) answer h said =
-        full is.0 refusal (leads_too (Err refusal) h) said
+        full is.0 refusal (leads_too (Err refusal) h)
+        (limits refusal (sym (ap (after_edits empty_model) same) ∙ h)) said
 
     pub dual_made : (result : Result Stored Answer) → Makes (after_edits empty_model listed) result
         → Duals model result
@@ -87,7 +74,7 @@ module _ (model : ModelValue) where
     where
       by : (said : Answer) → MakesDual (λ other. ⊥) model said → Says setting task model said
       by said (made fits leads says) = absurd says
-      by said (full fits refusal leads is) = full fits refusal leads is
+      by said (full fits refusal leads limit is) = full fits refusal leads limit is
       by said (unfit place at is) = unfit place at is
 
   pub says_with : (setting : Setting) (task : Task) (stored : Stored)

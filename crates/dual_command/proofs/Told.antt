@@ -13,8 +13,9 @@ use Rattle.dual_command.specs.Says.{NoneRight, SaysCarried, SaysCertificate, Say
 use Rattle.dual_command.specs.Text.{duals_text, file_line, none_text, unbounded_text}
 use Rattle.dual_command.specs.declared.command.Task.{Task}
 use Rattle.dual_command.specs.declared.command.Task.TheVariants.{Solve, Write}
+use Rattle.group_numbering.specs.NewGroups.{NewGroup, numbered_groups, variable_count}
 use Rattle.dual_model.specs.Carried.{carried_rows, carried_variables}
-use Rattle.dual_model.specs.DualOf.{NewGroup, dual_of_model, new_groups, numbered_groups, variable_count}
+use Rattle.dual_model.specs.DualOf.{dual_of_model, new_groups}
 use Rattle.dual_model.specs.Solved.{AreBestDuals}
 use Rattle.dualization.specs.Answers.{CarriesPoint}
 use Rattle.dualization.specs.declared.carrying.Carried.{Carried}

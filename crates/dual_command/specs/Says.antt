@@ -29,6 +29,7 @@ use Rattle.dualization.specs.declared.fault.DualFault.{DualFault}
 use Rattle.dualization.specs.declared.fault.DualFault.TheVariants as dual
 use Rattle.file_answers.specs.FileAnswers.{refused}
 use Rattle.fresh_bridging.specs.TheRules.{Setting}
+use Rattle.limit_laws.specs.Limits.{IsFull}
 use Rattle.model_command.specs.Alone.{alone}
 use Rattle.model_command.specs.Telling.{attach_fault_answer, optimize_fault_answer}
 use Rattle.model_load.specs.Loads.{after_edits}
@@ -104,7 +105,7 @@ pub data MakesDual (says : Answer → Type 0) (model : ModelValue) : Answer → 
       → after_edits empty_model (dual_edits model) ≡ Ok (dual_of_model model) → says answer
       → MakesDual says model answer
   full : {answer : Answer} → CostsFit model → (refusal : Refusal)
-      → after_edits empty_model (dual_edits model) ≡ Err refusal
+      → after_edits empty_model (dual_edits model) ≡ Err refusal → IsFull refusal
       → answer ≡ refused (refused_of refusal) → MakesDual says model answer
   unfit : {answer : Answer} (place : Place) → IsUnfit model place
       → answer ≡ refused (Overflow place) → MakesDual says model answer

@@ -49,5 +49,5 @@ module _ (model : ModelValue) (answer : Answer) where
 pub says_plain : (setting : Setting) (task : Task) → SaysNoFault (Says setting task)
 says_plain setting task model answer (made fits leads h) =
     dual_plain model answer setting task h
-says_plain setting task model answer (full fits refusal leads is) = same_fault answer _ is refl
+says_plain setting task model answer (full fits refusal leads limit is) = same_fault answer _ is refl
 says_plain setting task model answer (unfit place at is) = same_fault answer _ is refl

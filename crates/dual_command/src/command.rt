@@ -10,7 +10,7 @@ use std::alloc::Global;
 
 /// What is to be done with the dual of a model.
 #[derive(Clone, Copy, Debug, PartialEq, Eq)]
-pub enum Task {
+pub(crate) enum Task {
     /// It is written as text.
     Write,
     /// It is solved.
@@ -19,14 +19,14 @@ pub enum Task {
 
 /// What is to be done with the dual of a file's model.
 #[derive(Debug, Drop)]
-pub struct Command {
+pub(crate) struct Command {
     pub task: Task,
     pub file: Name,
 }
 
 /// The command of arguments, `write FILE` or `solve FILE`; none where they are others. Memory runs
 /// out only where they are of one.
-pub fn command_of(alloc: Global, words: &[String]) -> Result<Option<Command>, Memory>
+pub(crate) fn command_of(alloc: Global, words: &[String]) -> Result<Option<Command>, Memory>
     ensures said { IfOk result (λ command. command ≡ command_in (texts words.now)) }
     ensures of_one { OnErr result (IsSome (command_in (texts words.now))) }
 {

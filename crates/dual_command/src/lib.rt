@@ -8,5 +8,4 @@ mod printing;
 mod running;
 mod solving;
 
-pub use command::{Command, Task, command_of};
 pub use running::run;

@@ -7,8 +7,9 @@ ghost use Rattle.cache_layer.specs.Cached.{model_in, state_of};
 ghost use Rattle.certificates.specs.Good.{Good};
 ghost use Rattle.dual_command.specs.Says.{SaysCarried, SaysCertificate, SaysDual, SaysOptimized, SaysSolved};
 ghost use Rattle.dual_command.specs.declared.command.Task.TheVariants.{Solve};
+ghost use Rattle.group_numbering.specs.NewGroups.{variable_count};
 ghost use Rattle.dual_model.specs.Carried.{carried_rows, carried_variables};
-ghost use Rattle.dual_model.specs.DualOf.{dual_of_model, new_groups, variable_count};
+ghost use Rattle.dual_model.specs.DualOf.{dual_of_model, new_groups};
 ghost use Rattle.dual_model.specs.Solved.{AreBestDuals};
 ghost use Rattle.dualization.specs.Answers.{CarriesPoint};
 ghost use Rattle.dualization.specs.declared.carrying.Carried.{Carried};
@@ -48,7 +49,7 @@ pub(crate) fn solved<B: Bridge>(
     attached(alloc, model, &mut cache)
 }
 
-// The same, where the cache is lent, so that it is freed once.
+// What is answered by a cache of the dual, which is lent so that it is freed once.
 fn attached<B: Bridge>(
     alloc: Global,
     model: &UserModel,

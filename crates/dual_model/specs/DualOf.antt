@@ -22,14 +22,14 @@ use Rattle.aff_core.specs.declared.sense.Sense.{Sense}
 use Rattle.aff_core.specs.declared.sense.Sense.TheVariants.{Min, Max}
 use Rattle.aff_core.specs.Function.{Function, function_of}
 use Rattle.aff_core.specs.FunctionLists.{coefficients, values}
+use Rattle.group_numbering.specs.NewGroups.{NewGroup, numbered_groups, terms_from, variable_count}
 use Rattle.user_model.specs.declared.function.UserFunc.{UserFunc}
 use Rattle.user_model.specs.declared.function.UserFunc.TheVariants.{Affine, AffineVec}
 use Rattle.user_model.specs.declared.group.Group.{Group}
 use Rattle.user_model.specs.declared.objective.Objective.{Objective}
 use Rattle.user_model.specs.declared.objective.Objective.TheVariants as objective
 use Rattle.user_model.specs.declared.row.Row.{Row}
-use Rattle.user_model.specs.Edited.{numbered_from}
-use Rattle.user_model.specs.Model.{ModelValue, variable_address}
+use Rattle.user_model.specs.Model.{ModelValue}
 use Rattle.certificates.specs.Points.{addresses_of, at_point, functions_of, objective_coefficient, objective_value, sense_of}
 use Rattle.dual_parts.specs.Parts.{bounds_on, on_parts, own_bounds, shifts_on}
 
@@ -45,11 +45,6 @@ part_names letter item i zero = []
 part_names letter item i (suc n) = part_name letter item i ∷ part_names letter item (suc i) n
 
 -- ---- variables
-
--- variables that are made together
-pub record NewGroup : Type 0 where
-  pub names : List (List ℕ)
-  pub set : Set
 
 -- two, at least 0 and at most 0, named by one letter each
 abbrev pub two_groups : ℕ → ℕ → ℕ → List NewGroup
@@ -84,23 +79,7 @@ each_placed f k (x ∷ xs) = f k x ++ each_placed f (suc k) xs
 abbrev pub new_groups : ModelValue → List NewGroup
 new_groups model = each_placed row_groups 1 model.rows ++ each_placed group_groups 1 model.groups
 
--- the groups with these variables, numbered one after another, and how many variables they have
-abbrev pub numbered_groups : ℕ → ℕ → List NewGroup → List Group
-numbered_groups id n [] = []
-numbered_groups id n (g ∷ gs) =
-    record { id = id; vars = numbered_from n g.names; set = g.set }
-    ∷ numbered_groups (suc id) (n + length g.names) gs
-
-abbrev pub variable_count : List NewGroup → ℕ
-variable_count [] = 0
-variable_count (g ∷ gs) = length g.names + variable_count gs
-
 -- ---- functions of the variables
-
--- coefficients of the variables from the n-th on
-abbrev pub terms_from : ℕ → List Rational → List (Address × Rational)
-terms_from n [] = []
-terms_from n (q ∷ qs) = (variable_address n, q) ∷ terms_from (suc n) qs
 
 -- a function for a set of numbers, and for one of vectors
 abbrev pub scalar_function : List Function → UserFunc

@@ -35,12 +35,15 @@ use Rattle.certificates.specs.PointLaws.{split_addresses}
 use Rattle.dual_parts.specs.Parts.{IsLeft, on_parts, own_bounds, shifts_on}
 use Rattle.dual_parts.specs.GroupPartLaws.{shifts_below}
 use Rattle.dual_parts.specs.PartLaws.{below_low, length-on_parts}
-use Rattle.dual_model.specs.DualOf.{NewGroup, at_bounds, bound_numbers, column_in, cost_of, costs, dual_of_model, each_placed, group_groups, new_groups, opposite, row_costs, row_groups, row_size, row_variables, signed, variable_count}
+use Rattle.group_numbering.specs.HoldLaws.{HoldFrom, groups_from_hold, hold_both, hold_first, hold_from_groups, hold_second}
+use Rattle.group_numbering.specs.NewGroups.{NewGroup, variable_count}
+use Rattle.group_numbering.specs.NumberLaws.{length-numbers_from, numbers_from, numbers_from-append, value_from}
+use Rattle.group_numbering.specs.PlaceLaws.{count-append, first_point_at, group_addresses, joined_alike, length-addresses_from}
+use Rattle.dual_model.specs.DualOf.{at_bounds, bound_numbers, column_in, cost_of, costs, dual_of_model, each_placed, group_groups, new_groups, opposite, row_costs, row_groups, row_size, row_variables, signed}
 use Rattle.dual_model.specs.Carried.{AreRightDuals, CarriesTo, HoldsDuals, IsCarriedFrom, carried_rows, carried_variable, carried_variables, part_size}
-use Rattle.dual_model.specs.NumberLaws.{length-numbers_from, numbers_from, numbers_from-append, value_from}
-use Rattle.dual_model.specs.RowPartLaws.{AddsUp, ArePartsOf, Count, HasSetOf, HoldFrom, adjoint_weighed, carried_are, count-append, count-rows, duals_of_rows, hold_both, hold_first, hold_second, length-costs, length-rows_duals, parts_of_rows, rows_count, rows_duals, rows_from_parts, total_parts}
+use Rattle.dual_model.specs.RowPartLaws.{AddsUp, ArePartsOf, Count, HasSetOf, adjoint_weighed, carried_are, count-rows, duals_of_rows, length-costs, length-rows_duals, parts_of_rows, rows_count, rows_duals, rows_from_parts, total_parts}
 use Rattle.dual_model.specs.GroupRowLaws.{AreLeft, AreOwnOf, CountOwn, HasGroupSetOf, IsLeftAt, count-groups, duals_of_groups, groups_count, groups_of_own, left_at, left_from_rows, length-own, own_of_groups, own_total, rows_from_left}
-use Rattle.dual_model.specs.PlaceLaws.{dual_point_at, each_same, each_shift, group_addresses, groups_from_hold, hold_from_groups, joined_alike, length-addresses_from, length-bound_numbers, point_at}
+use Rattle.dual_model.specs.PlaceLaws.{each_same, each_shift, length-bound_numbers, point_at}
 use Rattle.dual_model.specs.LaidLaws.{equal_adds, laid_count, laid_count_own, laid_duals, laid_left, laid_own, laid_parts, length-own_numbers, length-row_numbers, own_numbers, row_numbers}
 
 -- ---- at most adds up
@@ -321,7 +324,7 @@ module _ (model : ModelValue) (valid : IsValid model) where
       → numbers_from (at_point (dual_of_model model) v) 0 (first_own + own_total model.groups) ≡ v
   numbers_are v e =
       ap (numbers_from (at_point (dual_of_model model) v) 0) (sym size_is)
-      ∙ dual_point_at (new_groups model) v e
+      ∙ first_point_at (new_groups model) v e
 
   abbrev start : ℕ
   start = 0 + first_own

@@ -30,9 +30,12 @@ use Rattle.certificates.specs.Duals.{HasDuals, group_with, groups_with}
 use Rattle.certificates.specs.PointLaws.{split_addresses}
 use Rattle.dual_parts.specs.Parts.{AreOwn, IsLeft, own_bounds, shifts_on}
 use Rattle.dual_parts.specs.GroupPartLaws.{left_dual}
-use Rattle.dual_model.specs.DualOf.{NewGroup, column_in, cost_of, each_placed, function_in, group_groups, group_rows, left_for, left_less_two, own_groups, row_for, scalar_function, variable_count}
-use Rattle.dual_model.specs.NumberLaws.{length-numbers_from, numbers_from, numbers_from-append, value_from, value_from_two}
-use Rattle.dual_model.specs.RowPartLaws.{AddsUp, HoldFrom, hold_both, hold_first, hold_second, count-append, parts_from_two, two_from_parts}
+use Rattle.group_numbering.specs.HoldLaws.{HoldFrom, hold_both, hold_first, hold_second}
+use Rattle.group_numbering.specs.NewGroups.{NewGroup, variable_count}
+use Rattle.group_numbering.specs.NumberLaws.{length-numbers_from, numbers_from, numbers_from-append, value_from, value_from_two}
+use Rattle.group_numbering.specs.PlaceLaws.{count-append}
+use Rattle.dual_model.specs.DualOf.{column_in, cost_of, each_placed, function_in, group_groups, group_rows, left_for, left_less_two, own_groups, row_for, scalar_function}
+use Rattle.dual_model.specs.RowPartLaws.{AddsUp, parts_from_two, two_from_parts}
 
 -- the set of a group is one for its variables
 abbrev pub HasGroupSetOf : Group → Type 0

@@ -18,12 +18,12 @@ use Rattle.certificates.specs.PointLaws.{split_addresses}
 use Rattle.dual_parts.specs.Parts.{AreOwn, AreParts, IsLeft, bounds_on, joined, own_bounds, own_for, parts_for, shifts_on}
 use Rattle.dual_parts.specs.GroupPartLaws.{are_own, is_left, length-own_for, shifts_at}
 use Rattle.dual_parts.specs.PartLaws.{are_parts, at_low, joined_parts, length-parts_for}
+use Rattle.group_numbering.specs.NumberLaws.{length-numbers_from, numbers_from, numbers_from-append}
+use Rattle.group_numbering.specs.PlaceLaws.{joined_alike}
 use Rattle.dual_model.specs.Carried.{part_size}
 use Rattle.dual_model.specs.DualOf.{row_size}
-use Rattle.dual_model.specs.NumberLaws.{length-numbers_from, numbers_from, numbers_from-append}
 use Rattle.dual_model.specs.RowPartLaws.{AddsUp, ArePartsOf, Count, HasSetOf, rows_duals, total_parts}
 use Rattle.dual_model.specs.GroupRowLaws.{AreLeft, AreOwnOf, CountOwn, HasGroupSetOf, IsLeftAt, left_at, own_total}
-use Rattle.dual_model.specs.PlaceLaws.{joined_alike}
 
 -- ---- equal is a relation that adds up
 

@@ -1,6 +1,5 @@
 pub mod DualOf
 pub mod Carried
-pub mod NumberLaws
 pub mod RowPartLaws
 pub mod GroupRowLaws
 pub mod PlaceLaws

@@ -19,15 +19,18 @@ use Rattle.set_core.specs.declared.set.Set.TheVariants.{Interval}
 use Rattle.set_core.specs.Membership.{In, dual_of, low_of}
 use Rattle.set_core.specs.Shapes.{IsSetOf}
 use Rattle.dual_laws.specs.Held.{DualRow, adjoint, gap, gap_of, pull, pull_of}
+use Rattle.group_numbering.specs.HoldLaws.{HoldFrom, hold_both, hold_first, hold_second}
+use Rattle.group_numbering.specs.NewGroups.{NewGroup, variable_count}
+use Rattle.group_numbering.specs.NumberLaws.{length-numbers_from, numbers_from, numbers_from-append}
+use Rattle.group_numbering.specs.PlaceLaws.{count-append}
 use Rattle.user_model.specs.declared.row.Row.{Row}
 use Rattle.user_model.specs.Model.{variable_address}
 use Rattle.certificates.specs.Points.{functions_of}
 use Rattle.certificates.specs.Duals.{HasDuals, row_with, rows_with}
 use Rattle.dual_parts.specs.Parts.{AreParts, bounds_on, joined, on_parts, part_count}
 use Rattle.dual_parts.specs.PartLaws.{dot-on_parts, joined_dual, length-bounds_on, length-joined, length-on_parts}
-use Rattle.dual_model.specs.DualOf.{NewGroup, column_in, each_placed, groups_for, part_names, row_costs, row_groups, row_size, two_groups, variable_count}
+use Rattle.dual_model.specs.DualOf.{column_in, each_placed, groups_for, part_names, row_costs, row_groups, row_size, two_groups}
 use Rattle.dual_model.specs.Carried.{carried_rows, part_size}
-use Rattle.dual_model.specs.NumberLaws.{length-numbers_from, numbers_from, numbers_from-append}
 
 -- the set of a row is one for its components
 abbrev pub HasSetOf : Row → Type 0
@@ -49,11 +52,6 @@ count-groups_for k n (Interval l u) = refl
 count-groups_for k n set =
     let none : length (part_names 121 k 1 n) + 0 ≡ length (part_names 121 k 1 n) = omega arith in
     none ∙ length-part_names 121 k 1 n
-
-pub count-append : (gs hs : List NewGroup)
-    → variable_count (gs ++ hs) ≡ variable_count gs + variable_count hs
-count-append [] hs = omega arith
-count-append (g ∷ gs) hs = omega (arith, count-append gs hs)
 
 pub count-rows : (k : ℕ) (rows : List Row)
     → variable_count (each_placed row_groups k rows) ≡ total_parts rows
@@ -100,38 +98,6 @@ module _ (x : Address → Rational) where
 
   -- ---- groups of the dual in their sets
 
-  -- those from the n-th variable on
-  abbrev pub HoldFrom : ℕ → List NewGroup → Type 0
-  HoldFrom n [] = Unit {0}
-  HoldFrom n (g ∷ gs) =
-      In g.set (numbers_from x n (length g.names)) × HoldFrom (n + length g.names) gs
-
-  stay : (n : ℕ) → n + 0 ≡ n
-  stay n = omega arith
-
-  along : (n a b : ℕ) → (n + a) + b ≡ n + (a + b)
-  along n a b = omega arith
-
-  pub hold_first : (n : ℕ) (gs hs : List NewGroup) → HoldFrom n (gs ++ hs) → HoldFrom n gs
-  hold_first n [] hs h = tt
-  hold_first n (g ∷ gs) hs h = (h.0, hold_first (n + length g.names) gs hs h.1)
-
-  pub hold_second : (n : ℕ) (gs hs : List NewGroup) → HoldFrom n (gs ++ hs)
-      → HoldFrom (n + variable_count gs) hs
-  hold_second n [] hs h = subst (λ m. HoldFrom m hs) (sym (stay n)) h
-  hold_second n (g ∷ gs) hs h =
-      subst (λ m. HoldFrom m hs) (along n (length g.names) (variable_count gs))
-      (hold_second (n + length g.names) gs hs h.1)
-
-  pub hold_both : (n : ℕ) (gs hs : List NewGroup) → HoldFrom n gs
-      → HoldFrom (n + variable_count gs) hs → HoldFrom n (gs ++ hs)
-  hold_both n [] hs h k = subst (λ m. HoldFrom m hs) (stay n) k
-  hold_both n (g ∷ gs) hs h k = (
-    h.0,
-    hold_both (n + length g.names) gs hs h.1
-        (subst (λ m. HoldFrom m hs) (sym (along n (length g.names) (variable_count gs))) k),
-  )
-
   next : (n : ℕ) → n + 1 ≡ suc n
   next n = omega arith
 
@@ -139,22 +105,22 @@ module _ (x : Address → Rational) where
   AtMost n = x (variable_address n) ≤ℚ zero_ℚ
 
   -- two variables are parts of an interval's dual
-  pub parts_from_two : (l u : Rational) (above below k n : ℕ) → HoldFrom n (two_groups above below k)
+  pub parts_from_two : (l u : Rational) (above below k n : ℕ) → HoldFrom x n (two_groups above below k)
       → AreParts (Interval l u) (numbers_from x n 2)
   parts_from_two l u above below k n h = (h.0, subst AtMost (next n) h.1.0)
 
   pub two_from_parts : (l u : Rational) (above below k n : ℕ)
-      → AreParts (Interval l u) (numbers_from x n 2) → HoldFrom n (two_groups above below k)
+      → AreParts (Interval l u) (numbers_from x n 2) → HoldFrom x n (two_groups above below k)
   two_from_parts l u above below k n h = (h.0, (subst AtMost (sym (next n)) h.1, tt))
 
-  pub parts_from_groups : (k n m : ℕ) (set : Set) → HoldFrom n (groups_for k m set)
+  pub parts_from_groups : (k n m : ℕ) (set : Set) → HoldFrom x n (groups_for k m set)
       → AreParts set (numbers_from x n (part_count set m))
   parts_from_groups k n m (Interval l u) h = parts_from_two l u 121 122 k n h
   parts_from_groups k n m set h =
       subst (λ j. In (dual_of set) (numbers_from x n j)) (length-part_names 121 k 1 m) h.0
 
   pub groups_from_parts : (k n m : ℕ) (set : Set)
-      → AreParts set (numbers_from x n (part_count set m)) → HoldFrom n (groups_for k m set)
+      → AreParts set (numbers_from x n (part_count set m)) → HoldFrom x n (groups_for k m set)
   groups_from_parts k n m (Interval l u) h = two_from_parts l u 121 122 k n h
   groups_from_parts k n m set h = (
     subst (λ j. In (dual_of set) (numbers_from x n j)) (sym (length-part_names 121 k 1 m)) h,
@@ -167,26 +133,26 @@ module _ (x : Address → Rational) where
   ArePartsOf n (r ∷ rows) =
       AreParts r.set (numbers_from x n (part_size r)) × ArePartsOf (n + part_size r) rows
 
-  pub parts_of_rows : (k n : ℕ) (rows : List Row) → HoldFrom n (each_placed row_groups k rows)
+  pub parts_of_rows : (k n : ℕ) (rows : List Row) → HoldFrom x n (each_placed row_groups k rows)
       → ArePartsOf n rows
   parts_of_rows k n [] h = tt
   parts_of_rows k n (r ∷ rows) h =
       let own : List NewGroup = row_groups k r in
       let rest : List NewGroup = each_placed row_groups (suc k) rows in (
-        parts_from_groups k n (row_size r) r.set (hold_first n own rest h),
+        parts_from_groups k n (row_size r) r.set (hold_first x n own rest h),
         parts_of_rows (suc k) (n + part_size r) rows
-            (subst (λ m. HoldFrom (n + m) rest) (count-groups_for k (row_size r) r.set)
-            (hold_second n own rest h)),
+            (subst (λ m. HoldFrom x (n + m) rest) (count-groups_for k (row_size r) r.set)
+            (hold_second x n own rest h)),
       )
 
   pub rows_from_parts : (k n : ℕ) (rows : List Row) → ArePartsOf n rows
-      → HoldFrom n (each_placed row_groups k rows)
+      → HoldFrom x n (each_placed row_groups k rows)
   rows_from_parts k n [] h = tt
   rows_from_parts k n (r ∷ rows) h =
       let own : List NewGroup = row_groups k r in
       let rest : List NewGroup = each_placed row_groups (suc k) rows in
-      hold_both n own rest (groups_from_parts k n (row_size r) r.set h.0)
-      (subst (λ m. HoldFrom (n + m) rest) (sym (count-groups_for k (row_size r) r.set))
+      hold_both x n own rest (groups_from_parts k n (row_size r) r.set h.0)
+      (subst (λ m. HoldFrom x (n + m) rest) (sym (count-groups_for k (row_size r) r.set))
       (rows_from_parts (suc k) (n + part_size r) rows h.1))
 
   -- ---- duals of the rows

@@ -1,4 +1,4 @@
--- The names of the dual's variables are apart: a name tells its letter, its item and its component.
+-- The names of the dual's variables are apart: a name gives its letter, its item and its component.
 use Rattle.std.specs.Prelude.{◌≡◌, ◌≢◌, ℕ, zero, suc, ◌+◌, ◌^◌, ◌<◌, ◌≤◌, ◌%◌, List, [], ◌∷◌, ◌++◌, All, AllPairs, decimal, flat_map, length, slice_index_or, refl}
 use Rattle.std.specs.List.{AllByRecursion, IsDistinct}
 use Rattle.std.specs.Str.{bytes_eq}
@@ -17,9 +17,10 @@ use Rattle.set_core.specs.declared.set.Set.{Set}
 use Rattle.set_core.specs.declared.set.Set.TheVariants.{Interval}
 use Rattle.user_model.specs.declared.group.Group.{Group}
 use Rattle.user_model.specs.declared.row.Row.{Row}
-use Rattle.dual_model.specs.DualOf.{NewGroup, each_placed, group_groups, groups_for, own_groups, part_name, part_names, row_groups, row_size}
+use Rattle.group_numbering.specs.NewGroups.{NewGroup}
+use Rattle.dual_model.specs.DualOf.{each_placed, group_groups, groups_for, own_groups, part_name, part_names, row_groups, row_size}
 
--- ---- a name tells its parts
+-- ---- a name gives its parts
 
 abbrev Small : ℕ → Type 0
 Small n = n < 2 ^ 64

@@ -13,10 +13,12 @@ use Rattle.user_model.specs.Model.{ModelValue}
 use Rattle.user_model.specs.Valid.{IsValid, IsValidRow}
 use Rattle.certificates.specs.DualPointLaws.{component_count}
 use Rattle.certificates.specs.Points.{objective_value, sense_of}
-use Rattle.dual_model.specs.DualOf.{NewGroup, at_bounds, bound_numbers, costs, dual_objective_of, each_placed, group_groups, new_groups, opposite, row_groups, row_variables, signed, variable_count}
+use Rattle.group_numbering.specs.NewGroups.{NewGroup, variable_count}
+use Rattle.group_numbering.specs.PlaceLaws.{count-append}
+use Rattle.dual_model.specs.DualOf.{at_bounds, bound_numbers, costs, dual_objective_of, each_placed, group_groups, new_groups, opposite, row_groups, row_variables, signed}
 use Rattle.dual_model.specs.GroupRowLaws.{count-groups, length-own, own_total}
 use Rattle.dual_model.specs.LaidLaws.{equal_adds}
-use Rattle.dual_model.specs.RowPartLaws.{count-append, count-rows, length-costs, total_parts}
+use Rattle.dual_model.specs.RowPartLaws.{count-rows, length-costs, total_parts}
 use Rattle.dualization.specs.declared.sums.Sums.{Sums}
 use Rattle.dualization.specs.DualEdits.{dual_edits, dual_names, edit_of_group, edits_of_objective, names_added}
 use Rattle.dualization.specs.Rows.{ColumnsFit, IsObjectiveOf, all_bounds, edit_of_objective}

@@ -30,20 +30,25 @@ use Rattle.user_model.specs.Valid.{IsValid}
 use Rattle.user_model.specs.declared.edit.Edit.{Edit}
 use Rattle.user_model.specs.declared.function.UserFunc.TheVariants.{AffineVec}
 use Rattle.user_model.specs.declared.group.Group.{Group}
+use Rattle.user_model.specs.declared.group.GroupVar.{GroupVar}
 use Rattle.user_model.specs.declared.objective.Objective.{Objective}
 use Rattle.user_model.specs.declared.objective.Objective.TheVariants as objective
 use Rattle.user_model.specs.declared.row.Row.{Row}
 use Rattle.certificates.specs.Points.{addresses_of, objective_value, sense_of, variables_of}
 use Rattle.dual_parts.specs.Parts.{own_bounds}
-use Rattle.dual_model.specs.DualOf.{bound_numbers, costs, dual_objective_of, dual_rows, function_in, group_rows, left_for, left_less_two, new_groups, numbered_groups, opposite, row_for, row_variables, scalar_function, signed, terms_from, variable_count}
+use Rattle.group_numbering.specs.NewGroups.{numbered_groups, terms_from, variable_count}
+use Rattle.dual_model.specs.DualOf.{bound_numbers, costs, dual_objective_of, dual_rows, function_in, group_rows, left_for, left_less_two, new_groups, opposite, row_for, row_variables, scalar_function, signed}
 use Rattle.dual_model.specs.GroupRowLaws.{HasGroupSetOf, own_total}
-use Rattle.dualization.specs.DualEdits.{affine_by_name, all_edited, dual_edits, dual_names, edit_of_group, edit_of_row, edits_of_objective, function_by_name, name_of, term_by_name}
-use Rattle.dualization.specs.Refusals.{FullAlone}
+use Rattle.limit_laws.specs.Leads.{AllPass, PassesTests, all_edited}
+use Rattle.limit_laws.specs.LeadsLaws.{limits_alone, pass_both}
+use Rattle.limit_laws.specs.Limits.{LimitsAlone}
+use Rattle.limit_laws.specs.NewNames.{IsNewIn, none_passes}
+use Rattle.dualization.specs.DualEdits.{affine_by_name, dual_edits, dual_names, edit_of_group, edit_of_row, edits_of_objective, function_by_name, name_of, term_by_name}
 use Rattle.dualization.specs.Rows.{ColumnsFit}
 use Rattle.dualization.proofs.ApartLemmas.{names_apart, same_number}
 use Rattle.dualization.proofs.EditLemmas.{are_distinct, columns_fit, few, names_count, row_variables_are}
 use Rattle.dualization.proofs.MadeLemmas.{HasFirst, IsAgain, IsFirst, NumberedFrom, columns_more, each_first, from_none, groups_made, has_first, left_first, less_two_first, made_row, numbered_rows, rows_again, rows_made, state, variables_are}
-use Rattle.dualization.proofs.PassedLemmas.{AllPass, PassesTests, dual_set, full_refusal, groups_pass, is_named, names_again, new_sets, no_row_named, none_passes, pass_both, var_name}
+use Rattle.dualization.proofs.PassedLemmas.{dual_set, groups_pass, is_named, names_again, new_sets, no_row_named, var_name}
 use Rattle.dualization.proofs.ValidLemmas.{few_groups, few_rows, group_sets, row_sets}
 use Rattle.dualization.proofs.WholeLemmas.{size_of_costs}
 
@@ -408,6 +413,9 @@ module _ (model : ModelValue) (valid : IsValid model) where
         length-map (costs model) (signed (sense_of model.objective)),
       )))
 
+  none_there : (names : List (List ℕ)) → All (IsNewIn []) names
+  none_there names = λ k d end. All-nil (λ (v : GroupVar). v.name ≢ slice_index_or names k d)
+
   all_pass : AllPass empty_model (dual_edits model)
   all_pass =
       let first : List Edit = map edit_of_group (new_groups model) in
@@ -415,6 +423,7 @@ module _ (model : ModelValue) (valid : IsValid model) where
       let last : List Edit = edits_of_objective all_names (dual_objective_of model) in
       pass_both first (second ++ last) empty_model
       (groups_pass (new_groups model) empty_model (new_sets model (row_sets model valid))
+      (none_there (dual_names model))
       (names_apart model.rows model.groups (few model valid) (few_rows model valid)
       (few_groups model valid)))
       (subst (λ m. AllPass m (second ++ last)) (sym after_groups)
@@ -422,5 +431,5 @@ module _ (model : ModelValue) (valid : IsValid model) where
       rows_of_the_dual
       (subst (λ m. AllPass m last) (sym after_rows) objective_of_the_dual)))
 
-  pub limits_alone : FullAlone model
-  limits_alone refusal h = full_refusal (dual_edits model) empty_model refusal all_pass h
+  pub limits_of_dual : LimitsAlone empty_model (dual_edits model)
+  limits_of_dual = limits_alone (dual_edits model) empty_model all_pass

@@ -33,19 +33,15 @@ use Rattle.user_model.specs.Edited.{affine, edited, located, numbered_from}
 use Rattle.user_model.specs.Model.{ModelValue, address_named, empty_model, variable_address}
 use Rattle.certificates.specs.Points.{addresses_of, objective_value, sense_of, variables_of}
 use Rattle.dual_parts.specs.Parts.{own_bounds}
-use Rattle.dual_model.specs.DualOf.{NewGroup, bound_numbers, column_in, cost_of, costs, dual_objective_of, dual_of_model, dual_rows, function_in, group_rows, left_for, left_less_two, new_groups, numbered_groups, opposite, row_for, row_variables, scalar_function, signed, terms_from, variable_count}
+use Rattle.group_numbering.specs.NewGroups.{NewGroup, numbered_groups, terms_from, variable_count}
+use Rattle.group_numbering.specs.NumberLaws.{terms_rise as from_rises}
+use Rattle.dual_model.specs.DualOf.{bound_numbers, column_in, cost_of, costs, dual_objective_of, dual_of_model, dual_rows, function_in, group_rows, left_for, left_less_two, new_groups, opposite, row_for, row_variables, scalar_function, signed}
 use Rattle.dual_model.specs.GroupRowLaws.{own_total}
-use Rattle.dual_model.specs.NumberLaws.{terms_rise as from_rises}
+use Rattle.limit_laws.specs.Leads.{all_edited}
+use Rattle.limit_laws.specs.LeadsLaws.{both_edited}
 use Rattle.dualization.specs.Rows.{ColumnsFit}
-use Rattle.dualization.specs.DualEdits.{affine_by_name, all_edited, dual_edits, dual_names, edit_of_group, edit_of_row, edits_of_objective, function_by_name, name_of, term_by_name}
+use Rattle.dualization.specs.DualEdits.{affine_by_name, dual_edits, dual_names, edit_of_group, edit_of_row, edits_of_objective, function_by_name, name_of, term_by_name}
 use Rattle.dualization.proofs.TermLemmas.{length-padded, padded, padded_function}
-
--- ---- edits one after another
-
-after_both : (es fs : List Edit) (model : ModelValue)
-    → all_edited model (es ++ fs) ≡ all_edited (all_edited model es) fs
-after_both [] fs model = refl
-after_both (e ∷ es) fs model = after_both es fs (edited model e)
 
 abbrev pub state : List Group → List Row → Objective → ℕ → ℕ → ℕ → ModelValue
 state groups rows objective n m r = record {
@@ -417,11 +413,11 @@ module _ (model : ModelValue) (own : ℕ) (own_is : row_variables model ≡ own)
       let first : List Edit = map edit_of_group (new_groups model) in
       let second : List Edit = map (edit_of_row names) rows in
       let last : List Edit = edits_of_objective names (dual_objective_of model) in
-      after_both first (second ++ last) empty_model
+      both_edited first (second ++ last) empty_model
       ∙ ap (λ m. all_edited m (second ++ last)) (groups_made (new_groups model) [] 0 0
       ∙ (λ i. state groups [] objective.Feasibility (from_none count i)
       (from_none variables_count i) 0))
-      ∙ after_both second last (state groups [] objective.Feasibility count variables_count 0)
+      ∙ both_edited second last (state groups [] objective.Feasibility count variables_count 0)
       ∙ ap (λ m. all_edited m last) with_rows
       ∙ objective_made names distinct
       (state groups rows objective.Feasibility count variables_count (length rows))

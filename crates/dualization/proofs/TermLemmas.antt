@@ -17,8 +17,8 @@ use Rattle.aff_core.specs.Function.{function_of, if_rising, terms_of}
 use Rattle.aff_core.specs.FunctionLaws.{constant-function_of, same_function, terms-function_of}
 use Rattle.aff_core.specs.Terms.{is_nonzero}
 use Rattle.user_model.specs.Model.{variable_address}
-use Rattle.dual_model.specs.DualOf.{terms_from}
-use Rattle.dual_model.specs.NumberLaws.{terms_rise}
+use Rattle.group_numbering.specs.NewGroups.{terms_from}
+use Rattle.group_numbering.specs.NumberLaws.{terms_rise}
 use Rattle.dualization.specs.ByName.{named_terms, term_of}
 use Rattle.dualization.specs.DualEdits.{affine_by_name, term_by_name}
 

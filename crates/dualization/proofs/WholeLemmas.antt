@@ -10,7 +10,8 @@ use Rattle.dual_model.specs.DualOf.{at_bounds, costs, dual_of_model, row_costs}
 use Rattle.dual_model.specs.GroupRowLaws.{length-own}
 use Rattle.dual_model.specs.LaidLaws.{equal_adds}
 use Rattle.dual_model.specs.RowPartLaws.{length-costs, total_parts}
-use Rattle.dualization.specs.DualEdits.{all_edited, dual_edits, dual_names}
+use Rattle.limit_laws.specs.Leads.{all_edited}
+use Rattle.dualization.specs.DualEdits.{dual_edits, dual_names}
 use Rattle.dualization.proofs.EditLemmas.{are_distinct, columns_fit, names_count, row_variables_are}
 use Rattle.dualization.proofs.MadeLemmas.{all_made}
 use Rattle.dualization.proofs.ValidLemmas.{row_sets}

@@ -23,7 +23,7 @@ module _ (model : ModelValue) where
     pub moves : MovesFit model.rows model.objective (moves model.groups)
         (start_sums model.rows model.objective)
 
-  -- at the first row that doesn't fit, or else at the first variable that can't be moved
+  -- at the first row that exceeds 128 bits, or else at the first variable that can't be moved
   abbrev pub IsUnfit : Place → Type 0
   IsUnfit (place.Row name) = FirstBounds model.rows name
   IsUnfit (place.Var name) =

@@ -16,18 +16,13 @@ use Rattle.user_model.specs.declared.function.UserFunc.TheVariants.{Affine, Affi
 use Rattle.user_model.specs.declared.objective.Objective.{Objective}
 use Rattle.user_model.specs.declared.objective.Objective.TheVariants as objective
 use Rattle.user_model.specs.declared.row.Row.{Row}
-use Rattle.user_model.specs.Edited.{edited}
 use Rattle.user_model.specs.Model.{ModelValue}
-use Rattle.dual_model.specs.DualOf.{NewGroup, dual_objective_of, dual_rows, new_groups}
+use Rattle.group_numbering.specs.NewGroups.{NewGroup}
+use Rattle.dual_model.specs.DualOf.{dual_objective_of, dual_rows, new_groups}
 
 -- the names of the dual's variables, in the order of their numbers
 abbrev pub dual_names : ModelValue → List (List ℕ)
 dual_names model = flat_map (λ g. g.names) (new_groups model)
-
--- what edits make of a model, one after another
-abbrev pub all_edited : ModelValue → List Edit → ModelValue
-all_edited model [] = model
-all_edited model (e ∷ es) = all_edited (edited model e) es
 
 abbrev pub edit_of_group : NewGroup → Edit
 edit_of_group g = AddGroup g.names g.set

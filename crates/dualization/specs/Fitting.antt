@@ -28,7 +28,7 @@ use Rattle.dualization.specs.declared.sums.Sums.{Sums}
 
 -- ---- the objective of the dual: rows
 
--- what stands at equal places can be subtracted
+-- what is at equal places can be subtracted
 abbrev pub DifferencesFit : List Rational → List Rational → Type 0
 DifferencesFit [] qs = Unit {0}
 DifferencesFit (p ∷ ps) [] = Unit {0}
@@ -109,7 +109,7 @@ module _ (rows : List Row) (objective : Objective) where
   MovesFit [] s = Unit {0}
   MovesFit (m ∷ ms) s = MoveFits m s × MovesFit ms (after_move m s)
 
-  -- the first move that doesn't fit is of the variable with the name
+  -- the first move that exceeds 128 bits is of the variable with the name
   abbrev pub FirstMove : List (GroupVar × Rational) → Sums → List ℕ → Type 0
   FirstMove [] s name = ⊥
   FirstMove (m ∷ ms) s name =
@@ -147,7 +147,7 @@ module _ (model : ModelValue) (rows : List (List Rational)) where
   LeftFits v =
       AddUp zero_ℚ (adjoint_parts (rows_with rows model.rows) v) × ReducedCostFits model rows v
 
-  -- the first of these variables for which it doesn't fit has the name
+  -- the first of these variables for which it exceeds 128 bits has the name
   abbrev pub FirstLeft : List GroupVar → List ℕ → Type 0
   FirstLeft [] name = ⊥
   FirstLeft (v ∷ vars) name =

@@ -4,4 +4,3 @@ pub mod Rows
 pub mod Fitting
 pub mod Told
 pub mod Answers
-pub mod Refusals

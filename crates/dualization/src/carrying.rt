@@ -10,8 +10,9 @@ ghost use Rattle.certificates.specs.Duals as dual;
 ghost use Rattle.certificates.specs.Points.{address_of, addresses_of, objective_function, sense_of};
 ghost use Rattle.cert_core.specs.Checked.{HasRowDuals};
 ghost use Rattle.cert_core.specs.Folds.{CostFits};
+ghost use Rattle.group_numbering.specs.NewGroups.{variable_count};
 ghost use Rattle.dual_model.specs.Carried.{HoldsDuals, carried_rows, carried_variable, carried_variables, part_size};
-ghost use Rattle.dual_model.specs.DualOf.{new_groups, variable_count};
+ghost use Rattle.dual_model.specs.DualOf.{new_groups};
 ghost use Rattle.dual_model.specs.RowPartLaws.{total_parts};
 ghost use Rattle.dual_parts.specs.Parts.{joined};
 ghost use Rattle.dualization.specs.Answers.{CarriesPoint};
@@ -172,7 +173,7 @@ fn reduced_costs(
     Ok(left)
 }
 
-// Finds the first variable for which what is left doesn't fit.
+// Finds the first variable for which what is left exceeds 128 bits.
 fn test_groups(alloc: Global, model: &UserModel, duals: &[Ratios]) -> Result<(), DualFault>
     requires { HasRowDuals model.now.model.rows duals.now }
     ensures { let model = model.now.model in

@@ -8,9 +8,10 @@ ghost use Rattle.dual_model.specs.Carried.{HoldsDuals};
 ghost use Rattle.user_model.specs.Model.{empty_model};
 ghost use Rattle.dual_model.specs.DualOf.{dual_of_model, opposite, signed};
 ghost use Rattle.dualization.specs.Answers.{IsDual};
-ghost use Rattle.dualization.specs.DualEdits.{all_edited, dual_edits};
-ghost use Rattle.dualization.specs.Refusals.{FullAlone};
+ghost use Rattle.dualization.specs.DualEdits.{dual_edits};
 ghost use Rattle.dualization.specs.Rows.{IsObjectiveOf, all_bounds, edit_of_objective};
+ghost use Rattle.limit_laws.specs.Leads.{all_edited};
+ghost use Rattle.limit_laws.specs.Limits.{LimitsAlone};
 
 use crate::DualFault;
 use crate::by_name::named_function;
@@ -42,7 +43,7 @@ pub fn dual(alloc: Global, model: &UserModel) -> Result<Edits, DualFault>
     ensures dual { IsDual model.now.model result }
     ensures made { IfOk result (λ edits. all_edited empty_model edits ≡ dual_of_model model.now.model) }
     ensures holds { HoldsDuals model.now.model }
-    ensures limits { OnOk result (FullAlone model.now.model) }
+    ensures limits { IfOk result (LimitsAlone empty_model) }
 {
     let rows = model.rows();
     let objective = model.objective();

@@ -1,6 +1,7 @@
 //! Whether numbers are a point of the dual.
 ghost use Rattle.std.specs.Prelude.{◌≡◌, ◌+◌, ◌<◌, ◌↔◌, None, IfSome, Some, length, true};
-ghost use Rattle.dual_model.specs.DualOf.{new_groups, variable_count};
+ghost use Rattle.group_numbering.specs.NewGroups.{variable_count};
+ghost use Rattle.dual_model.specs.DualOf.{new_groups};
 ghost use Rattle.dual_model.specs.GroupRowLaws.{own_total};
 ghost use Rattle.dual_model.specs.RowPartLaws.{total_parts};
 

@@ -1,10 +1,9 @@
 -- An edit that is accepted, and whose model is bridged, is refused for nothing.
-use Rattle.std.proofs.Common.{◌≡◌, ◌≢◌, ℕ, Option, Some, None, ap, refl, subst, sym, ◌∙◌, Ok, Err, true}
-use Rattle.std.specs.Prelude.{Result}
+use Rattle.std.proofs.Common.{◌≡◌, ℕ, Option, Some, None, refl, sym, ◌∙◌, Ok, Err}
 use Rattle.std.proofs.lemmas.Option.{none-some}
 use Rattle.bridge_graph.specs.Hypergraph.{IsCostly}
 use Rattle.bridged_rows_laws.specs.BridgedRows.{IsBridged, never_overflowing, never_unsupported}
-use Rattle.cache_layer.specs.Answers.{Becomes, IsEdited}
+use Rattle.cache_layer.specs.Answers.{IsEdited}
 use Rattle.cache_layer.specs.State.{Bridging, State, with_model}
 use Rattle.cache_layer.specs.declared.fault.EditFault.{EditFault}
 use Rattle.cache_layer.specs.declared.fault.EditFault.TheVariants.{Memory, Overflow, Refused, Unsupported}

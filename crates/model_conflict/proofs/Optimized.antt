@@ -1,26 +1,21 @@
--- What an optimise of a state without an objective tells.
-use Rattle.std.proofs.Common.{◌≡◌, ◌≢◌, ◌⊎◌, ℕ, Bool, true, false, List, length, inl, inr, refl, subst, sym, ◌∙◌, Ok, Err}
+-- What an optimise of a state without an objective says.
+use Rattle.std.proofs.Common.{◌≡◌, ℕ, true, false, inl, inr, subst, sym, ◌∙◌, Ok, Err}
 use Rattle.std.specs.Prelude.{Result}
 use Rattle.cache_layer.specs.Outcome.{IsOptimized}
 use Rattle.cache_layer.specs.State.{State}
 use Rattle.cache_layer.specs.declared.fault.OptFault.{OptFault}
-use Rattle.cache_layer.specs.declared.fault.OptFault.TheVariants as opt
+use Rattle.cache_layer.specs.declared.fault.OptFault.TheVariants as fault
 use Rattle.certificates.specs.Good.{Good}
 use Rattle.certificates.specs.GoodLaws.{bounded_without_objective}
 use Rattle.certificates.specs.declared.certificate.Certificate.{Certificate}
 use Rattle.certificates.specs.declared.certificate.Certificate.TheVariants.{Infeasible, Optimal, Unbounded}
-use Rattle.model_conflict.specs.Conflict.{Kept}
-use Rattle.model_conflict.specs.Faults.{opt_fault}
 use Rattle.model_conflict.specs.Optima.{IsBounded, IsOptimumOf, TellsOptimum}
-use Rattle.model_conflict.specs.Walk.{Finds, FindsFrom, Gives, WalksAll, found_as, infeasible_by}
-use Rattle.model_conflict.specs.declared.fault.ConflictFault.{ConflictFault}
-use Rattle.model_conflict.specs.declared.fault.ConflictFault.TheVariants as fault
+use Rattle.model_conflict.specs.Walk.{Finds, FindsFrom, Gives, found_as, infeasible_by}
 use Rattle.model_conflict.specs.declared.found.Found.{Found}
 use Rattle.model_conflict.specs.declared.found.Found.TheVariants.{Conflict, Feasible}
 use Rattle.model_conflict.specs.declared.optimizing.Duals.{Duals}
 use Rattle.model_conflict.specs.declared.optimizing.Optimum.{Optimum}
 use Rattle.model_conflict.specs.declared.optimizing.Optimum.TheVariants as optimum
-use Rattle.ratio_core.specs.Rational.{Rational}
 use Rattle.user_model.specs.Model.{ModelValue}
 use Rattle.user_model.specs.declared.objective.Objective.TheVariants.{Feasibility}
 
@@ -32,14 +27,6 @@ bounded model bare (Infeasible gap rows vars) good = tt
 bounded model bare (Unbounded x d) good = bounded_without_objective model bare x d good
 
 module _ (s : State) (pivots : ℕ) where
-  pub attached_fault : s.attached ≡ true → (why : OptFault) → IsOptimized s pivots (Err why)
-      → why ≢ opt.NotAttached
-  attached_fault is why out e =
-      never (sym is ∙ subst (λ w. IsOptimized s pivots (Err w)) e out)
-    where
-      never : true ≡ false → ⊥
-      never e = cc
-
   pub tells_given : (certificate : Certificate) (told : Optimum)
       → IsOptimized s pivots (Ok certificate) → Good s.model certificate
       → IsOptimumOf certificate told → TellsOptimum s pivots (Ok told)
@@ -57,26 +44,29 @@ module _ (s : State) (pivots : ℕ) where
     good = subst (Good s.model) is good;
   }
 
-  pub tells_fault : (why : ConflictFault) (given : OptFault) → given ≡ opt_fault why
-      → IsOptimized s pivots (Err given) → TellsOptimum s pivots (Err why)
-  tells_fault (fault.TooLarge cells) given is out =
-      subst (λ w. IsOptimized s pivots (Err w)) is out
-  tells_fault (fault.Overflow place) given is out =
-      subst (λ w. IsOptimized s pivots (Err w)) is out
-  tells_fault (fault.Limit n) given is out = subst (λ w. IsOptimized s pivots (Err w)) is out
-  tells_fault fault.Memory given is out = tt
+  pub tells_fault : s.attached ≡ true → (why : OptFault) → IsOptimized s pivots (Err why)
+      → TellsOptimum s pivots (Err why)
+  tells_fault is fault.NotAttached out = absurd (never (sym is ∙ out))
+    where
+      never : true ≡ false → ⊥
+      never e = cc
+  tells_fault is (fault.TooLarge cells) out = out
+  tells_fault is (fault.Overflow place) out = out
+  tells_fault is (fault.Limit n) out = out
+  tells_fault is fault.Memory out = tt
 
   -- ---- what is found
 
-  pub fault_found : (why : ConflictFault) → TellsOptimum s pivots (Err why)
+  pub fault_found : (why : OptFault) → TellsOptimum s pivots (Err why)
       → Finds s pivots (Err why)
+  fault_found fault.NotAttached h = absurd h
   fault_found (fault.TooLarge cells) h = inl h
   fault_found (fault.Overflow place) h = inl h
   fault_found (fault.Limit n) h = inl h
   fault_found fault.Memory h = tt
 
   pub walk_found : (duals : Duals) → Gives s pivots (infeasible_by duals)
-      → (result : Result Found ConflictFault) → FindsFrom s pivots duals result
+      → (result : Result Found OptFault) → FindsFrom s pivots duals result
       → Finds s pivots result
   walk_found duals first (Ok (Feasible x)) h = absurd (never h.2)
     where
@@ -84,6 +74,7 @@ module _ (s : State) (pivots : ℕ) where
       never e = cc
   walk_found duals first (Ok (Conflict names certificate points)) h =
       (h.0, record { duals = duals; first = first; walks = h.1 }, h.2)
+  walk_found duals first (Err fault.NotAttached) h = absurd h
   walk_found duals first (Err (fault.TooLarge cells)) h =
       inr (record { duals = duals; first = first; walks = h })
   walk_found duals first (Err (fault.Overflow place)) h =

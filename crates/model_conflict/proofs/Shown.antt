@@ -1,19 +1,18 @@
 -- What a walk shows: the rows that are needed are some of the model's, in its order; the last duals
 -- are theirs alone; and each one's point meets all others of them.
-use Rattle.std.proofs.Common.{◌≡◌, ℕ, zero, suc, List, [], ◌∷◌, ◌++◌, length, map, ap, ap₂, append-nil, append_assoc, arith, refl, subst, sym, ◌∙◌, Ok, Err}
+use Rattle.std.proofs.Common.{◌≡◌, ℕ, List, [], ◌∷◌, ◌++◌, length, map, ap, ap₂, append-nil, append_assoc, arith, refl, subst, sym, ◌∙◌, Ok, Err}
 use Rattle.std.specs.Prelude.{All, IfOk, Result}
 use Rattle.std.proofs.lemmas.List.{map-append}
 use Rattle.std.proofs.lemmas.List.Elements.{All-append, All-cons, All-head, All-nil, All-tail}
 use Rattle.map_laws.specs.EachLaws.{all_first, all_second}
 use Rattle.cache_layer.specs.State.{State}
+use Rattle.cache_layer.specs.declared.fault.OptFault.{OptFault}
 use Rattle.certificates.specs.Feasible.{IsFeasible}
 use Rattle.certificates.specs.Good.{IsInfeasible}
 use Rattle.conflict_laws.specs.Contents.{AreSame, RowMeets, all_same, feasible_with, infeasible_with, plain}
-use Rattle.conflict_laws.specs.Turned.{turned_infeasible}
-use Rattle.model_conflict.specs.Conflict.{EachCanGo, IsConflict, Kept, Shows, SomeOf, left, none, rows_of, taken, with_rows_alone}
-use Rattle.model_conflict.specs.Walk.{End, Finds, Walks, WalksAll, ended, found_as, left_out, needed, stopped, turned, with_kept, with_last, with_rows}
-use Rattle.model_conflict.specs.declared.fault.ConflictFault.{ConflictFault}
-use Rattle.model_conflict.specs.declared.fault.ConflictFault.TheVariants as fault
+use Rattle.conflict_laws.specs.Rotated.{rotated_infeasible}
+use Rattle.model_conflict.specs.Conflict.{EachIsNeeded, IsSublist, NeededRow, Shows, left, none, rows_of, taken, with_rows_alone}
+use Rattle.model_conflict.specs.Walk.{End, Finds, Walks, WalksAll, ended, found_as, left_out, needed, stopped, with_kept, with_last, with_rows}
 use Rattle.model_conflict.specs.declared.optimizing.Duals.{Duals}
 use Rattle.model_conflict.specs.declared.found.Found.{Found}
 use Rattle.model_conflict.specs.declared.found.Found.TheVariants.{Conflict, Feasible}
@@ -21,12 +20,12 @@ use Rattle.ratio_core.specs.Rational.{Rational}
 use Rattle.user_model.specs.Model.{ModelValue}
 use Rattle.user_model.specs.declared.row.Row.{Row}
 
-some_all : {X : Type 0} (P : X → Type 0) {some all : List X} → SomeOf some all → All P all
+sublist_all : {X : Type 0} (P : X → Type 0) {some all : List X} → IsSublist some all → All P all
     → All P some
-some_all P none h = All-nil P
-some_all P (taken {x} {some} {all} rest) h =
-    All-cons P x some (All-head P x all h) (some_all P rest (All-tail P x all h))
-some_all P (left {x} {some} {all} rest) h = some_all P rest (All-tail P x all h)
+sublist_all P none h = All-nil P
+sublist_all P (taken {x} {some} {all} rest) h =
+    All-cons P x some (All-head P x all h) (sublist_all P rest (All-tail P x all h))
+sublist_all P (left {x} {some} {all} rest) h = sublist_all P rest (All-tail P x all h)
 
 first_same : (r l : Row) (rs ls : List Row) → r ∷ rs ≡ l ∷ ls → r ≡ l
 first_same r l rs ls e = cc
@@ -44,11 +43,11 @@ module _ (model : ModelValue) where
     long : length rows ≡ n
     infeasible : IsInfeasible s.model duals.gap duals.rows duals.vars
 
-  record Shown (rows again : List Row) (kept : List Kept) (last : Duals) : Type 0 where
-    some : SomeOf (rows_of kept) rows
+  record Shown (rows again : List Row) (kept : List NeededRow) (last : Duals) : Type 0 where
+    some : IsSublist (rows_of kept) rows
     infeasible :
         IsInfeasible (with_rows_alone model (again ++ rows_of kept)) last.gap last.rows last.vars
-    without : EachCanGo model again kept
+    without : EachIsNeeded model again kept
 
   abbrev ShownEnd : List Row → List Row → End → Type 0
   ShownEnd rows again (Ok all) = Shown rows again all.0 all.1
@@ -66,7 +65,8 @@ module _ (model : ModelValue) where
       → All (RowMeets model.groups x) rows → All (RowMeets model.groups x) again
       → ((others : List Row) → All (RowMeets model.groups x) others
       → IsFeasible (with_rows_alone model others) x)
-      → ShownEnd rows (again ++ l ∷ []) end → ShownEnd (l ∷ rows) again (with_kept (l, x) end)
+      → ShownEnd rows (again ++ l ∷ []) end
+      → ShownEnd (l ∷ rows) again (with_kept (record { row = l; point = x }) end)
   one_kept l x rows again (Ok all) meets meet feasible h = record {
     some = taken h.some;
     infeasible = subst
@@ -75,7 +75,7 @@ module _ (model : ModelValue) where
     without = (
       feasible (again ++ rows_of all.0)
           (All-append (RowMeets model.groups x) again (rows_of all.0) meet
-          (some_all (RowMeets model.groups x) h.some meets)),
+          (sublist_all (RowMeets model.groups x) h.some meets)),
       h.without,
     );
   }
@@ -122,7 +122,7 @@ module _ (model : ModelValue) where
       let meets : All (RowMeets model.groups x) (rows ++ at.later) =
       subst (All (RowMeets model.groups x)) rest_is
       (subst (λ gs. All (RowMeets gs x) rest) at.groups f.rows) in
-      subst (λ r. ShownEnd (l ∷ rows) again (with_kept (r, x) end)) (sym this)
+      subst (λ r. ShownEnd (l ∷ rows) again (with_kept (record { row = r; point = x }) end)) (sym this)
       (one_kept l x rows again end
       (all_first (RowMeets model.groups x) rows at.later meets)
       (all_same model.groups x at.later again at.same
@@ -140,7 +140,7 @@ module _ (model : ModelValue) where
               ∙ sym (map-append plain again (l ∷ []));
         };
         long = omega (arith, long);
-        infeasible = turned_infeasible s.model (with_last (with_rows s rest) row).model row
+        infeasible = rotated_infeasible s.model (with_last (with_rows s rest) row).model row
             (again_row s row) rest duals.gap duals.rows duals.vars whole refl refl (λ y. refl)
             at.infeasible;
       }))
@@ -152,9 +152,9 @@ module _ (model : ModelValue) where
 
 -- ---- from the first row on
 
-conflict_of : (s : State) (pivots : ℕ) (all : List Kept × Duals) → WalksAll s pivots (Ok all)
+walk_shows : (s : State) (pivots : ℕ) (all : List NeededRow × Duals) → WalksAll s pivots (Ok all)
     → Shows s.model (found_as all)
-conflict_of s pivots all h =
+walk_shows s pivots all h =
     let shown = walk_shown s.model h.walks s.model.rows [] record {
       groups = refl;
       later = [];
@@ -171,12 +171,11 @@ conflict_of s pivots all h =
         without = shown.without;
       },
       refl,
-      refl,
     )
 
-pub found_shows : (s : State) (pivots : ℕ) (result : Result Found ConflictFault)
+pub found_shows : (s : State) (pivots : ℕ) (result : Result Found OptFault)
     → Finds s pivots result → IfOk result (Shows s.model)
 found_shows s pivots (Ok (Feasible x)) h = h.3.good.feasible
 found_shows s pivots (Ok (Conflict names certificate points)) h =
-    subst (Shows s.model) (sym h.2) (conflict_of s pivots h.0 h.1)
+    subst (Shows s.model) (sym h.2) (walk_shows s pivots h.0 h.1)
 found_shows s pivots (Err why) h = tt

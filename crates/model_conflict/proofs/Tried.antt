@@ -4,20 +4,19 @@ use Rattle.std.specs.Prelude.{All, IfErr, IfOk, IsErrAnd, OnOk, Result}
 use Rattle.std.proofs.lemmas.List.Elements.{All-head}
 use Rattle.cache_layer.specs.Cached.{Cached, Stands, model_in, state_of}
 use Rattle.cache_layer.specs.Outcome.{IsOptimized}
-use Rattle.cache_layer.specs.State.{Bridging, State, with_model}
-use Rattle.cache_layer.specs.declared.fault.OptFault.TheVariants as opt
+use Rattle.cache_layer.specs.State.{Bridging, State}
+use Rattle.cache_layer.specs.declared.fault.OptFault.{OptFault}
+use Rattle.cache_layer.specs.declared.fault.OptFault.TheVariants as fault
 use Rattle.certificates.specs.declared.certificate.Certificate.TheVariants.{Optimal}
 use Rattle.lazy_bridge.specs.Owned.{IsBridgingOf}
 use Rattle.lists.specs.declared.memory.Memory.{Memory}
 use Rattle.model_conflict.specs.Optima.{TellsOptimum}
-use Rattle.model_conflict.specs.Steps.{IsTurnOf, StandsFirst, Tries, left_out, needed, with_needed}
+use Rattle.model_conflict.specs.Steps.{IsTrialOf, IsFirstRow, Tries, left_out, needed, with_needed}
 use Rattle.model_conflict.specs.Walk.{Gives, infeasible_by, with_last, with_rows}
-use Rattle.model_conflict.specs.declared.fault.ConflictFault.{ConflictFault}
-use Rattle.model_conflict.specs.declared.fault.ConflictFault.TheVariants as fault
 use Rattle.model_conflict.specs.declared.optimizing.Duals.{Duals}
 use Rattle.model_conflict.specs.declared.optimizing.Optimum.TheVariants as optimum
-use Rattle.model_conflict.specs.declared.turns.Turn.{Turn}
-use Rattle.model_conflict.specs.declared.turns.Walked.{Walked}
+use Rattle.model_conflict.specs.declared.trials.Trial.{Trial}
+use Rattle.model_conflict.specs.declared.trials.Walked.{Walked}
 use Rattle.model_store.specs.Store.{Stored}
 use Rattle.ratio_core.specs.Rational.{Rational}
 use Rattle.user_model.specs.Model.{ModelValue}
@@ -27,14 +26,14 @@ use Rattle.user_model.specs.declared.row.Row.{Row}
 
 -- ---- a fault that is handed on
 
-pub handed_on : {A : Type 0} (Q : Result A ConflictFault → Type 0) (r : Result A ConflictFault)
-    (why : ConflictFault) → IsErrAnd r (λ e. e ≡ why) → Q (Err why) → Q r
+pub handed_on : {A : Type 0} (Q : Result A OptFault → Type 0) (r : Result A OptFault)
+    (why : OptFault) → IsErrAnd r (λ e. e ≡ why) → Q (Err why) → Q r
 handed_on Q (Ok a) why h told = absurd h
 handed_on Q (Err e) why h told = subst (λ f. Q (Err f)) (sym h) told
 
 -- running out of memory
-pub memory_on : {A : Type 0} (Q : Result A ConflictFault → Type 0) (r : Result A ConflictFault)
-    (why : ConflictFault) → why ≡ fault.Memory → IsErrAnd r (λ e. e ≡ why) → Q (Err fault.Memory)
+pub memory_on : {A : Type 0} (Q : Result A OptFault → Type 0) (r : Result A OptFault)
+    (why : OptFault) → why ≡ fault.Memory → IsErrAnd r (λ e. e ≡ why) → Q (Err fault.Memory)
     → Q r
 memory_on Q r why is h told = handed_on Q r why h (subst (λ w. Q (Err w)) (sym is) told)
 
@@ -53,24 +52,24 @@ bridging_here cache is h =
     subst (λ attached. Stands attached cache.lazy (model_in cache)) is h in
     record { bridging = there.bridging; made = there.made }
 
--- the turn of the row that stands first
-pub turn_here : (user said : Stored) (row found : Row) (result : Result Turn Memory)
-    → said ≡ user → found ≡ row → IfOk result (IsTurnOf said.model found)
-    → IfOk result (IsTurnOf user.model row)
-turn_here user said row found result is same h =
-    subst (λ r. IfOk result (IsTurnOf user.model r)) same
-    (subst (λ (u : Stored). IfOk result (IsTurnOf u.model found)) is h)
+-- the trial of the first row
+pub trial_here : (user said : Stored) (row found : Row) (result : Result Trial Memory)
+    → said ≡ user → found ≡ row → IfOk result (IsTrialOf said.model found)
+    → IfOk result (IsTrialOf user.model row)
+trial_here user said row found result is same h =
+    subst (λ r. IfOk result (IsTrialOf user.model r)) same
+    (subst (λ (u : Stored). IfOk result (IsTrialOf u.model found)) is h)
 
 pub stands_in : (user said : Stored) (row : Row) (rest : List Row) → said ≡ user
-    → StandsFirst user.model row rest → StandsFirst said.model row rest
+    → IsFirstRow user.model row rest → IsFirstRow said.model row rest
 stands_in user said row rest is h =
-    subst (λ (u : Stored). StandsFirst u.model row rest) (sym is) h
+    subst (λ (u : Stored). IsFirstRow u.model row rest) (sym is) h
 
 pub first_in : (user said : Stored) → said ≡ user
-    → (row : Row) × (rest : List Row) × StandsFirst user.model row rest
-    → (row : Row) × (rest : List Row) × StandsFirst said.model row rest
+    → (row : Row) × (rest : List Row) × IsFirstRow user.model row rest
+    → (row : Row) × (rest : List Row) × IsFirstRow said.model row rest
 first_in user said is h =
-    (h.0, h.1, subst (λ (u : Stored). StandsFirst u.model h.0 h.1) (sym is) h.2)
+    (h.0, h.1, subst (λ (u : Stored). IsFirstRow u.model h.0 h.1) (sym is) h.2)
 
 pub valid_in : (user said : Stored) → said ≡ user → IsValid said.model → IsValid user.model
 valid_in user said is h = subst (λ (u : Stored). IsValid u.model) is h
@@ -100,14 +99,15 @@ module _ (s : State) (row : Row) (rest : List Row) (now : State) (is : now ≡ w
   still_bare h = ap (λ (t : State). t.model.objective) is ∙ h
 
   module _ (pivots : ℕ) (was : Walked) where
-    pub fault_tried : (why : ConflictFault) (new : State) (after : Walked)
+    pub fault_tried : (why : OptFault) (new : State) (after : Walked)
         → TellsOptimum now pivots (Err why) → Tries s pivots row rest was (Err why) new after
     fault_tried (fault.TooLarge cells) new after h =
-        subst (λ t. IsOptimized t pivots (Err (opt.TooLarge cells))) is h
+        subst (λ t. IsOptimized t pivots (Err (fault.TooLarge cells))) is h
     fault_tried (fault.Overflow place) new after h =
-        subst (λ t. IsOptimized t pivots (Err (opt.Overflow place))) is h
+        subst (λ t. IsOptimized t pivots (Err (fault.Overflow place))) is h
     fault_tried (fault.Limit n) new after h =
-        subst (λ t. IsOptimized t pivots (Err (opt.Limit n))) is h
+        subst (λ t. IsOptimized t pivots (Err (fault.Limit n))) is h
+    fault_tried fault.NotAttached new after h = absurd h
     fault_tried fault.Memory new after h = tt
 
     pub out_tried : (duals : Duals) (after : Walked) → Gives now pivots (infeasible_by duals)
@@ -115,7 +115,7 @@ module _ (s : State) (row : Row) (rest : List Row) (now : State) (is : now ≡ w
     out_tried duals after gives same =
         left_out duals (subst (λ t. Gives t pivots (infeasible_by duals)) is gives) is same
 
-    pub again_tried : (x : List Rational) (name : List ℕ) (result : Result Unit ConflictFault)
+    pub again_tried : (x : List Rational) (name : List ℕ) (result : Result Unit OptFault)
         (new : State) (after : Walked) → TellsOptimum now pivots (Ok (optimum.Point x))
         → name ≡ row.name → OnOk result (new ≡ with_last (with_rows s rest) row)
         → OnOk result (after ≡ with_needed was name x) → IfErr result (λ why. why ≡ fault.Memory)

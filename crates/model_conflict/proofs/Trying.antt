@@ -1,6 +1,6 @@
 -- The edits by which a row is tried are accepted, their models are bridged, and they lead to the
 -- states of the walk.
-use Rattle.std.proofs.Common.{◌≡◌, ℕ, ◌+◌, ◌≤◌, ◌<◌, List, [], ◌∷◌, ◌++◌, None, ap, arith, refl, subst, sym, ◌∙◌}
+use Rattle.std.proofs.Common.{◌≡◌, ◌≤◌, ◌<◌, List, ◌∷◌, None, ap, arith, refl, subst, sym, ◌∙◌}
 use Rattle.std.specs.Prelude.{All}
 use Rattle.std.proofs.lemmas.List.Elements.{All-head, All-weaker}
 use Rattle.aff_core.specs.Address.{Address}
@@ -8,22 +8,18 @@ use Rattle.aff_core.specs.Function.{Function, terms_of}
 use Rattle.bridged_rows_laws.specs.BridgedRows.{IsBridged, bridged_again, bridged_without}
 use Rattle.bridged_rows_laws.specs.LaterNumbers.{HasVariables, IsOfVariables, IsTerm, IsVariable}
 use Rattle.cache_layer.specs.State.{Bridging, State, with_model}
-use Rattle.model_conflict.specs.Steps.{CanWalk, IsTurnOf, StandsFirst}
+use Rattle.model_conflict.specs.Steps.{CanWalk, IsTrialOf, IsFirstRow}
 use Rattle.model_conflict.specs.Walk.{with_last, with_rows}
-use Rattle.model_conflict.specs.declared.turns.Turn.{Turn}
-use Rattle.mof_laws.specs.EditLaws.{row_edit}
+use Rattle.model_conflict.specs.declared.trials.Trial.{Trial}
 use Rattle.mof_laws.specs.VariableLaws.{HasVariableAt}
 use Rattle.mof_round_trip_laws.specs.Functions.{HasTerms, HasVariable, IsPlaced}
-use Rattle.mof_write.specs.Written.{naming}
-use Rattle.ratio_core.specs.Rational.{Rational}
 use Rattle.row_again_laws.specs.AddedAgain.{added, addition_accepted, this_placed}
 use Rattle.row_again_laws.specs.Deleted.{deleted, deletion_accepted}
-use Rattle.user_model.specs.Edited.{add_row, edited}
+use Rattle.user_model.specs.Edited.{edited}
 use Rattle.user_model.specs.Limits.{LAST_NUMBER}
 use Rattle.user_model.specs.Model.{ModelValue}
 use Rattle.user_model.specs.Refusals.{first_refusal}
 use Rattle.user_model.specs.Valid.{IsValid}
-use Rattle.user_model.specs.declared.edit.Edit.TheVariants as edit
 use Rattle.user_model.specs.declared.function.UserFunc.{UserFunc}
 use Rattle.user_model.specs.declared.function.UserFunc.TheVariants.{Affine, AffineVec, Plain, PlainVec}
 use Rattle.user_model.specs.declared.row.Row.{Row}
@@ -43,33 +39,33 @@ module _ (model : ModelValue) where
   of_variables (PlainVec vars) h = All-weaker (HasVariableAt model) IsVariable is_variable vars h
   of_variables (AffineVec fs) h = All-weaker (HasTerms model) HasVariables has_variables fs h
 
--- ---- one turn
+-- ---- one trial
 
--- the row that stands first is to be tried, by these edits
-pub record IsReady (s : State) (row : Row) (rest : List Row) (turn : Turn) : Type 0 where
+-- the first row is to be tried, by these edits
+pub record IsReady (s : State) (row : Row) (rest : List Row) (trial : Trial) : Type 0 where
   pub valid : IsValid s.model
   pub can : CanWalk s 1
   pub stands : Bridging s
-  pub first : StandsFirst s.model row rest
-  pub is : IsTurnOf s.model row turn
+  pub first : IsFirstRow s.model row rest
+  pub is : IsTrialOf s.model row trial
 
-module _ (s : State) (row : Row) (rest : List Row) (turn : Turn)
-    (ready : IsReady s row rest turn) where
+module _ (s : State) (row : Row) (rest : List Row) (trial : Trial)
+    (ready : IsReady s row rest trial) where
   whole : s.model.rows ≡ row ∷ rest
   whole = ready.first.whole
 
   bridged : IsBridged s.setting s.model
   bridged = record { bridging = ready.stands.bridging; made = ready.stands.made }
 
-  pub deletes : first_refusal s.model turn.delete ≡ None
+  pub deletes : first_refusal s.model trial.delete ≡ None
   deletes =
       ap (first_refusal s.model) ready.is.delete
       ∙ deletion_accepted s.model ready.valid row rest whole
 
-  without : edited s.model turn.delete ≡ (with_rows s rest).model
+  without : edited s.model trial.delete ≡ (with_rows s rest).model
   without = ap (edited s.model) ready.is.delete ∙ deleted s.model ready.valid row rest whole
 
-  pub stands_without : Bridging (with_model s (edited s.model turn.delete))
+  pub stands_without : Bridging (with_model s (edited s.model trial.delete))
   stands_without =
       let left : IsBridged s.setting (with_rows s rest).model =
       bridged_without s.setting s.model ready.can.bare bridged row rest whole
@@ -77,7 +73,7 @@ module _ (s : State) (row : Row) (rest : List Row) (turn : Turn)
       subst (λ m. Bridging (with_model s m)) (sym without)
       (record { bridging = left.bridging; made = left.made })
 
-  pub state_without : (now : State) → now ≡ with_model s (edited s.model turn.delete)
+  pub state_without : (now : State) → now ≡ with_model s (edited s.model trial.delete)
       → now ≡ with_rows s rest
   state_without now is_now = is_now ∙ ap (with_model s) without
 
@@ -86,7 +82,7 @@ module _ (s : State) (row : Row) (rest : List Row) (turn : Turn)
   room : s.model.next.row ≤ LAST_NUMBER
   room = let room = ready.can.room in omega (arith, room)
 
-  again : edited (with_rows s rest).model turn.add ≡ (with_last (with_rows s rest) row).model
+  again : edited (with_rows s rest).model trial.add ≡ (with_last (with_rows s rest) row).model
   again =
       ap (edited (with_rows s rest).model) ready.is.add
       ∙ added s.model ready.valid row rest whole
@@ -105,21 +101,21 @@ module _ (s : State) (row : Row) (rest : List Row) (turn : Turn)
       (of_variables s.model row.func (this_placed s.model ready.valid row rest whole)) refl
 
   module _ (now : State) (is_now : now ≡ with_rows s rest) where
-    pub adds : first_refusal now.model turn.add ≡ None
+    pub adds : first_refusal now.model trial.add ≡ None
     adds =
-        subst (λ (t : State). first_refusal t.model turn.add ≡ None) (sym is_now)
+        subst (λ (t : State). first_refusal t.model trial.add ≡ None) (sym is_now)
         (ap (first_refusal (with_rows s rest).model) ready.is.add
         ∙ addition_accepted s.model ready.valid row rest whole room)
 
-    pub stands_again : Bridging (with_model now (edited now.model turn.add))
+    pub stands_again : Bridging (with_model now (edited now.model trial.add))
     stands_again =
-        subst (λ (t : State). Bridging (with_model t (edited t.model turn.add))) (sym is_now)
+        subst (λ (t : State). Bridging (with_model t (edited t.model trial.add))) (sym is_now)
         (subst (λ m. Bridging (with_model (with_rows s rest) m)) (sym again)
         (record { bridging = last_again.bridging; made = last_again.made }))
 
-    pub state_again : (new : State) → new ≡ with_model now (edited now.model turn.add)
+    pub state_again : (new : State) → new ≡ with_model now (edited now.model trial.add)
         → new ≡ with_last (with_rows s rest) row
     state_again new is_new =
         is_new
-        ∙ ap (λ (t : State). with_model t (edited t.model turn.add)) is_now
+        ∙ ap (λ (t : State). with_model t (edited t.model trial.add)) is_now
         ∙ ap (with_model (with_rows s rest)) again

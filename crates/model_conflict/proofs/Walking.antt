@@ -1,23 +1,20 @@
 -- A walk that has come so far, and one row more.
-use Rattle.std.proofs.Common.{◌≡◌, ℕ, zero, suc, ◌+◌, ◌≤◌, ◌<◌, List, [], ◌∷◌, ◌++◌, length, map, ap, append-nil, append_assoc, arith, refl, subst, sym, ◌∙◌, Ok, Err}
-use Rattle.std.specs.Prelude.{Result}
+use Rattle.std.proofs.Common.{◌≡◌, ℕ, suc, ◌+◌, ◌≤◌, ◌<◌, List, [], ◌∷◌, ◌++◌, length, map, ap, append-nil, append_assoc, arith, refl, subst, sym, ◌∙◌, Ok, Err}
 use Rattle.std.proofs.lemmas.List.{map-append}
 use Rattle.cache_layer.specs.State.{State}
-use Rattle.model_conflict.specs.Conflict.{Kept, rows_of}
-use Rattle.model_conflict.specs.Faults.{opt_fault}
-use Rattle.model_conflict.specs.Steps.{CanWalk, StandsFirst, Tries, TriesFirst, left_out as stays_out, needed as is_needed}
-use Rattle.model_conflict.specs.Walk.{End, FindsFrom, Walks, ended, found_as, infeasible_by, left_out, needed, stopped, turned, with_kept, with_last, with_rows}
-use Rattle.model_conflict.specs.declared.fault.ConflictFault.{ConflictFault}
-use Rattle.model_conflict.specs.declared.fault.ConflictFault.TheVariants as fault
+use Rattle.cache_layer.specs.declared.fault.OptFault.{OptFault}
+use Rattle.cache_layer.specs.declared.fault.OptFault.TheVariants as fault
+use Rattle.model_conflict.specs.Conflict.{NeededRow, rows_of}
+use Rattle.model_conflict.specs.Steps.{CanWalk, IsFirstRow, Tries, TriesFirst, left_out as stays_out, needed as is_needed}
+use Rattle.model_conflict.specs.Walk.{End, FindsFrom, Walks, ended, infeasible_by, left_out, needed, stopped, with_kept, with_last, with_rows}
 use Rattle.model_conflict.specs.declared.found.Found.TheVariants.{Conflict}
 use Rattle.model_conflict.specs.declared.optimizing.Duals.{Duals}
-use Rattle.model_conflict.specs.declared.turns.Walked.{Walked}
+use Rattle.model_conflict.specs.declared.trials.Walked.{Walked}
 use Rattle.ratio_core.specs.Rational.{Rational}
-use Rattle.user_model.specs.Limits.{LAST_NUMBER}
 use Rattle.user_model.specs.declared.row.Row.{Row}
 
 -- these rows were needed before
-abbrev before : List Kept → End → End
+abbrev before : List NeededRow → End → End
 before kept (Ok all) = Ok (kept ++ all.0, all.1)
 before kept (Err why) = Err why
 
@@ -25,7 +22,7 @@ before_none : (end : End) → before [] end ≡ end
 before_none (Ok all) = refl
 before_none (Err why) = refl
 
-before_more : (kept : List Kept) (k : Kept) (end : End)
+before_more : (kept : List NeededRow) (k : NeededRow) (end : End)
     → before kept (with_kept k end) ≡ before (kept ++ k ∷ []) end
 before_more kept k (Ok all) = ap (λ ks. Ok (ks, all.1)) (sym (append_assoc kept (k ∷ []) all.0))
 before_more kept k (Err why) = refl
@@ -33,8 +30,8 @@ before_more kept k (Err why) = refl
 abbrev name_of : Row → List ℕ
 name_of r = r.name
 
-abbrev point_of : Kept → List Rational
-point_of k = k.1
+abbrev point_of : NeededRow → List Rational
+point_of k = k.point
 
 module _ (start : State) (pivots : ℕ) (first : Duals) where
   -- `done` rows were tried
@@ -46,7 +43,7 @@ module _ (start : State) (pivots : ℕ) (first : Duals) where
     pub names : walked.rows ≡ map name_of later
     pub can : CanWalk now (length rows)
     pub groups : now.model.groups ≡ start.model.groups
-    pub kept : List Kept
+    pub kept : List NeededRow
     pub kept_names : walked.rows ≡ map name_of (rows_of kept)
     pub kept_points : walked.points ≡ map point_of kept
     pub goes_on :
@@ -77,7 +74,7 @@ module _ (start : State) (pivots : ℕ) (first : Duals) where
     pub row : Row
     pub others : List Row
     pub later : List Row
-    pub stands : StandsFirst now.model row (others ++ later)
+    pub stands : IsFirstRow now.model row (others ++ later)
 
   pub has_first : (done : ℕ) (now : State) (walked : Walked) → WalkedSoFar done now walked
       → done < length start.model.rows → HasFirst done now walked
@@ -98,10 +95,10 @@ module _ (start : State) (pivots : ℕ) (first : Duals) where
     room = (let room = w.can.room in let long = w.long in omega (arith, room, long, more));
   }
 
-  pub stands_first : (done : ℕ) (now : State) (walked : Walked) → WalkedSoFar done now walked
+  pub is_first_row : (done : ℕ) (now : State) (walked : Walked) → WalkedSoFar done now walked
       → done < length start.model.rows
-      → (row : Row) × (rest : List Row) × StandsFirst now.model row rest
-  stands_first done now walked w more =
+      → (row : Row) × (rest : List Row) × IsFirstRow now.model row rest
+  is_first_row done now walked w more =
       let first = has_first done now walked w more in
       (first.row, first.others ++ first.later, first.stands)
 
@@ -150,6 +147,7 @@ module _ (start : State) (pivots : ℕ) (first : Duals) where
           func = row.func;
           set = row.set;
         } in
+        let this : NeededRow = record { row = row; point = x } in
         subst (λ s. WalkedSoFar (suc done) s after) (sym is)
         (subst (WalkedSoFar (suc done) (with_last (with_rows now (others ++ w.later)) row))
         (sym now_is) record {
@@ -165,25 +163,26 @@ module _ (start : State) (pivots : ℕ) (first : Duals) where
             room = (let room = w.can.room in let count = count_is in omega (arith, room, count));
           };
           groups = w.groups;
-          kept = w.kept ++ (row, x) ∷ [];
+          kept = w.kept ++ this ∷ [];
           kept_names = ap (λ ns. ns ++ row.name ∷ []) w.kept_names
               ∙ sym (map-append name_of (rows_of w.kept) (row ∷ []))
-              ∙ ap (map name_of) (sym (map-append (λ k. k.0) w.kept ((row, x) ∷ [])));
+              ∙ ap (map name_of) (sym (map-append (λ (k : NeededRow). k.row) w.kept (this ∷ [])));
           kept_points = ap (λ ps. ps ++ x ∷ []) w.kept_points
-              ∙ sym (map-append point_of w.kept ((row, x) ∷ []));
+              ∙ sym (map-append point_of w.kept (this ∷ []));
           goes_on = λ end walks. subst (Walks pivots (length start.model.rows) start first)
-              (before_more w.kept (row, x) end)
-              (on (with_kept (row, x) end) (needed whole value x rows vars gives walks));
+              (before_more w.kept this end)
+              (on (with_kept this end) (needed whole value x rows vars gives walks));
         })
 
-    failed : (why : ConflictFault) (new : State) (after : Walked)
+    failed : (why : OptFault) (new : State) (after : Walked)
         → Tries now pivots row (others ++ w.later) walked (Err why) new after
         → FindsFrom start pivots first (Err why)
     failed (fault.TooLarge cells) new after h =
-        on (Err (opt_fault (fault.TooLarge cells))) (stopped whole h)
+        on (Err (fault.TooLarge cells)) (stopped whole h)
     failed (fault.Overflow place) new after h =
-        on (Err (opt_fault (fault.Overflow place))) (stopped whole h)
-    failed (fault.Limit n) new after h = on (Err (opt_fault (fault.Limit n))) (stopped whole h)
+        on (Err (fault.Overflow place)) (stopped whole h)
+    failed (fault.Limit n) new after h = on (Err (fault.Limit n)) (stopped whole h)
+    failed fault.NotAttached new after h = absurd h
     failed fault.Memory new after h = tt
 
   -- ---- no row more
@@ -213,10 +212,10 @@ module _ (start : State) (pivots : ℕ) (first : Duals) where
       )
       by (r ∷ rows) is long on = absurd (omega (arith, long, all))
 
-  -- the same of the row that stands first
+  -- the first row is tried
   pub one_more : (done : ℕ) (now : State) (walked : Walked) → WalkedSoFar done now walked
       → (new : State) (after : Walked)
-      → ((row : Row) (rest : List Row) → StandsFirst now.model row rest
+      → ((row : Row) (rest : List Row) → IsFirstRow now.model row rest
       → Tries now pivots row rest walked (Ok tt) new after)
       → done < length start.model.rows → WalkedSoFar (done + 1) new after
   one_more done now walked w new after tries more = by w.rows refl
@@ -230,8 +229,8 @@ module _ (start : State) (pivots : ℕ) (first : Duals) where
           (tries row (others ++ w.later) (record { whole = whole done now walked w row others is })))
 
   pub one_failed : (done : ℕ) (now : State) (walked : Walked) → WalkedSoFar done now walked
-      → (why : ConflictFault) (new : State) (after : Walked)
-      → ((row : Row) (rest : List Row) → StandsFirst now.model row rest
+      → (why : OptFault) (new : State) (after : Walked)
+      → ((row : Row) (rest : List Row) → IsFirstRow now.model row rest
       → Tries now pivots row rest walked (Err why) new after)
       → done < length start.model.rows → FindsFrom start pivots first (Err why)
   one_failed done now walked w why new after tries more = by w.rows refl

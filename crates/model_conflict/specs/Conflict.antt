@@ -1,7 +1,7 @@
 -- What shows why a model has no feasible point: a conflict is a list of its rows that can't hold
--- together, and of which none can go. So it is irreducible: for each of its rows there is a point
--- that meets all others.
-use Rattle.std.specs.Prelude.{◌≡◌, ℕ, List, [], ◌∷◌, ◌++◌, map}
+-- together, none of which can be left out. So it is irreducible: for each of its rows there is a
+-- point that meets all others.
+use Rattle.std.specs.Prelude.{◌≡◌, List, [], ◌∷◌, ◌++◌, map}
 use Rattle.certificates.specs.Feasible.{IsFeasible}
 use Rattle.certificates.specs.Good.{Good}
 use Rattle.certificates.specs.declared.certificate.Certificate.{Certificate}
@@ -18,24 +18,25 @@ abbrev pub with_rows_alone : ModelValue → List Row → ModelValue
 with_rows_alone model rows = record model { rows = rows; objective = Feasibility }
 
 -- some items of a list, in its order
-pub data SomeOf {X : Type 0} : List X → List X → Type 0 where
-  none : SomeOf [] []
-  taken : {x : X} {some all : List X} → SomeOf some all → SomeOf (x ∷ some) (x ∷ all)
-  left : {x : X} {some all : List X} → SomeOf some all → SomeOf some (x ∷ all)
+pub data IsSublist {X : Type 0} : List X → List X → Type 0 where
+  none : IsSublist [] []
+  taken : {x : X} {some all : List X} → IsSublist some all → IsSublist (x ∷ some) (x ∷ all)
+  left : {x : X} {some all : List X} → IsSublist some all → IsSublist some (x ∷ all)
 
 -- a row of a conflict, with a point that is to meet all others of it
-abbrev pub Kept : Type 0
-Kept = Row × List Rational
+pub record NeededRow : Type 0 where
+  pub row : Row
+  pub point : List Rational
 
-abbrev pub rows_of : List Kept → List Row
-rows_of kept = map (λ k. k.0) kept
+abbrev pub rows_of : List NeededRow → List Row
+rows_of kept = map (λ k. k.row) kept
 
--- each row's point meets the rows before it and those behind it
-abbrev pub EachCanGo : ModelValue → List Row → List Kept → Type 0
-EachCanGo model before [] = Unit {0}
-EachCanGo model before (k ∷ kept) =
-    IsFeasible (with_rows_alone model (before ++ rows_of kept)) k.1
-    × EachCanGo model (before ++ k.0 ∷ []) kept
+-- each row's point meets the rows before it and those after it
+abbrev pub EachIsNeeded : ModelValue → List Row → List NeededRow → Type 0
+EachIsNeeded model before [] = Unit {0}
+EachIsNeeded model before (k ∷ kept) =
+    IsFeasible (with_rows_alone model (before ++ rows_of kept)) k.point
+    × EachIsNeeded model (before ++ k.row ∷ []) kept
 
 abbrev pub IsInfeasibility : Certificate → Type 0
 IsInfeasibility (Optimal value x rows vars) = ⊥
@@ -44,16 +45,21 @@ IsInfeasibility (Unbounded x d) = ⊥
 
 -- rows of the model, in its order, that have a good certificate of infeasibility; and whichever of
 -- them is left out, the others have a feasible point
-pub record IsConflict (model : ModelValue) (kept : List Kept)
+pub record IsConflict (model : ModelValue) (kept : List NeededRow)
     (certificate : Certificate) : Type 0 where
-  pub some : SomeOf (rows_of kept) model.rows
+  pub some : IsSublist (rows_of kept) model.rows
   pub infeasible : IsInfeasibility certificate
   pub good : Good (with_rows_alone model (rows_of kept)) certificate
-  pub without : EachCanGo model [] kept
+  pub without : EachIsNeeded model [] kept
 
--- what is found shows itself, by the names of the rows
+-- a conflict as it is reported: its rows by their names
+abbrev pub conflict_of : List NeededRow → Certificate → Found
+conflict_of kept certificate =
+    Conflict (map (λ r. r.name) (rows_of kept)) certificate (map (λ k. k.point) kept)
+
+-- what is found is a feasible point, or a conflict
 abbrev pub Shows : ModelValue → Found → Type 0
 Shows model (Feasible x) = IsFeasible model x
 Shows model (Conflict names certificate points) =
-    (kept : List Kept) × IsConflict model kept certificate
-    × (names ≡ map (λ r. r.name) (rows_of kept)) × (points ≡ map (λ k. k.1) kept)
+    (kept : List NeededRow) × IsConflict model kept certificate
+    × (Conflict names certificate points ≡ conflict_of kept certificate)

@@ -1,4 +1,3 @@
-pub mod Faults
 pub mod Conflict
 pub mod Walk
 pub mod Optima

@@ -1,13 +1,12 @@
--- What an optimise of a state without an objective tells.
+-- What an optimise of a state without an objective says.
 use Rattle.std.specs.Prelude.{◌≡◌, ℕ, List, Result, Ok, Err}
 use Rattle.cache_layer.specs.Outcome.{IsOptimized}
 use Rattle.cache_layer.specs.State.{State}
+use Rattle.cache_layer.specs.declared.fault.OptFault.{OptFault}
+use Rattle.cache_layer.specs.declared.fault.OptFault.TheVariants.{Memory, NotAttached}
 use Rattle.certificates.specs.declared.certificate.Certificate.{Certificate}
 use Rattle.certificates.specs.declared.certificate.Certificate.TheVariants.{Infeasible, Optimal, Unbounded}
-use Rattle.model_conflict.specs.Faults.{opt_fault}
 use Rattle.model_conflict.specs.Walk.{Gives, infeasible_by}
-use Rattle.model_conflict.specs.declared.fault.ConflictFault.{ConflictFault}
-use Rattle.model_conflict.specs.declared.fault.ConflictFault.TheVariants.{Memory}
 use Rattle.model_conflict.specs.declared.optimizing.Optimum.{Optimum}
 use Rattle.model_conflict.specs.declared.optimizing.Optimum.TheVariants as optimum
 use Rattle.ratio_core.specs.Rational.{Rational}
@@ -24,11 +23,13 @@ IsOptimumOf certificate (optimum.Point x) =
     × (certificate ≡ Optimal value x rows vars)
 IsOptimumOf certificate (optimum.None duals) = certificate ≡ infeasible_by duals
 
--- a feasible point, or duals that show that there is none; or the fault of the optimise
-abbrev pub TellsOptimum : State → ℕ → Result Optimum ConflictFault → Type 0
+-- a feasible point, or duals that show that there is none; or the fault of the optimise, to which a
+-- solver is attached
+abbrev pub TellsOptimum : State → ℕ → Result Optimum OptFault → Type 0
 TellsOptimum s pivots (Ok (optimum.Point x)) =
     (value : Rational) × (rows : List (List Rational)) × (vars : List Rational)
     × Gives s pivots (Optimal value x rows vars)
 TellsOptimum s pivots (Ok (optimum.None duals)) = Gives s pivots (infeasible_by duals)
 TellsOptimum s pivots (Err Memory) = Unit {0}
-TellsOptimum s pivots (Err fault) = IsOptimized s pivots (Err (opt_fault fault))
+TellsOptimum s pivots (Err NotAttached) = ⊥
+TellsOptimum s pivots (Err fault) = IsOptimized s pivots (Err fault)

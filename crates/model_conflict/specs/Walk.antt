@@ -1,23 +1,22 @@
--- How a conflict is found: the rows are tried one after another, each by the model without it.
--- Where that has no feasible point, the row is left out for good. Where it has one, the row is
--- needed, and is added again, last. So the next row to be tried always stands first, and once each
--- was tried, the rows that are needed stand in their old order.
+-- How a conflict is found (the deletion filter): the rows are tried one after another, each by the
+-- model without it. Where that has no feasible point, the row is left out for good. Where it has one,
+-- the row is needed, and is added again, last. So the next row to be tried is always the first, and
+-- once each was tried, the rows that are needed are in their old order.
 --
 --     Walks pivots n s duals end     n rows are still to be tried of a state whose model has these
 --                                    duals of an infeasibility certificate
---     Finds s pivots result          the same from the first row on, and of the whole model before
-use Rattle.std.specs.Prelude.{◌≡◌, ◌⊎◌, ℕ, zero, suc, List, [], ◌∷◌, ◌++◌, Result, Ok, Err, length, map}
+--     Finds s pivots result          what is found of the whole model, by a walk over all its rows
+--                                    where it has no feasible point
+use Rattle.std.specs.Prelude.{◌≡◌, ◌⊎◌, ℕ, suc, List, [], ◌∷◌, Result, Ok, Err, length, map}
 use Rattle.cache_layer.specs.Outcome.{IsOptimized}
 use Rattle.cache_layer.specs.State.{State, with_model}
 use Rattle.cache_layer.specs.declared.fault.OptFault.{OptFault}
+use Rattle.cache_layer.specs.declared.fault.OptFault.TheVariants.{Memory, NotAttached}
 use Rattle.certificates.specs.Good.{Good}
 use Rattle.certificates.specs.declared.certificate.Certificate.{Certificate}
 use Rattle.certificates.specs.declared.certificate.Certificate.TheVariants.{Infeasible, Optimal}
-use Rattle.conflict_laws.specs.Turned.{turned_list}
-use Rattle.model_conflict.specs.Conflict.{Kept, rows_of}
-use Rattle.model_conflict.specs.Faults.{opt_fault}
-use Rattle.model_conflict.specs.declared.fault.ConflictFault.{ConflictFault}
-use Rattle.model_conflict.specs.declared.fault.ConflictFault.TheVariants.{Memory}
+use Rattle.conflict_laws.specs.Rotated.{rotated_list}
+use Rattle.model_conflict.specs.Conflict.{NeededRow, conflict_of}
 use Rattle.model_conflict.specs.declared.optimizing.Duals.{Duals}
 use Rattle.model_conflict.specs.declared.found.Found.{Found}
 use Rattle.model_conflict.specs.declared.found.Found.TheVariants.{Conflict, Feasible}
@@ -38,8 +37,8 @@ abbrev pub infeasible_by : Duals → Certificate
 infeasible_by duals = Infeasible duals.gap duals.rows duals.vars
 
 -- the first row's duals last
-abbrev pub turned : Duals → Duals
-turned duals = record duals { rows = turned_list duals.rows }
+abbrev pub rotated : Duals → Duals
+rotated duals = record duals { rows = rotated_list duals.rows }
 
 -- ---- models
 
@@ -55,9 +54,9 @@ with_last s row = with_model s (add_row s.model row.name row.func row.set)
 -- the rows that are needed, each with its point, and the duals of them all; or why an optimise
 -- gives no certificate
 abbrev pub End : Type 0
-End = Result (List Kept × Duals) OptFault
+End = Result (List NeededRow × Duals) OptFault
 
-abbrev pub with_kept : Kept → End → End
+abbrev pub with_kept : NeededRow → End → End
 with_kept k (Ok (kept, duals)) = Ok (k ∷ kept, duals)
 with_kept k (Err fault) = Err fault
 
@@ -72,8 +71,8 @@ pub data Walks (pivots : ℕ) : ℕ → State → Duals → End → Type 0 where
       → (value : Rational) (x : List Rational) (rows : List (List Rational))
       → (vars : List Rational)
       → Gives (with_rows s rest) pivots (Optimal value x rows vars)
-      → Walks pivots n (with_last (with_rows s rest) row) (turned duals) end
-      → Walks pivots (suc n) s duals (with_kept (row, x) end)
+      → Walks pivots n (with_last (with_rows s rest) row) (rotated duals) end
+      → Walks pivots (suc n) s duals (with_kept (record { row = row; point = x }) end)
   stopped : {n : ℕ} {s : State} {duals : Duals} {row : Row} {rest : List Row}
       → s.model.rows ≡ row ∷ rest → {fault : OptFault}
       → IsOptimized (with_rows s rest) pivots (Err fault)
@@ -87,32 +86,32 @@ pub record WalksAll (s : State) (pivots : ℕ) (end : End) : Type 0 where
   pub first : Gives s pivots (infeasible_by duals)
   pub walks : Walks pivots (length s.model.rows) s duals end
 
--- the names of the rows, and their points
-abbrev pub found_as : List Kept × Duals → Found
-found_as all =
-    Conflict (map (λ r. r.name) (rows_of all.0)) (infeasible_by all.1) (map (λ k. k.1) all.0)
+-- the conflict that a walk ends with
+abbrev pub found_as : List NeededRow × Duals → Found
+found_as all = conflict_of all.0 (infeasible_by all.1)
 
-abbrev pub Finds : State → ℕ → Result Found ConflictFault → Type 0
+-- a fault is that of the first optimise that gives no certificate, and a solver is attached
+abbrev pub Finds : State → ℕ → Result Found OptFault → Type 0
 Finds s pivots (Ok (Feasible x)) =
     (value : Rational) × (rows : List (List Rational)) × (vars : List Rational)
     × Gives s pivots (Optimal value x rows vars)
 Finds s pivots (Ok (Conflict names certificate points)) =
-    (all : List Kept × Duals) × WalksAll s pivots (Ok all)
+    (all : List NeededRow × Duals) × WalksAll s pivots (Ok all)
     × (Conflict names certificate points ≡ found_as all)
 Finds s pivots (Err Memory) = Unit {0}
-Finds s pivots (Err fault) =
-    IsOptimized s pivots (Err (opt_fault fault)) ⊎ WalksAll s pivots (Err (opt_fault fault))
+Finds s pivots (Err NotAttached) = ⊥
+Finds s pivots (Err fault) = IsOptimized s pivots (Err fault) ⊎ WalksAll s pivots (Err fault)
 
--- ---- what the code that walks tells
+-- ---- what the code that walks says
 
 -- the walk ends so from these duals on
-abbrev pub FindsFrom : State → ℕ → Duals → Result Found ConflictFault → Type 0
+abbrev pub FindsFrom : State → ℕ → Duals → Result Found OptFault → Type 0
 FindsFrom s pivots duals (Ok found) =
-    (all : List Kept × Duals) × Walks pivots (length s.model.rows) s duals (Ok all)
+    (all : List NeededRow × Duals) × Walks pivots (length s.model.rows) s duals (Ok all)
     × (found ≡ found_as all)
 FindsFrom s pivots duals (Err Memory) = Unit {0}
-FindsFrom s pivots duals (Err fault) =
-    Walks pivots (length s.model.rows) s duals (Err (opt_fault fault))
+FindsFrom s pivots duals (Err NotAttached) = ⊥
+FindsFrom s pivots duals (Err fault) = Walks pivots (length s.model.rows) s duals (Err fault)
 
 -- the rows of a conflict are those of the model, by their names
 abbrev pub NamesRows : ModelValue → Found → Type 0

@@ -5,15 +5,20 @@ ghost use Rattle.model_conflict.specs.Conflict.{Shows};
 ghost use Rattle.model_conflict.specs.Steps.{CanWalk};
 ghost use Rattle.model_conflict.specs.Walk.{Finds, NamesRows};
 
+use crate::Found;
 use crate::optimizing::{Optimum, optimize};
-use crate::turns::walk;
-use crate::{ConflictFault, Found};
+use crate::trials::walk;
 use bridge_face::Bridge;
-use cache_layer::Cache;
+use cache_layer::{Cache, OptFault};
 
-/// A feasible point of an attached model without an objective, or rows that can't hold together, of
-/// which none can go. There is room for a further number for each row. The solver is asked once for
-/// the model, and then once for each of its rows.
+/// Why neither a point nor a conflict is found: the fault of the first optimise that gives no
+/// certificate, which is never `NotAttached`.
+pub type ConflictFault = OptFault;
+
+/// A feasible point of an attached model without an objective, or a conflict: rows that can't hold
+/// together, none of which can be left out. Row numbers must leave room for one more number a row. The
+/// solver is asked once for the model and then once for each of its rows, until it gives no
+/// certificate.
 pub fn find<B: Bridge>(cache: Cache<B>, pivots: u64) -> Result<Found, ConflictFault>
     requires { CanWalk (state_of cache) (length (model_in cache).rows) }
     ensures finds { Finds (state_of cache) pivots result }
@@ -23,7 +28,8 @@ pub fn find<B: Bridge>(cache: Cache<B>, pivots: u64) -> Result<Found, ConflictFa
     find_in(&mut cache, pivots)
 }
 
-/// The same of a cache that is kept. Of a conflict its model has the rows alone, in their order.
+/// A feasible point or a conflict, as by `find`, of a cache that the caller keeps. After a conflict its
+/// model has the rows of the conflict alone, in their order.
 pub fn find_in<B: Bridge>(cache: &mut Cache<B>, pivots: u64) -> Result<Found, ConflictFault>
     requires { CanWalk (state_of cache.old) (length (model_in cache.old).rows) }
     ensures finds { Finds (state_of cache.old) pivots result }
@@ -34,7 +40,7 @@ pub fn find_in<B: Bridge>(cache: &mut Cache<B>, pivots: u64) -> Result<Found, Co
     seek(cache, pivots)
 }
 
-// The same, but for what it shows.
+// What is found, without what it shows of the model.
 fn seek<B: Bridge>(cache: &mut Cache<B>, pivots: u64) -> Result<Found, ConflictFault>
     requires { CanWalk (state_of cache.old) (length (model_in cache.old).rows) }
     ensures finds { Finds (state_of cache.old) pivots result }

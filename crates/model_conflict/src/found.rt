@@ -14,8 +14,8 @@ pub enum Found {
     Feasible {
         x: Ratios,
     },
-    /// These rows, in the model's order, can't hold together: the certificate is of them alone. And
-    /// none of them can go: for each there is a point that meets all others of them.
+    /// These rows, in the model's order, can't hold together: the certificate is of them alone. None
+    /// of them can be left out: each has a point that meets all others of them.
     Conflict {
         rows: Names,
         certificate: Certificate,

@@ -1,11 +1,9 @@
 //! What an optimise of a model without an objective gives.
-ghost use Rattle.std.specs.Prelude.{◌≡◌, ◌≢◌, true};
+ghost use Rattle.std.specs.Prelude.{◌≡◌, true};
 ghost use Rattle.cache_layer.specs.Cached.{model_in, state_of};
-ghost use Rattle.model_conflict.specs.Faults.{opt_fault};
 ghost use Rattle.model_conflict.specs.Optima.{IsBounded, IsOptimumOf, TellsOptimum};
 ghost use Rattle.user_model.specs.declared.objective.Objective.TheVariants.{Feasibility};
 
-use crate::ConflictFault;
 use bridge_face::Bridge;
 use cache_layer::{Cache, OptFault};
 use cert_core::{Certificate, DualRows};
@@ -28,14 +26,14 @@ pub(crate) enum Optimum {
 }
 
 /// A feasible point, or duals that show that there is none.
-pub(crate) fn optimize<B: Bridge>(cache: &Cache<B>, pivots: u64) -> Result<Optimum, ConflictFault>
+pub(crate) fn optimize<B: Bridge>(cache: &Cache<B>, pivots: u64) -> Result<Optimum, OptFault>
     requires attached { cache.now.attached ≡ true }
     requires bare { (model_in cache.now).objective ≡ Feasibility }
     ensures { TellsOptimum (state_of cache.now) pivots result }
 {
     match cache.optimize(pivots) {
         Ok(certificate) => Ok(optimum_of(certificate)),
-        Err(fault) => Err(fault_of(fault)),
+        Err(fault) => Err(fault),
     }
 }
 
@@ -48,19 +46,5 @@ fn optimum_of(certificate: Certificate) -> Optimum
         Certificate::Optimal { x, .. } => Optimum::Point(x),
         Certificate::Infeasible { gap, rows, vars } => Optimum::None(Duals { gap, rows, vars }),
         Certificate::Unbounded { .. } => unreachable!(),
-    }
-}
-
-// A fault of an optimise to which a solver is attached.
-fn fault_of(fault: OptFault) -> ConflictFault
-    requires { fault ≢ OptFault.NotAttached }
-    ensures { fault ≡ opt_fault result }
-{
-    match fault {
-        OptFault::TooLarge { cells } => ConflictFault::TooLarge { cells },
-        OptFault::Overflow { place } => ConflictFault::Overflow { place },
-        OptFault::Limit { pivots } => ConflictFault::Limit { pivots },
-        OptFault::Memory => ConflictFault::Memory,
-        OptFault::NotAttached => unreachable!(),
     }
 }

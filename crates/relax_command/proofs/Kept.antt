@@ -5,9 +5,9 @@ use Rattle.std.specs.Prelude.{not}
 use Rattle.std.proofs.lemmas.List.Concat.{flat_map-append}
 use Rattle.cert_text.specs.Text.{certificate_text, number_line, row_lines, text_of_lines, variable_line, variable_lines}
 use Rattle.certificates.specs.Points.{variables_of}
-use Rattle.dual_model.specs.DualOf.{numbered_groups}
+use Rattle.group_numbering.specs.NewGroups.{numbered_groups}
 use Rattle.ratio_core.specs.Rational.{Rational}
-use Rattle.relax_command.specs.Text.{missed_line, missed_lines, relaxation_text}
+use Rattle.relax_command.specs.Text.{violation_line, violation_lines, relaxation_text}
 use Rattle.relaxation.specs.Answers.{IsRelaxedFrom, Shows}
 use Rattle.relaxation.specs.declared.reading.Relaxation.{Relaxation}
 use Rattle.relaxation.specs.declared.reading.Relaxation.TheVariants.{Hopeless, Least}
@@ -43,32 +43,32 @@ hard_kept n (r ∷ rows) =
     ∙ one_hard n r (hard_rows rows) (is_soft r) refl
 
 -- the soft rows keep their names
-lines_kept : (n : ℕ) (rows : List Row) (missed : List Rational)
-    → missed_lines (soft_rows (relaxed_rows n rows)) missed
-    ≡ missed_lines (soft_rows rows) missed
-lines_kept n [] missed = refl
+lines_kept : (n : ℕ) (rows : List Row) (violations : List Rational)
+    → violation_lines (soft_rows (relaxed_rows n rows)) violations
+    ≡ violation_lines (soft_rows rows) violations
+lines_kept n [] violations = refl
 lines_kept n (r ∷ rows) [] =
     none (soft_rows (relaxed_rows n (r ∷ rows))) ∙ sym (none (soft_rows (r ∷ rows)))
   where
-    none : (rs : List Row) → missed_lines rs [] ≡ []
+    none : (rs : List Row) → violation_lines rs [] ≡ []
     none [] = refl
     none (r ∷ rs) = refl
-lines_kept n (r ∷ rows) (q ∷ missed) =
+lines_kept n (r ∷ rows) (q ∷ violations) =
     let later : List Row = relaxed_rows (n + length (row_signs r)) rows in
-    ap (λ b. missed_lines (cond b (relaxed_row n r ∷ soft_rows later) (soft_rows later))
-    (q ∷ missed)) (soft_kept n r)
-    ∙ one_soft n r (soft_rows later) (soft_rows rows) q missed (is_soft r)
-    (lines_kept (n + length (row_signs r)) rows missed)
-    (lines_kept (n + length (row_signs r)) rows (q ∷ missed))
+    ap (λ b. violation_lines (cond b (relaxed_row n r ∷ soft_rows later) (soft_rows later))
+    (q ∷ violations)) (soft_kept n r)
+    ∙ one_soft n r (soft_rows later) (soft_rows rows) q violations (is_soft r)
+    (lines_kept (n + length (row_signs r)) rows violations)
+    (lines_kept (n + length (row_signs r)) rows (q ∷ violations))
   where
-    one_soft : (n : ℕ) (r : Row) (later rows : List Row) (q : Rational) (missed : List Rational)
-        (b : Bool) → missed_lines later missed ≡ missed_lines rows missed
-        → missed_lines later (q ∷ missed) ≡ missed_lines rows (q ∷ missed)
-        → missed_lines (cond b (relaxed_row n r ∷ later) later) (q ∷ missed)
-        ≡ missed_lines (cond b (r ∷ rows) rows) (q ∷ missed)
-    one_soft n r later rows q missed true rest same =
-        ap (λ ls. missed_line (r, q) ∷ ls) rest
-    one_soft n r later rows q missed false rest same = same
+    one_soft : (n : ℕ) (r : Row) (later rows : List Row) (q : Rational) (violations : List Rational)
+        (b : Bool) → violation_lines later violations ≡ violation_lines rows violations
+        → violation_lines later (q ∷ violations) ≡ violation_lines rows (q ∷ violations)
+        → violation_lines (cond b (relaxed_row n r ∷ later) later) (q ∷ violations)
+        ≡ violation_lines (cond b (r ∷ rows) rows) (q ∷ violations)
+    one_soft n r later rows q violations true rest same =
+        ap (λ ls. violation_line (r, q) ∷ ls) rest
+    one_soft n r later rows q violations false rest same = same
 
 module _ (model relaxed : ModelValue) (from : IsRelaxedFrom model relaxed) where
   abbrev slacks : List Group
@@ -90,11 +90,11 @@ module _ (model relaxed : ModelValue) (from : IsRelaxedFrom model relaxed) where
   pub text_kept : (answer : Relaxation) → Shows model answer
       → relaxation_text relaxed answer ≡ relaxation_text model answer
   unfolding certificate_text
-  text_kept (Least total x missed) shows =
+  text_kept (Least total x violations) shows =
       ap₂ (λ ls ms. text_of_lines (number_line (codes "relaxed ") total ∷ ls ++ ms))
       (numbers_kept (codes "primal ") x shows.feasible.size)
-      (ap (λ (m : ModelValue). missed_lines (soft_rows m.rows) missed) from.is
-      ∙ lines_kept model.next.variable model.rows missed)
+      (ap (λ (m : ModelValue). violation_lines (soft_rows m.rows) violations) from.is
+      ∙ lines_kept model.next.variable model.rows violations)
   text_kept (Hopeless gap rows vars) shows =
       ap₂ (λ rs ls. text_of_lines (number_line (codes "infeasible ") gap ∷ row_lines rs rows ++ ls))
       (ap (λ (m : ModelValue). hard_rows m.rows) from.is

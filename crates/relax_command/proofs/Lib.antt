@@ -2,4 +2,4 @@ pub mod Told
 pub mod Made
 pub mod Lines
 pub mod Kept
-pub mod LeftLemmas
+pub mod Filtered

@@ -1,5 +1,5 @@
 -- Lines of some of the rows so far, and what is left.
-use Rattle.std.proofs.Common.{◌≡◌, ℕ, List, [], ◌∷◌, ◌++◌, append-nil, append_assoc, ap, ap₂, map, refl, sym, ◌∙◌}
+use Rattle.std.proofs.Common.{◌≡◌, ℕ, List, [], ◌∷◌, ◌++◌, append-nil, append_assoc, ap, ap₂, arith, length, map, refl, sym, ◌∙◌}
 use Rattle.std.specs.List.{zip}
 use Rattle.std.specs.Prelude.{OnOk, Result}
 use Rattle.std.proofs.lemmas.Result.{on_ok_weaker}
@@ -41,13 +41,13 @@ module _ {X : Type 0} (line : Row × X → Line) where
   no_rows left xs text whole h e = line_all left xs text whole h (ap (λ rs. zip rs xs) e)
 
   pub none_left : (left : List Row) (xs : List X) (text whole : List ℕ)
-      → text ++ lines_text left xs ≡ whole → xs ≡ [] → text ≡ whole
-  none_left left xs text whole h e =
-      line_all left xs text whole h (ap (zip left) e ∙ none left)
+      → text ++ lines_text left xs ≡ whole → length xs ≡ 0 → text ≡ whole
+  none_left left [] text whole h e = line_all left [] text whole h (none left)
     where
       none : (rs : List Row) → zip {K = Row} {X = X} rs [] ≡ []
       none [] = refl
       none (r ∷ rs) = refl
+  none_left left (x ∷ xs) text whole h e = absurd (omega (arith, e))
 
 -- ---- parts of a text
 

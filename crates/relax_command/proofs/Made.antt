@@ -4,6 +4,7 @@ use Rattle.std.specs.Prelude.{IfOk, Result}
 use Rattle.std.specs.Result.{result_unwrap_or}
 use Rattle.file_command.specs.Loading.{AnswersMade, MakesOn}
 use Rattle.fresh_bridging.specs.TheRules.{Setting}
+use Rattle.limit_laws.specs.Limits.{LimitsAlone}
 use Rattle.lists.specs.declared.memory.Memory.{Memory as NoMemory}
 use Rattle.model_command.specs.Alone.{alone}
 use Rattle.model_load.specs.Loads.{after_edits}
@@ -23,7 +24,7 @@ use Rattle.user_model.specs.declared.refusal.Refusal.{Refusal}
 module _ (old new : Stored) (valid : IsValid old.model) (edits : List Edit)
     (are : edits ≡ relaxed_edits old.model)
     (leads : (m : ModelValue) → after_edits old.model edits ≡ Ok m
-    → m ≡ relaxed_model old.model) where
+    → m ≡ relaxed_model old.model) (limits : LimitsAlone old.model edits) where
   same_gave : (gave : Result ModelValue Refusal) → after_edits old.model edits ≡ gave
       → after_edits old.model (relaxed_edits old.model) ≡ gave
   same_gave gave h = sym (ap (after_edits old.model) are) ∙ h
@@ -33,7 +34,8 @@ module _ (old new : Stored) (valid : IsValid old.model) (edits : List Edit)
       → Says setting old.model answer
   refused_edit setting (Ok m) answer h said = absurd said
   refused_edit setting (Err refusal) answer h said =
-      subst (λ gave. SaysMade old.model setting gave answer) (sym (same_gave (Err refusal) h)) said
+      subst (λ gave. SaysMade old.model setting gave answer) (sym (same_gave (Err refusal) h))
+      (limits refusal h, said)
 
   pub relaxed_made : (result : Result Unit Answer)
       → MakesOn (after_edits old.model edits) old.parked result new → Relaxes old result new

@@ -1,4 +1,3 @@
 pub mod Text
-pub mod Left
 pub mod Says
 pub mod SaysLaws

@@ -1,10 +1,10 @@
 -- What is answered to a model, and what that says of it.
 --
---     Says       what is answered, by what the model's limits, the bridging and the solver say of its
---                relaxation: a refusal comes exactly where one of them is one
---     IsLeast    what `relaxed V` says (relaxed_model): the point meets the hard rows and misses each
---                soft row by the number that is printed, together by V, than which no point that
---                meets the hard rows has less
+--     Says       what is answered, by what the limits of models, the bridging and the solver say of
+--                the model's relaxation: a refusal comes exactly where one of them refuses
+--     IsLeast    what `relaxed V` says (relaxed_model): the point meets the hard rows, and the numbers
+--                that are printed are its violations of the soft rows, in total V. No point that
+--                meets the hard rows has a smaller total
 use Rattle.std.specs.Prelude.{◌≡◌, ◌≢◌, ℕ, Result, Ok, Err}
 use Rattle.cache_layer.specs.Answers.{IsAttached}
 use Rattle.cache_layer.specs.Outcome.{IsOptimized}
@@ -14,6 +14,7 @@ use Rattle.cache_layer.specs.declared.fault.OptFault.{OptFault}
 use Rattle.certificates.specs.declared.certificate.Certificate.{Certificate}
 use Rattle.file_answers.specs.FileAnswers.{refused}
 use Rattle.fresh_bridging.specs.TheRules.{Setting}
+use Rattle.limit_laws.specs.Limits.{IsFull}
 use Rattle.model_command.specs.Alone.{alone}
 use Rattle.model_command.specs.Telling.{attach_fault_answer, optimize_fault_answer}
 use Rattle.model_load.specs.Loads.{after_edits}
@@ -60,17 +61,17 @@ module _ (model : ModelValue) where
       (made : Result ℕ AttachFault) × (after : State) × IsAttached s made after
       × SaysAttached made after answer
 
-  -- the edits lead to the relaxation, or pass a limit
+  -- the edits lead to the relaxation, or exceed a limit
   abbrev pub SaysMade : Setting → Result ModelValue Refusal → Answer → Type 0
   SaysMade setting (Ok relaxed) answer =
       (relaxed ≡ relaxed_model model) × SaysSolved (alone setting relaxed) answer
-  SaysMade setting (Err refusal) answer = answer ≡ refused (refused_of refusal)
+  SaysMade setting (Err refusal) answer = IsFull refusal × (answer ≡ refused (refused_of refusal))
 
 abbrev pub Says : Setting → ModelValue → Answer → Type 0
 Says setting model answer =
     SaysMade model setting (after_edits model (relaxed_edits model)) answer
 
--- ---- what the code tells
+-- ---- what the code says
 
 -- a model was made its relaxation, or this is answered
 abbrev pub Relaxes : Stored → Result Unit Answer → Stored → Type 0

@@ -28,7 +28,7 @@ module _ (model : ModelValue) (answer : Answer) where
   made_plain : (setting : Setting) (made : Result ModelValue Refusal)
       → SaysMade model setting made answer → shelf_fault answer ≡ None
   made_plain setting (Ok relaxed) h = attached_plain h.1.0 h.1.1 h.1.3
-  made_plain setting (Err refusal) h = same_fault answer _ h refl
+  made_plain setting (Err refusal) h = same_fault answer _ h.1 refl
 
 pub says_plain : (setting : Setting) → SaysNoFault (Says setting)
 says_plain setting model answer h =

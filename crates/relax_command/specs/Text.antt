@@ -1,8 +1,8 @@
 -- The texts of the command's answers:
 --
---     relaxed V              the least by which the soft rows are missed together,
---     primal X V             a point that misses them by no more,
---     over R V               and by how much it misses each
+--     relaxed V              the least total violation of the soft rows,
+--     primal X V             a point that has it,
+--     over R V               and the violation of each soft row
 --     infeasible GAP         no point meets the hard rows: their certificate
 --     dual row R V ..
 --     dual var X V
@@ -19,17 +19,17 @@ use Rattle.relaxed_model.specs.Relaxed.{hard_rows, soft_rows}
 use Rattle.user_model.specs.declared.row.Row.{Row}
 use Rattle.user_model.specs.Model.{ModelValue}
 
-abbrev pub missed_line : Row × Rational → Line
-missed_line entry = number_line (codes "over " ++ escaped entry.0.name ++ codes " ") entry.1
+abbrev pub violation_line : Row × Rational → Line
+violation_line entry = number_line (codes "over " ++ escaped entry.0.name ++ codes " ") entry.1
 
-abbrev pub missed_lines : List Row → List Rational → List Line
-missed_lines rows missed = map missed_line (zip rows missed)
+abbrev pub violation_lines : List Row → List Rational → List Line
+violation_lines rows violations = map violation_line (zip rows violations)
 
 abbrev pub relaxation_text : ModelValue → Relaxation → List ℕ
-relaxation_text model (Least total x missed) =
+relaxation_text model (Least total x violations) =
     text_of_lines (number_line (codes "relaxed ") total
     ∷ variable_lines (codes "primal ") (variables_of model.groups) x
-    ++ missed_lines (soft_rows model.rows) missed)
+    ++ violation_lines (soft_rows model.rows) violations)
 relaxation_text model (Hopeless gap rows vars) =
     certificate_text (variables_of model.groups) (hard_rows model.rows)
     (Infeasible gap rows vars)

@@ -59,7 +59,7 @@ fn answer_on<B: Bridge>(alloc: Global, model: UserModel, bridges: Vec<B>) -> Ans
     }
 }
 
-// Makes the relaxation of a model out of it, or tells what is answered where a limit is passed.
+// Makes the relaxation of a model out of it, or says what is answered where a limit is passed.
 fn relax(alloc: Global, model: &mut UserModel) -> Result<(), Answer>
     ensures { Relaxes model.old result model.new }
 {

@@ -3,7 +3,6 @@
 #![tactic(auto)]
 
 mod answering;
-mod parts;
 mod printing;
 mod running;
 mod solving;

@@ -1,16 +1,15 @@
 //! The texts of the command's answers.
 ghost use Rattle.std.specs.Prelude.{◌≡◌, ◌++◌, IfOk, OnOk};
 ghost use Rattle.cert_text.specs.Text.{ended, row_lines, text_of_lines};
-ghost use Rattle.relax_command.specs.Text.{missed_line, missed_lines, relaxation_text};
+ghost use Rattle.relax_command.specs.Text.{relaxation_text, violation_line, violation_lines};
 ghost use Rattle.relaxed_model.specs.Relaxed.{hard_rows, soft_rows};
 
-use crate::parts::RowsLeft;
 use file_command::{push_numbers, push_row_duals};
 use lists::Memory;
 use model_store::UserModel;
 use name_index::Text;
 use ratio_core::{Ratio, Ratios};
-use relaxation::Relaxation;
+use relaxation::{Relaxation, is_soft};
 use report_core::Draft;
 use std::alloc::Global;
 use user_model::{Row, Rows};
@@ -38,9 +37,11 @@ fn push_relaxation(
         ++ relaxation_text relaxed.now.model relaxation.now) }
 {
     match relaxation {
-        Relaxation::Least { total, x, missed } => {
-            push_least(draft, relaxed, total, x.as_slice(), missed.as_slice())
-        }
+        Relaxation::Least {
+            total,
+            x,
+            violations,
+        } => { push_least(draft, relaxed, total, x.as_slice(), violations.as_slice()) }
         Relaxation::Hopeless { gap, rows, vars } => {
             push_hopeless(draft, relaxed, gap, rows.as_slice(), vars.as_slice())
         }
@@ -53,41 +54,44 @@ fn push_least(
     relaxed: &UserModel,
     total: &Ratio,
     x: &[Ratio],
-    missed: &[Ratio],
+    violations: &[Ratio],
 ) -> Result<(), Memory>
     ensures { OnOk result (draft.new ≡ draft.old ++ relaxation_text relaxed.now.model
-        (Relaxation.Least total.now x.now missed.now)) }
+        (Relaxation.Least total.now x.now violations.now)) }
 {
     draft.push("relaxed ")?;
     draft.push_ratio(total)?;
     draft.push("\n")?;
     push_numbers(draft, "primal ", relaxed.groups(), x)?;
-    push_missed(draft, relaxed.rows(), missed)
+    push_violations(draft, relaxed.rows(), violations)
 }
 
 // A line for each soft row.
-fn push_missed(draft: &mut Draft, rows: &Rows, missed: &[Ratio]) -> Result<(), Memory>
+fn push_violations(draft: &mut Draft, rows: &Rows, violations: &[Ratio]) -> Result<(), Memory>
     ensures { OnOk result (draft.new ≡ draft.old
-        ++ text_of_lines (missed_lines (soft_rows rows.now.items) missed.now)) }
+        ++ text_of_lines (violation_lines (soft_rows rows.now.items) violations.now)) }
 {
-    let mut left = RowsLeft::soft(rows);
-    for number in missed {
-        let Some(row) = left.next() else {
-            return Ok(());
-        };
-        push_one_missed(draft, row, number)?;
+    let mut left = violations;
+    for row in rows.iter() {
+        if is_soft(row) {
+            let Some((number, others)) = left.split_first() else {
+                return Ok(());
+            };
+            push_violation(draft, row, number)?;
+            left = others;
+        }
     }
     Ok(())
 }
 
-fn push_one_missed(draft: &mut Draft, row: &Row, missed: &Ratio) -> Result<(), Memory>
+fn push_violation(draft: &mut Draft, row: &Row, violation: &Ratio) -> Result<(), Memory>
     ensures { OnOk result (draft.new ≡ draft.old
-        ++ ended (missed_line (row.now, missed.now))) }
+        ++ ended (violation_line (row.now, violation.now))) }
 {
     draft.push("over ")?;
     draft.push_name(&row.name)?;
     draft.push(" ")?;
-    draft.push_ratio(missed)?;
+    draft.push_ratio(violation)?;
     draft.push("\n")
 }
 
@@ -114,12 +118,15 @@ fn push_duals(draft: &mut Draft, rows: &Rows, duals: &[Ratios]) -> Result<(), Me
     ensures { OnOk result (draft.new ≡ draft.old
         ++ text_of_lines (row_lines (hard_rows rows.now.items) duals.now)) }
 {
-    let mut left = RowsLeft::hard(rows);
-    for own in duals {
-        let Some(row) = left.next() else {
-            return Ok(());
-        };
-        push_row_duals(draft, row, own.as_slice())?;
+    let mut left = duals;
+    for row in rows.iter() {
+        if !is_soft(row) {
+            let Some((own, others)) = left.split_first() else {
+                return Ok(());
+            };
+            push_row_duals(draft, row, own.as_slice())?;
+            left = others;
+        }
     }
     Ok(())
 }

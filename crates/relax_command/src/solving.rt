@@ -40,7 +40,7 @@ pub(crate) fn solved<B: Bridge>(
     attached(alloc, &mut cache)
 }
 
-// The same, where the cache is lent, so that it is freed once.
+// What is answered once a solver is attached, or isn't. The cache is lent, so that it is freed once.
 fn attached<B: Bridge>(alloc: Global, cache: &mut Cache<B>) -> Result<Answer, Memory>
     requires { (model : ModelValue) × IsRelaxedFrom model (model_in cache.old) }
     ensures { (model : ModelValue) → IsRelaxedFrom model (model_in cache.old)

@@ -7,47 +7,38 @@ use Rattle.ratio_core.specs.Rational.{Rational}
 use Rattle.certificates.specs.declared.certificate.Certificate.{Certificate}
 use Rattle.certificates.specs.declared.certificate.Certificate.TheVariants.{Infeasible, Optimal, Unbounded}
 use Rattle.certificates.specs.Good.{Good, IsInfeasible, IsOptimal, IsUnbounded}
-use Rattle.user_model.specs.declared.function.UserFunc.{UserFunc}
-use Rattle.user_model.specs.declared.function.UserFunc.TheVariants.{Plain, Affine, PlainVec, AffineVec}
 use Rattle.user_model.specs.declared.row.Row.{Row}
 use Rattle.user_model.specs.Model.{ModelValue, variables}
 use Rattle.user_model.specs.Valid.{IsValid}
 use Rattle.relaxed_model.specs.HardLaws.{hard_infeasible}
 use Rattle.relaxed_model.specs.LeastLaws.{least_is, never_unbounded}
 use Rattle.relaxed_model.specs.PlacedLaws.{length-relaxed}
-use Rattle.relaxed_model.specs.Relaxed.{at_hard_rows, is_hard, is_soft, missed_by, relaxed_model, relaxed_row, relaxed_rows, row_signs, slack_count, slack_overs}
+use Rattle.relaxed_model.specs.Relaxed.{at_hard_rows, is_hard, is_soft, slack_violation, relaxed_row, relaxed_rows, row_signs, signs_on, slack_count, slack_violations}
 use Rattle.relaxation.specs.Answers.{IsRelaxedFrom, Reads, Shows, hopeless_by, least_by}
 use Rattle.relaxation.specs.KeptLaws.{soft_kept}
 use Rattle.relaxation.specs.declared.reading.Relaxation.{Relaxation}
 use Rattle.relaxation.specs.declared.reading.Relaxation.TheVariants.{Hopeless, Least}
 
 signs_kept : (n : ℕ) (r : Row) → row_signs (relaxed_row n r) ≡ row_signs r
-signs_kept n r = by r.func
-  where
-    by : (func : UserFunc) → row_signs (relaxed_row n (record r { func = func }))
-        ≡ row_signs (record r { func = func })
-    by (Plain var) = refl
-    by (Affine f) = refl
-    by (PlainVec vars) = refl
-    by (AffineVec fs) = refl
+signs_kept n r = ap (λ b. cond b (signs_on r.set) []) (soft_kept n r)
 
 count_kept : (n : ℕ) (rows : List Row) → slack_count (relaxed_rows n rows) ≡ slack_count rows
 count_kept n [] = refl
 count_kept n (r ∷ rows) =
     ap₂ (λ j k. j + k) (ap length (signs_kept n r)) (count_kept (n + length (row_signs r)) rows)
 
-overs_kept : (n : ℕ) (rows : List Row) (s : List Rational)
-    → slack_overs (relaxed_rows n rows) s ≡ slack_overs rows s
-overs_kept n [] s = refl
-overs_kept n (r ∷ rows) s =
+violations_kept : (n : ℕ) (rows : List Row) (s : List Rational)
+    → slack_violations (relaxed_rows n rows) s ≡ slack_violations rows s
+violations_kept n [] s = refl
+violations_kept n (r ∷ rows) s =
     let later : ℕ = n + length (row_signs r) in
     (λ i. cond (soft_kept n r i)
-    (missed_by (take (length (signs_kept n r i)) s)
-    ∷ slack_overs (relaxed_rows later rows) (drop (length (signs_kept n r i)) s))
-    (slack_overs (relaxed_rows later rows) s))
+    (slack_violation (take (length (signs_kept n r i)) s)
+    ∷ slack_violations (relaxed_rows later rows) (drop (length (signs_kept n r i)) s))
+    (slack_violations (relaxed_rows later rows) s))
     ∙ ap₂ (λ these those. cond (is_soft r)
-    (missed_by (take (length (row_signs r)) s) ∷ these) those)
-    (overs_kept later rows (drop (length (row_signs r)) s)) (overs_kept later rows s)
+    (slack_violation (take (length (row_signs r)) s) ∷ these) those)
+    (violations_kept later rows (drop (length (row_signs r)) s)) (violations_kept later rows s)
 
 hard_kept : (n : ℕ) (rows : List Row) (ys : List (List Rational))
     → at_hard_rows (relaxed_rows n rows) ys ≡ at_hard_rows rows ys
@@ -97,7 +88,7 @@ module _ (model relaxed : ModelValue) (from : IsRelaxedFrom model relaxed) where
   reads_least value z rows vars size =
       ap₂ (λ rs k. least_by rs k value z) rows_are (own_size z size)
       ∙ ap (Least value (take (length (variables model)) z))
-      (overs_kept model.next.variable model.rows (drop (length (variables model)) z))
+      (violations_kept model.next.variable model.rows (drop (length (variables model)) z))
 
   pub reads_hopeless : (gap : Rational) (rows : List (List Rational)) (vars : List Rational)
       → length vars ≡ length (variables relaxed)

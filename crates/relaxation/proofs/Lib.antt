@@ -1,4 +1,5 @@
 pub mod RowLemmas
+pub mod RowsMade
 pub mod MadeLemmas
 pub mod KeptLemmas
 pub mod NameLemmas

@@ -1,14 +1,13 @@
 -- Lists that are read row by row.
-use Rattle.std.specs.Prelude.{◌≡◌, ℕ, ◌+◌, ◌≤◌, Bool, true, false, cond, List, [], ◌∷◌, ◌++◌, drop, length, take, refl}
+use Rattle.std.specs.Prelude.{◌≡◌, ℕ, ◌≤◌, Bool, true, false, cond, List, [], ◌∷◌, ◌++◌, drop, length, take, refl}
 use Rattle.std.proofs.Common.{ap, ap₂, arith, sym, ◌∙◌}
 use Rattle.std.proofs.lemmas.List.{append-nil, append_assoc, length-drop}
 use Rattle.ratio_core.specs.Rational.{Rational}
 use Rattle.user_model.specs.declared.edit.Edit.{Edit}
-use Rattle.user_model.specs.declared.edit.Edit.TheVariants.{Coef}
 use Rattle.user_model.specs.declared.row.Row.{Row}
-use Rattle.relaxed_model.specs.Relaxed.{at_hard_rows, is_hard, is_soft, missed_by, row_signs, slack_count, slack_overs}
+use Rattle.relaxed_model.specs.Relaxed.{at_hard_rows, is_hard, is_soft, row_signs, slack_count, slack_violation, slack_violations}
 use Rattle.relaxation.proofs.RowLemmas.{first_count, hard_length}
-use Rattle.relaxation.specs.Answers.{own_duals, own_overs}
+use Rattle.relaxation.specs.Answers.{own_duals, own_violations}
 use Rattle.relaxation.specs.RelaxedEdits.{edits_in, edits_of_rows}
 
 -- what is made so far and what is left make the whole, one part later
@@ -25,18 +24,18 @@ rest_all made left whole so e = sym (append-nil made) ∙ ap (λ ys. made ++ ys)
 -- ---- what is read row by row
 
 -- by how much the first row is missed, and those behind it
-pub overs_first : (left rest : List Row) (r : Row) (s : List Rational) → left ≡ r ∷ rest
-    → slack_overs left s
-    ≡ own_overs r (take (length (row_signs r)) s) ++ slack_overs rest (drop (length (row_signs r)) s)
-overs_first left rest r s e = ap (λ rs. slack_overs rs s) e ∙ by (is_soft r) refl
+pub violations_first : (left rest : List Row) (r : Row) (s : List Rational) → left ≡ r ∷ rest
+    → slack_violations left s
+    ≡ own_violations r (take (length (row_signs r)) s) ++ slack_violations rest (drop (length (row_signs r)) s)
+violations_first left rest r s e = ap (λ rs. slack_violations rs s) e ∙ by (is_soft r) refl
   where
     by : (b : Bool) → is_soft r ≡ b
-        → cond b (missed_by (take (length (row_signs r)) s)
-        ∷ slack_overs rest (drop (length (row_signs r)) s)) (slack_overs rest s)
-        ≡ cond b (missed_by (take (length (row_signs r)) s) ∷ []) []
-        ++ slack_overs rest (drop (length (row_signs r)) s)
+        → cond b (slack_violation (take (length (row_signs r)) s)
+        ∷ slack_violations rest (drop (length (row_signs r)) s)) (slack_violations rest s)
+        ≡ cond b (slack_violation (take (length (row_signs r)) s) ∷ []) []
+        ++ slack_violations rest (drop (length (row_signs r)) s)
     by true soft = refl
-    by false hard = ap (λ n. slack_overs rest (drop n s)) (sym (hard_length r hard))
+    by false hard = ap (λ n. slack_violations rest (drop n s)) (sym (hard_length r hard))
 
 -- the duals of the first row, where it is hard, and those behind it
 pub duals_first : (left rest : List Row) (r : Row) (ys others : List (List Rational))
@@ -64,19 +63,6 @@ pub edits_first : (left rest : List Row) (r : Row) (names : List (List ℕ)) →
     ≡ edits_in r.name (take (length (row_signs r)) names) (row_signs r)
     ++ edits_of_rows rest (drop (length (row_signs r)) names)
 edits_first left rest r names e = ap (λ rs. edits_of_rows rs names) e
-
-pub coefficient_first : (row : List ℕ) (names others : List (List ℕ)) (qs rest : List Rational)
-    (name : List ℕ) (q : Rational) → names ≡ name ∷ others → qs ≡ q ∷ rest
-    → edits_in row names qs ≡ (Coef row name q ∷ []) ++ edits_in row others rest
-coefficient_first row names others qs rest name q e k = ap₂ (edits_in row) e k
-
-pub no_coefficients : (row : List ℕ) (names : List (List ℕ)) (qs : List Rational) → qs ≡ []
-    → edits_in row names qs ≡ []
-no_coefficients row names qs e = ap (edits_in row names) e ∙ none names
-  where
-    none : (ns : List (List ℕ)) → edits_in row ns [] ≡ []
-    none [] = refl
-    none (n ∷ ns) = refl
 
 -- ---- a row more
 
@@ -112,15 +98,15 @@ edits_more left rest r names own others signs made new whole e front back are so
   left_size left rest r names others e back size,
 )
 
-pub overs_more : (left rest : List Row) (r : Row) (s own others : List Rational)
+pub violations_more : (left rest : List Row) (r : Row) (s own others : List Rational)
     (made new whole : List Rational) → left ≡ r ∷ rest → own ≡ take (length (row_signs r)) s
-    → others ≡ drop (length (row_signs r)) s → made ++ slack_overs left s ≡ whole
-    → slack_count left ≤ length s → new ≡ made ++ own_overs r own
-    → (new ++ slack_overs rest others ≡ whole) × (slack_count rest ≤ length others)
-overs_more left rest r s own others made new whole e front back so size is = (
-  ap (λ t. new ++ slack_overs rest t) back
-      ∙ rest_more made new (own_overs r (take (length (row_signs r)) s))
-      (slack_overs rest (drop (length (row_signs r)) s)) (slack_overs left s) whole so
-      (overs_first left rest r s e) (is ∙ ap (λ t. made ++ own_overs r t) front),
+    → others ≡ drop (length (row_signs r)) s → made ++ slack_violations left s ≡ whole
+    → slack_count left ≤ length s → new ≡ made ++ own_violations r own
+    → (new ++ slack_violations rest others ≡ whole) × (slack_count rest ≤ length others)
+violations_more left rest r s own others made new whole e front back so size is = (
+  ap (λ t. new ++ slack_violations rest t) back
+      ∙ rest_more made new (own_violations r (take (length (row_signs r)) s))
+      (slack_violations rest (drop (length (row_signs r)) s)) (slack_violations left s) whole so
+      (violations_first left rest r s e) (is ∙ ap (λ t. made ++ own_violations r t) front),
   left_size left rest r s others e back size,
 )

@@ -1,80 +1,67 @@
--- The edits make the relaxation of a model whose slacks have names that are free and apart: groups,
+-- The edits lead to the relaxation of a model whose slacks have names that are new and apart: groups,
 -- rows and the objective one after another.
-use Rattle.std.specs.Prelude.{◌≡◌, ◌≢◌, ℕ, zero, suc, ◌+◌, ◌*◌, ◌^◌, ◌<◌, ◌≤◌, Bool, true, false, cond, List, [], ◌∷◌, ◌++◌, All, AllPairs, None, Option, Some, Ok, Err, Result, bytes_eq, drop, find, length, map, nat_lt, replicate, slice_index_or, take, unwrap_or, refl}
+use Rattle.std.specs.Prelude.{◌≡◌, ◌≢◌, ℕ, suc, ◌+◌, ◌^◌, ◌<◌, ◌≤◌, true, false, cond, List, [], ◌∷◌, ◌++◌, All, AllPairs, Some, Ok, bytes_eq, find, is_some, length, map, not, replicate, slice_index_or, unwrap_or, refl}
 use Rattle.std.specs.List.{IsDistinct}
-use Rattle.std.specs.Option.{option_map, option_map_or}
+use Rattle.std.specs.Option.{option_map}
 use Rattle.std.proofs.Common.{ap, ap₂, arith, subst, sym, ◌∙◌}
-use Rattle.std.proofs.Math.Seq.{drop-append_seam, take-append_seam}
-use Rattle.std.proofs.lemmas.List.{append-nil, append_assoc, length-append, length-drop, length-take-le, take-append-drop}
+use Rattle.std.proofs.lemmas.List.{append-nil, append_assoc}
 use Rattle.std.proofs.lemmas.List.Concat.{flat_map-append}
-use Rattle.std.proofs.lemmas.List.Elements.{All-append, All-cons, All-head, All-nil, All-tail, All-weaker, filter-append}
-use Rattle.std.proofs.lemmas.List.Folds.{find-append}
+use Rattle.std.proofs.lemmas.List.Elements.{All-append, All-cons, All-head, All-nil, All-tail, All-weaker}
+use Rattle.std.proofs.lemmas.Bool.{or_from}
+use Rattle.std.proofs.lemmas.List.Kept.{AllPairs-cons}
 use Rattle.std.proofs.lemmas.Slice.Eq.{bytes_eq-Decides}
+use Rattle.limit_laws.specs.Leads.{Leads}
+use Rattle.limit_laws.specs.LeadsLaws.{leads_both, leads_first, leads_none, limits_alone, made_after}
+use Rattle.limit_laws.specs.Limits.{LimitsAlone}
+use Rattle.limit_laws.specs.NewNames.{IsNewIn, group_passes, is_one_named, named_first, none_passes, other_name}
 use Rattle.map_laws.specs.EachLaws.{cons_head, cons_tail}
-use Rattle.map_laws.specs.PairLaws.{AllPairs-across, AllPairs-head, AllPairs-tail}
+use Rattle.map_laws.specs.PairLaws.{AllPairs-head, AllPairs-nil, AllPairs-tail}
+use Rattle.set_core.specs.Shapes.{IsSetOf}
 use Rattle.ratio_core.specs.Rational.{Rational, one_ℚ, zero_ℚ}
 use Rattle.aff_core.specs.Address.{Address, address_cmp}
-use Rattle.aff_core.specs.Function.{Function, function_of, gathered, with_coefficient}
+use Rattle.aff_core.specs.Function.{Function, function_of, gathered}
 use Rattle.aff_core.specs.FunctionLaws.{coefficient-function_of, coefficient-gathered, constant-function_of, same_coefficients}
 use Rattle.aff_core.specs.KeyOrder.{address_order}
 use Rattle.aff_core.specs.Rising.{RiseStrictly}
 use Rattle.aff_core.specs.declared.sense.Sense.TheVariants.{Min}
 use Rattle.named_aff.specs.declared.terms.NamedTerm.{NamedTerm}
-use Rattle.model_laws.specs.Changed.{change_row-found}
 use Rattle.model_laws.specs.Located.{free_variable}
-use Rattle.numbered_list.specs.Laws.{Rise-head, Rise-tail}
-use Rattle.numbered_list.specs.Numbered.{Rise, above, below, put, set_at}
-use Rattle.numbered_list.specs.SetLaws.{above-all, above-none, below-all, below-none}
-use Rattle.user_model.specs.declared.edit.Edit.{Edit}
-use Rattle.user_model.specs.declared.edit.Edit.TheVariants.{Coef}
-use Rattle.user_model.specs.declared.function.UserFunc.{UserFunc}
-use Rattle.user_model.specs.declared.function.UserFunc.TheVariants.{Plain, Affine, PlainVec, AffineVec}
 use Rattle.user_model.specs.declared.group.Group.{Group}
 use Rattle.user_model.specs.declared.group.GroupVar.{GroupVar}
-use Rattle.user_model.specs.declared.objective.Objective.{Objective}
 use Rattle.user_model.specs.declared.objective.Objective.TheVariants as objective
-use Rattle.user_model.specs.declared.refusal.Refusal.{Refusal}
 use Rattle.user_model.specs.declared.row.Row.{Row}
-use Rattle.user_model.specs.Edited.{edited, numbered_from, on_affine, row_number}
-use Rattle.user_model.specs.Model.{ModelValue, address_named, row_named, variable_address, variables}
-use Rattle.user_model.specs.Refusals.{first_refusal}
+use Rattle.user_model.specs.Edited.{edited, numbered_from}
+use Rattle.user_model.specs.Model.{ModelValue, address_named, variable_address, variables}
+use Rattle.user_model.specs.Refusals.{has_variable_named}
 use Rattle.user_model.specs.Valid.{IsValid}
 use Rattle.certificates.specs.Points.{variables_of}
-use Rattle.dual_model.specs.DualOf.{numbered_groups, terms_from}
-use Rattle.dual_model.specs.NumberLaws.{terms_rise}
-use Rattle.dual_model.specs.PlaceLaws.{addresses_from, joined_alike}
+use Rattle.group_numbering.specs.NewGroups.{numbered_groups, terms_from}
+use Rattle.group_numbering.specs.NumberLaws.{terms_rise}
+use Rattle.group_numbering.specs.PlaceLaws.{addresses_from}
 use Rattle.model_load.specs.Loads.{after_edits}
 use Rattle.relaxed_model.specs.NameLaws.{IsFree, names_apart, names_distinct, names_free}
 use Rattle.relaxed_model.specs.PlacedLaws.{length-free_names}
-use Rattle.relaxed_model.specs.Relaxed.{free_names, is_soft, relaxed_model, relaxed_row, relaxed_rows, row_signs, signs_on, slack_count, slack_group, slack_names, sum_from, with_slacks}
+use Rattle.relaxed_model.specs.Relaxed.{free_names, relaxed_model, relaxed_rows, slack_count, slack_group, slack_names, sum_from}
 use Rattle.relaxation.proofs.RowLemmas.{few_slacks}
-use Rattle.relaxation.specs.RelaxedEdits.{edit_of_slack, edit_of_sum, edits_in, edits_of_rows, relaxed_edits, slack_term}
+use Rattle.relaxation.specs.RelaxedEdits.{edit_of_slack, edit_of_sum, edits_of_rows, relaxed_edits, slack_term}
+use Rattle.relaxation.proofs.RowsMade.{AreBehind, AreKnown, rows_lead, with_rows}
 
--- ---- edits one after another
+-- ---- new names
 
--- what edits make of a model, none of them refused
-abbrev made : ModelValue → List Edit → ModelValue
-made model [] = model
-made model (e ∷ es) = made (edited model e) es
-
-made_both : (es fs : List Edit) (model : ModelValue)
-    → made model (es ++ fs) ≡ made (made model es) fs
-made_both [] fs model = refl
-made_both (e ∷ es) fs model = made_both es fs (edited model e)
-
-made_after : (es : List Edit) (model m : ModelValue) → after_edits model es ≡ Ok m
-    → m ≡ made model es
-unfolding after_edits
-made_after [] model m e = cc
-made_after (edit ∷ es) model m e =
-    by (first_refusal model edit) e (made_after es (edited model edit) m)
-  where
-    by : (o : Option Refusal)
-        → option_map_or Err o (after_edits (edited model edit) es) ≡ Ok m
-        → (after_edits (edited model edit) es ≡ Ok m → m ≡ made (edited model edit) es)
-        → m ≡ made (edited model edit) es
-    by None e rest = rest e
-    by (Some refusal) e rest = cc
+-- a name more, and the others are new still
+later_new : (name : List ℕ) (n : ℕ) (vars : List GroupVar) (names : List (List ℕ))
+    → AllPairs {X = List ℕ} (λ a b. a ≢ b) (name ∷ names) → All (IsNewIn vars) (name ∷ names)
+    → All (IsNewIn (vars ++ record { number = n; name = name } ∷ [])) names
+later_new name n vars names apart new =
+    let first : GroupVar = record { number = n; name = name } in
+    All-weaker (λ other. (name ≢ other) × IsNewIn vars other) (IsNewIn (vars ++ first ∷ []))
+    (λ other both. All-append (λ (v : GroupVar). v.name ≢ other) vars (first ∷ []) both.1
+    (All-cons (λ (v : GroupVar). v.name ≢ other) first [] both.0
+    (All-nil (λ (v : GroupVar). v.name ≢ other)))) names
+    (λ k d end. (
+      AllPairs-head (λ a b. a ≢ b) name names apart k d end,
+      All-tail (IsNewIn vars) name names new k d end,
+    ))
 
 -- ---- groups
 
@@ -88,25 +75,47 @@ stay n = omega arith
 one_on : (n : ℕ) → n + 1 ≡ suc n
 one_on n = omega arith
 
-groups_made : (model : ModelValue) (names : List (List ℕ)) (groups : List Group) (id n : ℕ)
-    → made (with_groups model groups id n) (map edit_of_slack names)
-    ≡ with_groups model (groups ++ numbered_groups id n (map slack_group names))
-    (id + length names) (n + length names)
+-- slacks with names that are new and apart
+slacks_lead : (model : ModelValue) (names : List (List ℕ)) (groups : List Group) (id n : ℕ)
+    → AllPairs {X = List ℕ} (λ a b. a ≢ b) names → All (IsNewIn (variables_of groups)) names
+    → Leads (with_groups model groups id n) (map edit_of_slack names)
+    (with_groups model (groups ++ numbered_groups id n (map slack_group names))
+    (id + length names) (n + length names))
 unfolding edited
-groups_made model [] groups id n =
-    λ i. with_groups model (sym (append-nil groups) i) (stay id i) (stay n i)
-groups_made model (name ∷ names) groups id n =
+slacks_lead model [] groups id n apart new = record {
+  passes = tt;
+  is = λ i. with_groups model (sym (append-nil groups) i) (stay id i) (stay n i);
+}
+slacks_lead model (name ∷ names) groups id n apart new =
     let first : Group = record {
       id = id;
       vars = record { number = n; name = name } ∷ [];
       set = (slack_group name).set;
     } in
     let more : (k : ℕ) → (k + 1) + length names ≡ k + suc (length names) = λ k. omega arith in
-    groups_made model names (groups ++ first ∷ []) (id + 1) (n + 1)
-    ∙ (λ i. with_groups model
+    let one_set : IsSetOf 1 (slack_group name).set =
+    record { dimension = refl; enough = omega arith; uncrossed = refl } in
+    let later : All (IsNewIn (variables_of (groups ++ first ∷ []))) names =
+    subst (λ vs. All (IsNewIn vs) names)
+    (sym (flat_map-append (λ (g : Group). g.vars) groups (first ∷ [])))
+    (later_new name n (variables_of groups) names apart new) in
+    leads_first (edit_of_slack name) (map edit_of_slack names) (with_groups model groups id n)
+    (with_groups model (groups ++ first ∷ []) (id + 1) (n + 1)) _
+    (group_passes (with_groups model groups id n) (name ∷ []) (slack_group name).set one_set
+    (All-cons (IsNewIn (variables_of groups)) name []
+    (All-head (IsNewIn (variables_of groups)) name names new)
+    (All-nil (IsNewIn (variables_of groups))))
+    (AllPairs-cons (λ a b. a ≢ b) name [] (All-nil (λ b. name ≢ b))
+    (AllPairs-nil (λ a b. a ≢ b))))
+    refl
+    (subst (Leads (with_groups model (groups ++ first ∷ []) (id + 1) (n + 1))
+    (map edit_of_slack names))
+    (λ i. with_groups model
     ((append_assoc groups (first ∷ []) (numbered_groups (id + 1) (n + 1) (map slack_group names))
     ∙ ap (λ k. groups ++ first ∷ numbered_groups k (n + 1) (map slack_group names)) (one_on id)) i)
     (more id i) (more n i))
+    (slacks_lead model names (groups ++ first ∷ []) (id + 1) (n + 1)
+    (AllPairs-tail (λ a b. a ≢ b) name names apart) later))
 
 -- ---- variables found by name
 
@@ -115,18 +124,8 @@ address_in vars name =
     variable_address (unwrap_or (option_map (λ (v : GroupVar). v.number)
     (find (λ (v : GroupVar). bytes_eq v.name name) vars)) 0)
 
-abbrev Named : List GroupVar → List ℕ → Type 0
-Named vars name = All (λ (v : GroupVar). v.name ≢ name) vars
-
-other_bytes : (a b : List ℕ) → a ≢ b → bytes_eq a b ≡ false
-other_bytes a b other = by (bytes_eq a b) refl
-  where
-    by : (t : Bool) → bytes_eq a b ≡ t → t ≡ false
-    by true e = absurd (other ((bytes_eq-Decides a b).0 e))
-    by false e = refl
-
 found_behind : (vars : List GroupVar) (n : ℕ) (name : List ℕ) (others : List GroupVar)
-    → Named vars name → address_in (vars ++ record { number = n; name = name } ∷ others) name
+    → IsNewIn vars name → address_in (vars ++ record { number = n; name = name } ∷ others) name
     ≡ variable_address n
 found_behind [] n name others free =
     ap (λ b. variable_address (unwrap_or (option_map (λ (v : GroupVar). v.number)
@@ -137,30 +136,47 @@ found_behind (v ∷ vars) n name others free =
     ap (λ b. variable_address (unwrap_or (option_map (λ (v : GroupVar). v.number)
     (cond b (Some v) (find (λ (v : GroupVar). bytes_eq v.name name)
     (vars ++ record { number = n; name = name } ∷ others)))) 0))
-    (other_bytes v.name name (All-head (λ (v : GroupVar). v.name ≢ name) v vars free))
+    (other_name v.name name (All-head (λ (v : GroupVar). v.name ≢ name) v vars free))
     ∙ found_behind vars n name others (All-tail (λ (v : GroupVar). v.name ≢ name) v vars free)
 
--- names that are free and apart are found where they are put
+-- names that are new and apart are found where they are put
 found_each : (names : List (List ℕ)) (n : ℕ) (vars : List GroupVar)
-    → AllPairs {X = List ℕ} (λ a b. a ≢ b) names → All (Named vars) names
+    → AllPairs {X = List ℕ} (λ a b. a ≢ b) names → All (IsNewIn vars) names
     → map (address_in (vars ++ numbered_from n names)) names ≡ addresses_from n (length names)
-found_each [] n vars apart free = refl
-found_each (name ∷ names) n vars apart free =
+found_each [] n vars apart new = refl
+found_each (name ∷ names) n vars apart new =
     let first : GroupVar = record { number = n; name = name } in
     ap₂ (λ a others. a ∷ others)
-    (found_behind vars n name (numbered_from (suc n) names) (All-head (Named vars) name names free))
+    (found_behind vars n name (numbered_from (suc n) names) (All-head (IsNewIn vars) name names new))
     (ap (λ vs. map (address_in vs) names)
     (sym (append_assoc vars (first ∷ []) (numbered_from (suc n) names)))
     ∙ found_each names (suc n) (vars ++ first ∷ [])
-    (AllPairs-tail (λ a b. a ≢ b) name names apart)
-    (All-weaker (λ other. (name ≢ other) × Named vars other) (Named (vars ++ first ∷ []))
-    (λ other both. All-append (λ (v : GroupVar). v.name ≢ other) vars (first ∷ []) both.1
-    (All-cons (λ (v : GroupVar). v.name ≢ other) first [] both.0
-    (All-nil (λ (v : GroupVar). v.name ≢ other)))) names
-    (λ k d end. (
-      AllPairs-head (λ a b. a ≢ b) name names apart k d end,
-      All-tail (Named vars) name names free k d end,
-    ))))
+    (AllPairs-tail (λ a b. a ≢ b) name names apart) (later_new name n vars names apart new))
+
+-- a variable of the name is there
+there_behind : (vars : List GroupVar) (n : ℕ) (name : List ℕ) (others : List GroupVar)
+    → is_one_named (vars ++ record { number = n; name = name } ∷ others) name ≡ true
+there_behind [] n name others =
+    ap (λ b. is_some (option_map (λ (v : GroupVar). v.number)
+    (cond b (Some (record { number = n; name = name }))
+    (find (λ (v : GroupVar). bytes_eq v.name name) others))))
+    ((bytes_eq-Decides name name).1 refl)
+there_behind (v ∷ vars) n name others =
+    named_first (bytes_eq v.name name) v
+    (find (λ (v : GroupVar). bytes_eq v.name name)
+    (vars ++ record { number = n; name = name } ∷ others))
+    (there_behind vars n name others)
+
+there_each : (names : List (List ℕ)) (n : ℕ) (vars : List GroupVar)
+    → All (λ name. is_one_named (vars ++ numbered_from n names) name ≡ true) names
+there_each [] n vars = All-nil (λ name. is_one_named (vars ++ numbered_from n []) name ≡ true)
+there_each (name ∷ names) n vars =
+    let first : GroupVar = record { number = n; name = name } in
+    All-cons (λ other. is_one_named (vars ++ first ∷ numbered_from (suc n) names) other ≡ true) name
+    names (there_behind vars n name (numbered_from (suc n) names))
+    (subst (λ vs. All (λ other. is_one_named vs other ≡ true) names)
+    (append_assoc vars (first ∷ []) (numbered_from (suc n) names))
+    (there_each names (suc n) (vars ++ first ∷ [])))
 
 variables_in : (id n : ℕ) (names : List (List ℕ))
     → variables_of (numbered_groups id n (map slack_group names)) ≡ numbered_from n names
@@ -168,241 +184,6 @@ variables_in id n [] = refl
 variables_in id n (name ∷ names) =
     ap (λ vs. record { number = n; name = name } ∷ vs)
     (variables_in (suc id) (n + 1) names ∙ ap (λ m. numbered_from m names) (one_on n))
-
--- ---- one row
-
-abbrev with_rows : ModelValue → List Row → ModelValue
-with_rows model rows = record model { rows = rows }
-
-abbrev on_func : (UserFunc → UserFunc) → Row → Row
-on_func h r = record r { func = h r.func }
-
--- a row between others of lesser and greater numbers and other names
-record IsBetween (before : List Row) (r : Row) (after : List Row) : Type 0 where
-  pub low : All (λ (s : Row). s.id < r.id) before
-  pub high : All (λ (s : Row). r.id < s.id) after
-  pub other : All (λ (s : Row). s.name ≢ r.name) before
-
-row_found : (before : List Row) (r : Row) (after : List Row)
-    → All (λ (s : Row). s.name ≢ r.name) before
-    → find (λ (s : Row). bytes_eq s.name r.name) (before ++ r ∷ after) ≡ Some r
-row_found [] r after other =
-    ap (λ b. cond b (Some r) (find (λ (s : Row). bytes_eq s.name r.name) after))
-    ((bytes_eq-Decides r.name r.name).1 refl)
-row_found (s ∷ before) r after other =
-    ap (λ b. cond b (Some s) (find (λ (s : Row). bytes_eq s.name r.name) (before ++ r ∷ after)))
-    (other_bytes s.name r.name (All-head (λ (s : Row). s.name ≢ r.name) s before other))
-    ∙ row_found before r after (All-tail (λ (s : Row). s.name ≢ r.name) s before other)
-
--- another row of its number takes its place
-put_between : (before : List Row) (r q : Row) (after : List Row) → IsBetween before r after
-    → q.id ≡ r.id → put row_number q (before ++ r ∷ after) ≡ before ++ q ∷ after
-unfolding set_at
-put_between before r q after between same =
-    ap₂ (λ few many. few ++ q ∷ many) lesser greater
-  where
-    lesser : below row_number q.id (before ++ r ∷ after) ≡ before
-    lesser =
-        ap (λ n. below row_number n (before ++ r ∷ after)) same
-        ∙ filter-append (λ (s : Row). nat_lt s.id r.id) before (r ∷ after)
-        ∙ ap₂ (λ few many. few ++ many) (below-all row_number r.id before between.low)
-        (below-none row_number r.id (r ∷ after)
-        (All-cons (λ (s : Row). r.id ≤ s.id) r after (omega arith)
-        (All-weaker (λ (s : Row). r.id < s.id) (λ (s : Row). r.id ≤ s.id)
-        (λ s h. omega (arith, h)) after between.high)))
-        ∙ append-nil before
-
-    greater : above row_number q.id (before ++ r ∷ after) ≡ after
-    greater =
-        ap (λ n. above row_number n (before ++ r ∷ after)) same
-        ∙ filter-append (λ (s : Row). nat_lt r.id s.id) before (r ∷ after)
-        ∙ ap₂ (λ few many. few ++ many)
-        (above-none row_number r.id before
-        (All-weaker (λ (s : Row). s.id < r.id) (λ (s : Row). s.id ≤ r.id)
-        (λ s h. omega (arith, h)) before between.low))
-        (filter-append (λ (s : Row). nat_lt r.id s.id) (r ∷ []) after
-        ∙ ap₂ (λ few many. few ++ many)
-        (above-none row_number r.id (r ∷ [])
-        (All-cons (λ (s : Row). s.id ≤ r.id) r [] (omega arith)
-        (All-nil (λ (s : Row). s.id ≤ r.id))))
-        (above-all row_number r.id after between.high))
-
-one_changed : (model : ModelValue) (before : List Row) (r : Row) (after : List Row)
-    → IsBetween before r after → (name : List ℕ) (q : Rational)
-    → edited (with_rows model (before ++ r ∷ after)) (Coef r.name name q)
-    ≡ with_rows model (before ++ on_func
-    (on_affine (λ f. with_coefficient f (address_named model name) q)) r ∷ after)
-unfolding edited
-one_changed model before r after between name q =
-    change_row-found (with_rows model (before ++ r ∷ after)) r.name
-    (on_func (on_affine (λ f. with_coefficient f (address_named model name) q))) r
-    (row_found before r after between.other)
-    ∙ ap (with_rows model) (put_between before r
-    (on_func (on_affine (λ f. with_coefficient f (address_named model name) q)) r) after between
-    refl)
-
-slacks_twice : (n : ℕ) (q : Rational) (qs : List Rational) (func : UserFunc)
-    → on_affine (with_slacks (suc n) qs) (on_affine
-    (λ f. with_coefficient f (variable_address n) q) func)
-    ≡ on_affine (with_slacks n (q ∷ qs)) func
-slacks_twice n q qs (Plain var) = refl
-slacks_twice n q qs (Affine f) = refl
-slacks_twice n q qs (PlainVec vars) = refl
-slacks_twice n q qs (AffineVec fs) = refl
-
-no_slacks : (n : ℕ) (func : UserFunc) → func ≡ on_affine (with_slacks n []) func
-no_slacks n (Plain var) = refl
-no_slacks n (Affine f) = refl
-no_slacks n (PlainVec vars) = refl
-no_slacks n (AffineVec fs) = refl
-
--- the edits of one row's slacks, which are found at the numbers from n on
-row_made : (model : ModelValue) (before : List Row) (r : Row) (after : List Row)
-    → IsBetween before r after → (n : ℕ) (names : List (List ℕ)) (qs : List Rational)
-    → length names ≡ length qs → map (address_named model) names ≡ addresses_from n (length names)
-    → made (with_rows model (before ++ r ∷ after)) (edits_in r.name names qs)
-    ≡ with_rows model (before ++ on_func (on_affine (with_slacks n qs)) r ∷ after)
-row_made model before r after between n [] [] size located =
-    ap (λ (func : UserFunc). with_rows model (before ++ record r { func = func } ∷ after))
-    (no_slacks n r.func)
-row_made model before r after between n [] (q ∷ qs) size located = absurd (omega (arith, size))
-row_made model before r after between n (name ∷ names) [] size located =
-    absurd (omega (arith, size))
-row_made model before r after between n (name ∷ names) (q ∷ qs) size located =
-    let at : address_named model name ≡ variable_address n =
-    cons_head (address_named model name) (variable_address n) (map (address_named model) names)
-    (addresses_from (suc n) (length names)) located in
-    let next : Row =
-    on_func (on_affine (λ f. with_coefficient f (variable_address n) q)) r in
-    ap (λ m. made m (edits_in r.name names qs))
-    (one_changed model before r after between name q
-    ∙ ap (λ (a : Address). with_rows model (before ++ on_func
-    (on_affine (λ f. with_coefficient f a q)) r ∷ after)) at)
-    ∙ row_made model before next after
-    (record { low = between.low; high = between.high; other = between.other }) (suc n) names qs
-    (omega (arith, size))
-    (cons_tail (address_named model name) (variable_address n) (map (address_named model) names)
-    (addresses_from (suc n) (length names)) located)
-    ∙ ap (λ (func : UserFunc). with_rows model (before ++ record r { func = func } ∷ after))
-    (slacks_twice n q qs r.func)
-
--- a row with the slacks of its own is the row relaxed
-row_relaxed : (n : ℕ) (r : Row) → on_func (on_affine (with_slacks n (row_signs r))) r
-    ≡ relaxed_row n r
-row_relaxed n r = by r.func
-  where
-    by : (func : UserFunc)
-        → on_func (on_affine (with_slacks n (row_signs (record r { func = func }))))
-        (record r { func = func }) ≡ relaxed_row n (record r { func = func })
-    by (Plain var) = refl
-    by (Affine f) = refl
-    by (PlainVec vars) = refl
-    by (AffineVec fs) = refl
-
--- ---- all rows
-
--- the rows that are still to be relaxed, behind those that are
-record AreBehind (before rows : List Row) : Type 0 where
-  pub rise : Rise row_number rows
-  pub low : All (λ (r : Row). All (λ (s : Row). s.id < r.id) before) rows
-  pub apart : AllPairs (λ (r s : Row). r.name ≢ s.name) rows
-  pub other : All (λ (r : Row). All (λ (s : Row). s.name ≢ r.name) before) rows
-
-between_of : (before : List Row) (r : Row) (rows : List Row) → AreBehind before (r ∷ rows)
-    → IsBetween before r rows
-between_of before r rows behind = record {
-  low = All-head (λ (r : Row). All (λ (s : Row). s.id < r.id) before) r rows behind.low;
-  high = Rise-head row_number r rows behind.rise;
-  other = All-head (λ (r : Row). All (λ (s : Row). s.name ≢ r.name) before) r rows behind.other;
-}
-
--- a row of this number and name joins those before
-one_behind : (before : List Row) (r q : Row) (rows : List Row) → AreBehind before (r ∷ rows)
-    → q.id ≡ r.id → q.name ≡ r.name → AreBehind (before ++ q ∷ []) rows
-one_behind before r q rows behind same_id same_name = record {
-  rise = Rise-tail row_number r rows behind.rise;
-  low = All-weaker
-      (λ (t : Row). (r.id < t.id) × All (λ (s : Row). s.id < t.id) before)
-      (λ (t : Row). All (λ (s : Row). s.id < t.id) (before ++ q ∷ []))
-      (λ t both. All-append (λ (s : Row). s.id < t.id) before (q ∷ []) both.1
-      (All-cons (λ (s : Row). s.id < t.id) q []
-      (let less = both.0 in omega (arith, less, same_id))
-      (All-nil (λ (s : Row). s.id < t.id)))) rows
-      (λ k d end. (
-        Rise-head row_number r rows behind.rise k d end,
-        All-tail (λ (r : Row). All (λ (s : Row). s.id < r.id) before) r rows behind.low k d end,
-      ));
-  apart = AllPairs-tail (λ (r s : Row). r.name ≢ s.name) r rows behind.apart;
-  other = All-weaker
-      (λ (t : Row). (r.name ≢ t.name) × All (λ (s : Row). s.name ≢ t.name) before)
-      (λ (t : Row). All (λ (s : Row). s.name ≢ t.name) (before ++ q ∷ []))
-      (λ t both. All-append (λ (s : Row). s.name ≢ t.name) before (q ∷ []) both.1
-      (All-cons (λ (s : Row). s.name ≢ t.name) q [] (λ e. both.0 (sym same_name ∙ e))
-      (All-nil (λ (s : Row). s.name ≢ t.name)))) rows
-      (λ k d end. (
-        AllPairs-head (λ (r s : Row). r.name ≢ s.name) r rows behind.apart k d end,
-        All-tail (λ (r : Row). All (λ (s : Row). s.name ≢ r.name) before) r rows behind.other k d
-            end,
-      ));
-}
-
-addresses_parts : (n j k : ℕ)
-    → addresses_from n (j + k) ≡ addresses_from n j ++ addresses_from (n + j) k
-addresses_parts n zero k =
-    let none : 0 + k ≡ k = omega arith in
-    ap (addresses_from n) none ∙ ap (λ m. addresses_from m k) (stay n)
-addresses_parts n (suc j) k =
-    let more : suc j + k ≡ suc (j + k) = omega arith in
-    let on : suc n + j ≡ n + suc j = omega arith in
-    ap (addresses_from n) more
-    ∙ ap (λ qs. variable_address n ∷ qs) (addresses_parts (suc n) j k
-    ∙ ap (λ m. addresses_from (suc n) j ++ addresses_from m k) on)
-
-map_joined : {X Y : Type 0} (f : X → Y) (xs ys : List X) → map f (xs ++ ys) ≡ map f xs ++ map f ys
-map_joined f [] ys = refl
-map_joined f (x ∷ xs) ys = ap (λ zs. f x ∷ zs) (map_joined f xs ys)
-
-length_mapped : {X Y : Type 0} (f : X → Y) (xs : List X) → length (map f xs) ≡ length xs
-length_mapped f [] = refl
-length_mapped f (x ∷ xs) = ap suc (length_mapped f xs)
-
-length_addresses : (n k : ℕ) → length (addresses_from n k) ≡ k
-length_addresses n zero = refl
-length_addresses n (suc k) = ap suc (length_addresses (suc n) k)
-
--- all rows are relaxed, whose slacks are found at the numbers from n on
-rows_made : (model : ModelValue) (rows before : List Row) (n : ℕ) (names : List (List ℕ))
-    → AreBehind before rows → length names ≡ slack_count rows
-    → map (address_named model) names ≡ addresses_from n (length names)
-    → made (with_rows model (before ++ rows)) (edits_of_rows rows names)
-    ≡ with_rows model (before ++ relaxed_rows n rows)
-rows_made model [] before n names behind size located = refl
-rows_made model (r ∷ rows) before n names behind size located =
-    let own : ℕ = length (row_signs r) in
-    let mine : List (List ℕ) = take own names in
-    let others : List (List ℕ) = drop own names in
-    let whole : mine ++ others ≡ names = take-append-drop own names in
-    let mine_size : length mine ≡ own = length-take-le own names (omega (arith, size)) in
-    let others_size : length others ≡ slack_count rows =
-    omega (arith, size, mine_size, ap length whole, length-append mine others) in
-    let both = joined_alike (map (address_named model) mine) (map (address_named model) others)
-    (addresses_from n own) (addresses_from (n + own) (slack_count rows))
-    (length_mapped (address_named model) mine ∙ mine_size ∙ sym (length_addresses n own))
-    (sym (map_joined (address_named model) mine others)
-    ∙ ap (map (address_named model)) whole ∙ located ∙ ap (addresses_from n) size
-    ∙ addresses_parts n own (slack_count rows)) in
-    let first : Row = relaxed_row n r in
-    made_both (edits_in r.name mine (row_signs r)) (edits_of_rows rows others)
-    (with_rows model (before ++ r ∷ rows))
-    ∙ ap (λ m. made m (edits_of_rows rows others))
-    (row_made model before r rows (between_of before r rows behind) n mine (row_signs r) mine_size
-    (both.0 ∙ ap (addresses_from n) (sym mine_size))
-    ∙ ap (λ (q : Row). with_rows model (before ++ q ∷ rows)) (row_relaxed n r)
-    ∙ ap (with_rows model) (sym (append_assoc before (first ∷ []) rows)))
-    ∙ rows_made model rows (before ++ first ∷ []) (n + own) others
-    (one_behind before r first rows behind refl refl) others_size
-    (both.1 ∙ ap (addresses_from (n + own)) (sym others_size))
-    ∙ ap (with_rows model) (append_assoc before (first ∷ []) (relaxed_rows (n + own) rows))
 
 -- ---- the objective
 
@@ -440,6 +221,39 @@ sum_made model n names located =
     ∙ gathered_is (terms_from n (replicate (length names) one_ℚ)) zero_ℚ
     (terms_rise n (replicate (length names) one_ℚ)))
 
+sum_names : (names : List (List ℕ)) → map (λ (t : NamedTerm). t.variable) (map slack_term names) ≡ names
+sum_names [] = refl
+sum_names (name ∷ names) = ap (λ ns. name ∷ ns) (sum_names names)
+
+sum_leads : (model : ModelValue) (n : ℕ) (names : List (List ℕ)) → AreKnown model names
+    → map (address_named model) names ≡ addresses_from n (length names)
+    → Leads model (edit_of_sum names ∷ [])
+    (record model { objective = objective.Affine Min (sum_from n (length names)) })
+sum_leads model n names known located =
+    leads_first (edit_of_sum names) [] model
+    (record model { objective = objective.Affine Min (sum_from n (length names)) }) _
+    (record {
+      known = or_from _ _
+          (none_passes (λ name. not (has_variable_named model name))
+          (map (λ (t : NamedTerm). t.variable) (map slack_term names))
+          (subst (All (λ name. not (has_variable_named model name) ≡ false))
+          (sym (sum_names names))
+          (All-weaker (λ name. has_variable_named model name ≡ true)
+          (λ name. not (has_variable_named model name) ≡ false) (λ name e. ap not e) names known)))
+          refl;
+      free = refl;
+      shaped = refl;
+      dimension = refl;
+      output = refl;
+      interval = refl;
+      lower = refl;
+      upper = refl;
+      of_type = refl;
+      deletable = refl;
+    })
+    (sum_made model n names located)
+    (leads_none (record model { objective = objective.Affine Min (sum_from n (length names)) }))
+
 -- ---- the model
 
 module _ (model : ModelValue) (valid : IsValid model) where
@@ -465,15 +279,28 @@ module _ (model : ModelValue) (valid : IsValid model) where
   pub names_are_distinct : IsDistinct bytes_eq (slack_names model)
   names_are_distinct = names_distinct model (slack_count model.rows) few small
 
+  apart : AllPairs {X = List ℕ} (λ a b. a ≢ b) names
+  apart = names_apart model (slack_count model.rows) few small
+
+  new : All (IsNewIn (variables model)) names
+  new =
+      All-weaker (IsFree model) (IsNewIn (variables model)) (λ name. free_variable model name) names
+      (names_free model (slack_count model.rows) few small)
+
+  variables_are : variables base ≡ variables model ++ numbered_from first names
+  variables_are =
+      flat_map-append (λ (g : Group). g.vars) model.groups slacks
+      ∙ ap (λ vs. variables model ++ vs) (variables_in model.next.group first names)
+
   located : map (address_named base) names ≡ addresses_from first (length names)
   located =
-      ap (λ vs. map (address_in vs) names)
-      (flat_map-append (λ (g : Group). g.vars) model.groups slacks
-      ∙ ap (λ vs. variables model ++ vs) (variables_in model.next.group first names))
-      ∙ found_each names first (variables model)
-      (names_apart model (slack_count model.rows) few small)
-      (All-weaker (IsFree model) (Named (variables model)) (λ name. free_variable model name) names
-      (names_free model (slack_count model.rows) few small))
+      ap (λ vs. map (address_in vs) names) variables_are
+      ∙ found_each names first (variables model) apart new
+
+  known : AreKnown base names
+  known =
+      subst (λ vs. All (λ name. is_one_named vs name ≡ true) names) (sym variables_are)
+      (there_each names first (variables model))
 
   behind : AreBehind [] model.rows
   behind = record {
@@ -483,28 +310,34 @@ module _ (model : ModelValue) (valid : IsValid model) where
     other = λ k d end. All-nil (λ (s : Row). s.name ≢ (slice_index_or model.rows k d).name);
   }
 
-  all_made : made model (relaxed_edits model) ≡ relaxed_model model
-  all_made =
-      made_both (map edit_of_slack names) (edits_of_rows model.rows names ++ edit_of_sum names ∷ [])
-      model
-      ∙ ap (λ m. made m (edits_of_rows model.rows names ++ edit_of_sum names ∷ []))
-      (groups_made model names model.groups model.next.group first)
-      ∙ made_both (edits_of_rows model.rows names) (edit_of_sum names ∷ []) base
-      ∙ ap (λ m. made m (edit_of_sum names ∷ []))
-      (rows_made base model.rows [] first names behind
-      (length-free_names model (slack_count model.rows) 1 (slack_count model.rows)) located)
-      ∙ sum_made (with_rows base (relaxed_rows first model.rows)) first names located
-      ∙ ap (λ k. record {
+  all_lead : Leads model (relaxed_edits model) (relaxed_model model)
+  all_lead =
+      let count : length names ≡ slack_count model.rows =
+      length-free_names model (slack_count model.rows) 1 (slack_count model.rows) in
+      let rows : ModelValue = with_rows base (relaxed_rows first model.rows) in
+      leads_both (map edit_of_slack names) (edits_of_rows model.rows names ++ edit_of_sum names ∷ [])
+      model base (relaxed_model model)
+      (slacks_lead model names model.groups model.next.group first apart new)
+      (leads_both (edits_of_rows model.rows names) (edit_of_sum names ∷ []) base rows
+      (relaxed_model model)
+      (rows_lead base model.rows [] first names behind count known located)
+      (subst (Leads rows (edit_of_sum names ∷ []))
+      (ap (λ k. record {
         groups = model.groups ++ slacks;
         rows = relaxed_rows first model.rows;
         objective = objective.Affine Min (sum_from first k);
         next = record model.next { group = model.next.group + k; variable = first + k };
-      }) (length-free_names model (slack_count model.rows) 1 (slack_count model.rows))
+      }) count)
+      (sum_leads rows first names known located)))
 
   -- what the edits lead to, where none is refused
   pub leads_to_relaxed : (m : ModelValue) → after_edits model (relaxed_edits model) ≡ Ok m
       → m ≡ relaxed_model model
-  leads_to_relaxed m e = made_after (relaxed_edits model) model m e ∙ all_made
+  leads_to_relaxed m e = made_after (relaxed_edits model) model m e ∙ all_lead.is
+
+  -- and where one is, a limit is passed
+  pub limits_of_relaxed : LimitsAlone model (relaxed_edits model)
+  limits_of_relaxed = limits_alone (relaxed_edits model) model all_lead.passes
 
   -- the names that the code finds
   pub names_are : (rows : List Row) (count : ℕ) (found : List (List ℕ)) → rows ≡ model.rows

@@ -7,7 +7,7 @@ use Rattle.ratio_core.specs.RationalLaws.{rational_eq_Decides}
 use Rattle.set_core.specs.declared.set.Set.{Set}
 use Rattle.set_core.specs.declared.set.Set.TheVariants.{LessThan, GreaterThan, EqualTo, Interval}
 use Rattle.user_model.specs.declared.row.Row.{Row}
-use Rattle.relaxed_model.specs.Relaxed.{is_soft, missed_by, row_signs, signs_on, slack_count}
+use Rattle.relaxed_model.specs.Relaxed.{is_soft, slack_violation, row_signs, signs_on, slack_count}
 
 pub soft_signs : (r : Row) → is_soft r ≡ true → row_signs r ≡ signs_on r.set
 soft_signs r e = ap (λ b. cond b (signs_on r.set) []) e
@@ -45,12 +45,12 @@ pub first_count : (left rest : List Row) (r : Row) → left ≡ r ∷ rest
 first_count left rest r e = ap slack_count e
 
 -- of two slacks the second is the number where the first is 0
-pub missed_of_two : (s : List Rational) (first second : Rational) (b : Bool) → 2 ≤ length s
+pub violation_of_two : (s : List Rational) (first second : Rational) (b : Bool) → 2 ≤ length s
     → first ≡ get_or s 0 first → second ≡ get_or s 1 second → Decides b (first ≡ zero_ℚ)
-    → cond b second first ≡ missed_by s
-missed_of_two [] first second b size at_first at_second h = absurd (omega (arith, size))
-missed_of_two (t ∷ []) first second b size at_first at_second h = absurd (omega (arith, size))
-missed_of_two (t ∷ u ∷ more) first second b size at_first at_second h =
+    → cond b second first ≡ slack_violation s
+violation_of_two [] first second b size at_first at_second h = absurd (omega (arith, size))
+violation_of_two (t ∷ []) first second b size at_first at_second h = absurd (omega (arith, size))
+violation_of_two (t ∷ u ∷ more) first second b size at_first at_second h =
     ap (λ c. cond c second first)
     (same_from_decides b (rational_eq first zero_ℚ) h (rational_eq_Decides first zero_ℚ))
     ∙ (λ i. cond (rational_eq (at_first i) zero_ℚ) (at_second i) (at_first i))

@@ -8,7 +8,7 @@ use Rattle.user_model.specs.declared.row.Row.{Row}
 use Rattle.user_model.specs.Model.{ModelValue, variables}
 use Rattle.user_model.specs.Valid.{IsValid}
 use Rattle.relaxed_model.specs.LeastLaws.{IsLeast}
-use Rattle.relaxed_model.specs.Relaxed.{at_hard_rows, hard_model, is_hard, is_soft, missed_by, relaxed_model, slack_overs}
+use Rattle.relaxed_model.specs.Relaxed.{at_hard_rows, hard_model, is_hard, is_soft, relaxed_model, slack_violation, slack_violations}
 use Rattle.relaxation.specs.declared.reading.Relaxation.{Relaxation}
 use Rattle.relaxation.specs.declared.reading.Relaxation.TheVariants.{Hopeless, Least}
 
@@ -17,17 +17,16 @@ pub record IsRelaxedFrom (model relaxed : ModelValue) : Type 0 where
   pub valid : IsValid model
   pub is : relaxed ≡ relaxed_model model
 
--- what is shown: the least by which the soft rows must be missed, or that no point meets the hard
--- rows
+-- what is shown: the least total violation of the soft rows, or that no point meets the hard rows
 abbrev pub Shows : ModelValue → Relaxation → Type 0
-Shows model (Least total x missed) = IsLeast model total x missed
+Shows model (Least total x violations) = IsLeast model total x violations
 Shows model (Hopeless gap rows vars) = IsInfeasible (hard_model model) gap rows vars
 
 -- ---- what is read, by the rows and the number of the model's variables
 
--- of an optimal point its first numbers, and by how much each soft row is missed by the others
+-- of an optimal point its first numbers, and from the others the violation of each soft row
 abbrev pub least_by : List Row → ℕ → Rational → List Rational → Relaxation
-least_by rows size value z = Least value (take size z) (slack_overs rows (drop size z))
+least_by rows size value z = Least value (take size z) (slack_violations rows (drop size z))
 
 -- of duals those of the hard rows, and the first of the variables
 abbrev pub hopeless_by : List Row → ℕ → Rational → List (List Rational) → List Rational
@@ -43,9 +42,9 @@ Reads model (Unbounded x d) answer = ⊥
 
 -- ---- one row
 
--- by how much it is missed, where it is soft, and its duals, where it is hard
-abbrev pub own_overs : Row → List Rational → List Rational
-own_overs r own = cond (is_soft r) (missed_by own ∷ []) []
+-- its violation, where it is soft, and its duals, where it is hard
+abbrev pub own_violations : Row → List Rational → List Rational
+own_violations r own = cond (is_soft r) (slack_violation own ∷ []) []
 
 abbrev pub own_duals : Row → List Rational → List (List Rational)
 own_duals r own = cond (is_hard r) (own ∷ []) []

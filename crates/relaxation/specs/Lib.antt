@@ -1,3 +1,4 @@
+pub mod Signs
 pub mod RelaxedEdits
 pub mod Answers
 pub mod KeptLaws

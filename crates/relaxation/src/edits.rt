@@ -2,14 +2,16 @@
 ghost use Rattle.std.specs.Prelude.{◌≡◌, ◌∷◌, ◌++◌, ◌≤◌, [], Ok, IfOk, OnOk, length, map};
 ghost use Rattle.std.specs.List.{IsDistinct};
 ghost use Rattle.std.specs.Str.{bytes_eq};
+ghost use Rattle.limit_laws.specs.Limits.{LimitsAlone};
 ghost use Rattle.model_load.specs.Loads.{after_edits};
 ghost use Rattle.named_aff.specs.Distinct.{HasDistinctNames};
 ghost use Rattle.user_model.specs.Model.{ModelValue};
 ghost use Rattle.relaxed_model.specs.Relaxed.{relaxed_model, slack_count};
+ghost use Rattle.relaxation.specs.Signs.{signs_of};
 ghost use Rattle.relaxation.specs.RelaxedEdits.{edit_of_slack, edit_of_sum, edits_in, edits_of_rows, relaxed_edits, slack_term};
 
 use crate::names::free_names;
-use crate::rows::{row_signs, slack_count};
+use crate::rows::{Slacks, slack_count, slacks_of};
 use lists::{Duplicate, Memory, Sequence};
 use model_store::UserModel;
 use name_index::{Name, Names};
@@ -23,12 +25,13 @@ use user_model::{Edit, NamedFunc, Rows, Sense};
 pub type Edits = Sequence<Edit>;
 
 /// The edits that lead from a model to its relaxation: a variable of at least 0 for each side on which
-/// a scalar affine row may be missed, its coefficients, and the least sum of these variables as the
-/// objective.
+/// a scalar affine row may be violated, its coefficient, and the least sum of these variables as the
+/// objective. None of them is refused for anything but a limit of models.
 pub fn relaxed(alloc: Global, model: &UserModel) -> Result<Edits, Memory>
     ensures edits { IfOk result (λ edits. edits ≡ relaxed_edits model.now.model) }
     ensures leads { IfOk result (λ edits. (m : ModelValue)
         → after_edits model.now.model edits ≡ Ok m → m ≡ relaxed_model model.now.model) }
+    ensures limits { IfOk result (LimitsAlone model.now.model) }
 {
     let rows = model.rows();
     let names = free_names(alloc, model, slack_count(rows))?;
@@ -45,7 +48,7 @@ fn edits_with(alloc: Global, rows: &Rows, names: &[Name]) -> Result<Vec<Edit>, M
 {
     let mut edits = Vec::new(alloc);
     push_groups(alloc, &mut edits, names)?;
-    push_rows(alloc, &mut edits, rows, names)?;
+    push_rows(&mut edits, rows, names)?;
     edits.push(sum_edit(alloc, names)?)?;
     Ok(edits)
 }
@@ -63,46 +66,56 @@ fn push_groups(alloc: Global, edits: &mut Vec<Edit>, names: &[Name]) -> Result<(
     Ok(())
 }
 
-fn push_rows(
-    alloc: Global,
-    edits: &mut Vec<Edit>,
-    rows: &Rows,
-    names: &[Name],
-) -> Result<(), Memory>
+fn push_rows(edits: &mut Vec<Edit>, rows: &Rows, names: &[Name]) -> Result<(), Memory>
     requires { slack_count rows.now.items ≤ length names.now }
     ensures { OnOk result (edits.new.items ≡ edits.old.items
         ++ edits_of_rows rows.now.items names.now) }
 {
     let mut left = names;
     for row in rows.iter() {
-        let signs = row_signs(alloc, row)?;
-        let (own, others) = left.split_at(signs.len());
-        push_coefficients(edits, &row.name, own, signs.as_slice())?;
+        let slacks = slacks_of(row);
+        let (own, others) = left.split_at(slacks.count());
+        push_coefficients(edits, &row.name, own, slacks)?;
         left = others;
     }
     Ok(())
 }
 
-// Appends the edits that give variables coefficients in a row.
+// Appends the edits that give the slacks of a row their coefficients.
 fn push_coefficients(
     edits: &mut Vec<Edit>,
     row: &Name,
     names: &[Name],
-    signs: &[Ratio],
+    slacks: Slacks,
 ) -> Result<(), Memory>
-    requires { length names.now ≡ length signs.now }
+    requires { length names.now ≡ length (signs_of slacks) }
     ensures { OnOk result (edits.new.items ≡ edits.old.items
-        ++ edits_in row.now names.now signs.now) }
+        ++ edits_in row.now names.now (signs_of slacks)) }
 {
-    for (i, sign) in signs.iter().enumerate() {
-        let row = row.copy()?;
-        let var = names[i].copy()?;
-        edits.push(Edit::Coef {
-            row,
-            var,
-            value: *sign,
-        })?;
+    let one = Ratio::one();
+    match slacks {
+        Slacks::None => Ok(()),
+        Slacks::Subtracted => push_coefficient(edits, row, &names[0], one.neg()),
+        Slacks::Added => push_coefficient(edits, row, &names[0], one),
+        Slacks::Both => {
+            push_coefficient(edits, row, &names[0], one)?;
+            push_coefficient(edits, row, &names[1], one.neg())
+        }
     }
+}
+
+fn push_coefficient(
+    edits: &mut Vec<Edit>,
+    row: &Name,
+    var: &Name,
+    value: Ratio,
+) -> Result<(), Memory>
+    ensures { OnOk result (edits.new.items ≡ edits.old.items
+        ++ Edit.Coef row.now var.now value ∷ []) }
+{
+    let row = row.copy()?;
+    let var = var.copy()?;
+    edits.push(Edit::Coef { row, var, value })?;
     Ok(())
 }
 

@@ -12,8 +12,8 @@ use name_index::{Name, NameFault};
 use std::alloc::Global;
 use user_model::Groups;
 
-/// Names of slacks that no variable of the model has: each is the first free one of its number and of
-/// those that come by adding the number of slacks again and again.
+/// The names of the slacks, which no variable of the model has. The k-th is `~k`. Where that is taken,
+/// its number is raised by the number of slacks until the name is free.
 #[tactic(auto, using(crate::proofs::NameLemmas::names))]
 pub(crate) fn free_names(
     alloc: Global,

@@ -2,30 +2,30 @@
 ghost use Rattle.std.specs.Prelude.{◌≡◌, ◌-◌, ◌≤◌, ◌++◌, IfOk, OnOk, length};
 ghost use Rattle.certificates.specs.Good.{Good};
 ghost use Rattle.user_model.specs.Model.{ModelValue};
-ghost use Rattle.relaxed_model.specs.Relaxed.{at_hard_rows, missed_by, slack_count, slack_overs};
-ghost use Rattle.relaxation.specs.Answers.{IsRelaxedFrom, Reads, Shows, hopeless_by, least_by, own_duals, own_overs};
+ghost use Rattle.relaxed_model.specs.Relaxed.{at_hard_rows, slack_count, slack_violation, slack_violations};
+ghost use Rattle.relaxation.specs.Answers.{IsRelaxedFrom, Reads, Shows, hopeless_by, least_by, own_duals, own_violations};
 
-use crate::rows::{is_soft, sign_count, slack_count};
+use crate::rows::{is_soft, slack_count, slacks_of};
 use certificates::{Certificate, DualRows};
-use lists::{Duplicate, Memory, Sequence};
+use lists::{Memory, Sequence};
 use model_store::UserModel;
 use ratio_core::{Ratio, Ratios};
 use std::alloc::Global;
 use user_model::{Row, Rows};
 
-/// What the relaxation of a model says of the model, whose scalar affine rows are soft and whose others
+/// What the relaxation of a model says of the model. Its scalar affine rows are soft, and all others
 /// are hard.
 #[derive(Debug, Drop)]
 pub enum Relaxation {
-    /// A point that meets the hard rows, by how much it misses each soft row, in their order, and the
-    /// sum of that, than which no point that meets the hard rows has less.
+    /// A point that meets the hard rows, its violation of each soft row, in their order, and the sum
+    /// of these. No point that meets the hard rows has a smaller sum.
     Least {
         total: Ratio,
         x: Ratios,
-        missed: Ratios,
+        violations: Ratios,
     },
-    /// Duals of the hard rows and of the variables that show that no point meets the hard rows: a
-    /// certificate with this gap.
+    /// No point meets the hard rows: their duals and those of the variables show it, as a certificate
+    /// with this gap.
     Hopeless {
         gap: Ratio,
         rows: DualRows,
@@ -54,12 +54,12 @@ pub fn relaxation_of(
             gap,
             rows: duals,
             vars,
-        } => hopeless(alloc, rows, count, gap, &duals, vars),
+        } => hopeless(alloc, rows, count, gap, duals, vars),
         Certificate::Unbounded { .. } => unreachable!(),
     }
 }
 
-// The point's own numbers, and by how much it misses each soft row.
+// The numbers of the model's variables, and the violation of each soft row.
 fn least(
     alloc: Global,
     rows: &Rows,
@@ -74,43 +74,44 @@ fn least(
 {
     let mut own = numbers.into_vec();
     let size = own.len() - count;
-    let missed = missed(alloc, rows, &own[size..])?;
+    let violations = violations(alloc, rows, &own[size..])?;
     own.truncate(size);
     Ok(Relaxation::Least {
         total: value,
         x: Sequence::from_vec(own),
-        missed,
+        violations,
     })
 }
 
-// By how much each soft row is missed, where these are the numbers of the slacks.
-fn missed(alloc: Global, rows: &Rows, slacks: &[Ratio]) -> Result<Ratios, Memory>
+// The violation of each soft row, where these are the numbers of all slacks.
+fn violations(alloc: Global, rows: &Rows, slacks: &[Ratio]) -> Result<Ratios, Memory>
     requires { slack_count rows.now.items ≤ length slacks.now }
-    ensures { IfOk result (λ missed. missed ≡ slack_overs rows.now.items slacks.now) }
+    ensures { IfOk result (λ found. found ≡ slack_violations rows.now.items slacks.now) }
 {
-    let mut missed = Vec::new(alloc);
+    let mut violations = Vec::new(alloc);
     let mut left = slacks;
     for row in rows.iter() {
-        let (own, others) = left.split_at(sign_count(row));
-        push_missed(&mut missed, row, own)?;
+        let (own, others) = left.split_at(slacks_of(row).count());
+        push_violation(&mut violations, row, own)?;
         left = others;
     }
-    Ok(Sequence::from_vec(missed))
+    Ok(Sequence::from_vec(violations))
 }
 
-// Appends by how much a row is missed, where it is soft.
-fn push_missed(missed: &mut Vec<Ratio>, row: &Row, own: &[Ratio]) -> Result<(), Memory>
-    ensures { OnOk result (missed.new.items ≡ missed.old.items ++ own_overs row.now own.now) }
+// Appends the violation of a row, where it is soft.
+fn push_violation(violations: &mut Vec<Ratio>, row: &Row, own: &[Ratio]) -> Result<(), Memory>
+    ensures { OnOk result (violations.new.items
+        ≡ violations.old.items ++ own_violations row.now own.now) }
 {
     if is_soft(row) {
-        missed.push(missed_by(own))?;
+        violations.push(slack_violation(own))?;
     }
     Ok(())
 }
 
-// By how much a row is missed, where these are its slacks. Of two, one is 0.
-fn missed_by(slacks: &[Ratio]) -> Ratio
-    ensures { result ≡ missed_by slacks.now }
+// The violation of a row whose slacks these are. Of two, one is 0.
+fn slack_violation(slacks: &[Ratio]) -> Ratio
+    ensures { result ≡ slack_violation slacks.now }
 {
     match slacks {
         [] => Ratio::zero(),
@@ -125,14 +126,14 @@ fn hopeless(
     rows: &Rows,
     count: usize,
     gap: Ratio,
-    duals: &DualRows,
+    duals: DualRows,
     vars: Ratios,
 ) -> Result<Relaxation, Memory>
     requires { count ≤ length vars }
     ensures { IfOk result (λ answer. answer
-        ≡ hopeless_by rows.now.items (length vars - count) gap duals.now vars) }
+        ≡ hopeless_by rows.now.items (length vars - count) gap duals vars) }
 {
-    let kept = hard_duals(alloc, rows, duals.as_slice())?;
+    let kept = hard_duals(alloc, rows, duals)?;
     let mut own = vars.into_vec();
     own.truncate(own.len() - count);
     Ok(Relaxation::Hopeless {
@@ -143,12 +144,12 @@ fn hopeless(
 }
 
 // The duals of the hard rows.
-fn hard_duals(alloc: Global, rows: &Rows, duals: &[Ratios]) -> Result<DualRows, Memory>
-    ensures { IfOk result (λ kept. kept ≡ at_hard_rows rows.now.items duals.now) }
+fn hard_duals(alloc: Global, rows: &Rows, duals: DualRows) -> Result<DualRows, Memory>
+    ensures { IfOk result (λ kept. kept ≡ at_hard_rows rows.now.items duals) }
 {
     let mut kept = Vec::new(alloc);
     let mut left = rows.iter();
-    for own in duals {
+    for own in duals.into_vec() {
         let Some(row) = left.next() else {
             return Ok(Sequence::from_vec(kept));
         };
@@ -158,11 +159,11 @@ fn hard_duals(alloc: Global, rows: &Rows, duals: &[Ratios]) -> Result<DualRows, 
 }
 
 // Appends the duals of a row, where it is hard.
-fn push_hard(kept: &mut Vec<Ratios>, row: &Row, own: &Ratios) -> Result<(), Memory>
-    ensures { OnOk result (kept.new.items ≡ kept.old.items ++ own_duals row.now own.now) }
+fn push_hard(kept: &mut Vec<Ratios>, row: &Row, own: Ratios) -> Result<(), Memory>
+    ensures { OnOk result (kept.new.items ≡ kept.old.items ++ own_duals row.now own) }
 {
     if !is_soft(row) {
-        kept.push(own.copy()?)?;
+        kept.push(own)?;
     }
     Ok(())
 }

@@ -1,56 +1,64 @@
 //! Soft rows and their slacks.
-ghost use Rattle.std.specs.Prelude.{◌≡◌, ◌≤◌, IfOk, length};
+ghost use Rattle.std.specs.Prelude.{◌≡◌, ◌≤◌, length};
 ghost use Rattle.relaxed_model.specs.Relaxed.{is_soft, row_signs, signs_on, slack_count};
+ghost use Rattle.relaxation.specs.Signs.{signs_of};
 
-use lists::Memory;
-use ratio_core::Ratio;
 use set_core::Set;
-use std::alloc::Global;
 use user_model::{Row, Rows, UserFunc};
 
-/// Whether a row may be missed: it is a scalar affine one.
+/// The slacks of a row, by the sides on which it may be violated.
+#[derive(Clone, Copy)]
+pub(crate) enum Slacks {
+    /// A hard row has none.
+    None,
+    /// One is subtracted, below an upper bound.
+    Subtracted,
+    /// One is added, above a lower bound.
+    Added,
+    /// An equation and an interval have both.
+    Both,
+}
+
+impl Slacks {
+    /// How many there are.
+    pub(crate) fn count(self) -> usize
+        ensures count { result ≡ length (signs_of self) }
+        ensures few { result ≤ 2 }
+    {
+        match self {
+            Slacks::None => 0,
+            Slacks::Subtracted | Slacks::Added => 1,
+            Slacks::Both => 2,
+        }
+    }
+}
+
+/// Whether a row is soft, so that it may be violated: it is a scalar affine one.
 pub fn is_soft(row: &Row) -> bool
     ensures { result ≡ is_soft row.now }
 {
     matches!(row.func, UserFunc::Affine(_))
 }
 
-/// The coefficients of a row's slacks, of which a hard row has none.
-#[tactic(auto, using(crate::proofs::RowLemmas::row_laws))]
-pub(crate) fn row_signs(alloc: Global, row: &Row) -> Result<Vec<Ratio>, Memory>
-    ensures { IfOk result (λ signs. signs.items ≡ row_signs row.now) }
+/// The slacks of a row.
+pub(crate) fn slacks_of(row: &Row) -> Slacks
+    ensures { signs_of result ≡ row_signs row.now }
 {
     if is_soft(row) {
-        return signs_on(alloc, &row.set);
+        slacks_on(&row.set)
+    } else {
+        Slacks::None
     }
-    Ok(Vec::new(alloc))
 }
 
-fn signs_on(alloc: Global, set: &Set) -> Result<Vec<Ratio>, Memory>
-    ensures { IfOk result (λ signs. signs.items ≡ signs_on set.now) }
+fn slacks_on(set: &Set) -> Slacks
+    ensures { signs_of result ≡ signs_on set.now }
 {
-    let one = Ratio::one();
-    Ok(match set {
-        Set::LessThan { .. } => vec![in alloc; one.neg()]?,
-        Set::GreaterThan { .. } => vec![in alloc; one]?,
-        Set::EqualTo { .. } | Set::Interval { .. } => vec![in alloc; one, one.neg()]?,
-        _ => Vec::new(alloc),
-    })
-}
-
-/// How many slacks a row has.
-#[tactic(auto, using(crate::proofs::RowLemmas::row_laws))]
-pub(crate) fn sign_count(row: &Row) -> usize
-    ensures count { result ≡ length (row_signs row.now) }
-    ensures few { result ≤ 2 }
-{
-    if !is_soft(row) {
-        return 0;
-    }
-    match row.set {
-        Set::LessThan { .. } | Set::GreaterThan { .. } => 1,
-        Set::EqualTo { .. } | Set::Interval { .. } => 2,
-        _ => 0,
+    match set {
+        Set::LessThan { .. } => Slacks::Subtracted,
+        Set::GreaterThan { .. } => Slacks::Added,
+        Set::EqualTo { .. } | Set::Interval { .. } => Slacks::Both,
+        _ => Slacks::None,
     }
 }
 
@@ -62,7 +70,7 @@ pub(crate) fn slack_count(rows: &Rows) -> usize
 {
     let mut count = 0;
     for row in rows.iter() {
-        count += sign_count(row);
+        count += slacks_of(row).count();
     }
     count
 }

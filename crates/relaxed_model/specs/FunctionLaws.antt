@@ -18,12 +18,15 @@ use Rattle.linear_laws.specs.EvaluationLaws.{evaluated_sum, evaluated_value}
 use Rattle.linear_laws.specs.SlopeLaws.{slope_agreeing}
 use Rattle.linear_laws.specs.UnitLaws.{zero_or_other}
 use Rattle.user_model.specs.Model.{variable_address}
-use Rattle.dual_model.specs.DualOf.{terms_from}
-use Rattle.dual_model.specs.NumberLaws.{numbers_from, terms_rise, value_from}
+use Rattle.group_numbering.specs.NewGroups.{terms_from}
+use Rattle.group_numbering.specs.NumberLaws.{numbers_from, terms_rise, value_from}
 use Rattle.relaxed_model.specs.Relaxed.{with_slacks}
 
 abbrev pub IsBelow : ℕ → Function → Type 0
 IsBelow n f = (v : Address) → ¬ (coefficient f v ≡ zero_ℚ) → v.number < n
+
+pub below_from : (first n : ℕ) → first ≤ n → (f : Function) → IsBelow first f → IsBelow n f
+below_from first n h f below v some = let less = below v some in omega (arith, less, h)
 
 -- points that agree below n give such a function one value
 pub value_below : (n : ℕ) (f : Function) (x y : Address → Rational) → IsBelow n f
@@ -147,8 +150,9 @@ value_with_slacks n (q ∷ qs) f x below =
     ∙ +ℚ_assoc (value_of f x) (q *ℚ x (variable_address n))
     (dot qs (numbers_from x (suc n) (length qs)))
 
-apart_below : (n : ℕ) (v : Address) → v.number < n → v ≢ variable_address n
-apart_below n v h e =
+-- an address of a lesser number is another
+pub other_number : (v : Address) (n : ℕ) → v.number < n → v ≢ variable_address n
+other_number v n h e =
     let same : v.number ≡ n = ap (λ (a : Address). a.number) e in absurd (omega (arith, same, h))
 
 -- below n nothing is changed
@@ -159,7 +163,7 @@ coefficient_kept n (q ∷ qs) f v h =
     coefficient_kept (suc n) qs (with_coefficient f (variable_address n) q) v (omega (arith, h))
     ∙ coefficient-with address_order f (variable_address n) q v
     ∙ ap (λ b. cond b q (coefficient f v))
-    (other_key address_order v (variable_address n) (apart_below n v h))
+    (other_key address_order v (variable_address n) (other_number v n h))
 
 pub constant_kept : (n : ℕ) (qs : List Rational) (f : Function)
     → (with_slacks n qs f).constant ≡ f.constant

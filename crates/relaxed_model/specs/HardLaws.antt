@@ -23,8 +23,8 @@ use Rattle.user_model.specs.Valid.{IsValid}
 use Rattle.certificates.specs.Points.{address_of, addresses_of, at_point, variables_of}
 use Rattle.certificates.specs.Duals.{HasDuals, group_with, groups_with, rows_with}
 use Rattle.certificates.specs.Good.{Cancels, IsInfeasible}
-use Rattle.dual_model.specs.DualOf.{numbered_groups}
-use Rattle.dual_model.specs.PlaceLaws.{addresses_from}
+use Rattle.group_numbering.specs.NewGroups.{numbered_groups}
+use Rattle.group_numbering.specs.PlaceLaws.{addresses_from}
 use Rattle.relaxed_model.specs.OwnLaws.{IsNumberedBelow, own_rows}
 use Rattle.relaxed_model.specs.PlacedLaws.{first_part, last_part, length-first_part, length-free_names, own_numbers, parts_join, relaxed_addresses}
 use Rattle.relaxed_model.specs.Relaxed.{at_hard_rows, hard_model, hard_rows, relaxed_model, relaxed_rows, row_signs, slack_count, slack_group, slack_names}

@@ -1,7 +1,7 @@
--- The relaxation finds the least by which a model's soft rows must be missed: each point that meets
--- the hard rows makes a point of the relaxation, whose objective is by how much it misses the soft
--- rows, and no point of the relaxation has a lesser objective than its part misses them by. No
--- objective of the relaxation is below 0, so it is never unbounded.
+-- The relaxation finds the least total violation of a model's soft rows. Each point that meets the
+-- hard rows makes a point of the relaxation, whose objective is the point's total violation; and each
+-- point of the relaxation has an objective of at least the total violation of its part. No objective
+-- of the relaxation is below 0, so it is never unbounded.
 --     IsLeast      what an optimal point of the relaxation says of the model
 use Rattle.std.specs.Prelude.{◌≡◌, ℕ, zero, suc, ◌+◌, ◌<◌, List, [], ◌∷◌, ◌++◌, All, length, map, replicate, refl}
 use Rattle.std.proofs.Common.{ap, ap₂, arith, subst, sym, ◌∙◌}
@@ -27,23 +27,23 @@ use Rattle.certificates.specs.Points.{at_point, functions_of_group, objective_sl
 use Rattle.certificates.specs.Feasible.{IsFeasible}
 use Rattle.certificates.specs.Good.{IsOptimal, IsUnbounded}
 use Rattle.certificates.specs.GoodLaws.{none_is_better}
-use Rattle.dual_model.specs.DualOf.{numbered_groups, terms_from}
-use Rattle.dual_model.specs.NumberLaws.{numbers_from, value_from}
-use Rattle.dual_model.specs.PlaceLaws.{GroupIn, groups_from_hold, hold_from_groups}
-use Rattle.dual_model.specs.RowPartLaws.{HoldFrom}
+use Rattle.group_numbering.specs.HoldLaws.{GroupIn, HoldFrom, groups_from_hold, hold_from_groups}
+use Rattle.group_numbering.specs.NewGroups.{numbered_groups, terms_from}
+use Rattle.group_numbering.specs.NumberLaws.{numbers_from, value_from}
 use Rattle.relaxed_model.specs.FunctionLaws.{values_below}
 use Rattle.relaxed_model.specs.OwnLaws.{IsOwnGroup, own_groups, own_rows}
 use Rattle.relaxed_model.specs.PlacedLaws.{first_part, last_part, length-first_part, length-free_names, length-last_part, length-relaxed, own_numbers, parts_join, slack_numbers}
-use Rattle.relaxed_model.specs.Relaxed.{hard_model, overs, relaxed_model, slack_count, slack_group, slack_names, slack_overs, sum_from, total}
+use Rattle.relaxed_model.specs.Relaxed.{hard_model, relaxed_model, slack_count, slack_group, slack_names, slack_violations, sum_from, total_violation, violations}
 use Rattle.relaxed_model.specs.RowLaws.{AreEnoughFor, length-row_slacks, row_slacks, row_slacks_nonneg, row_slacks_sum, rows_enough, rows_relaxed}
 
--- the point meets the hard rows, and misses each soft row by the number that is said, together by
--- the value, than which no point that meets the hard rows has less
-pub record IsLeast (model : ModelValue) (value : Rational) (x missed : List Rational) : Type 0 where
+-- The point meets the hard rows, and these are its violations of the soft rows, which add up to the
+-- value. No point that meets the hard rows has a smaller total violation.
+pub record IsLeast (model : ModelValue) (value : Rational) (x own : List Rational) : Type 0 where
   pub feasible : IsFeasible (hard_model model) x
-  pub each : missed ≡ overs model x
-  pub together : value ≡ total model x
-  pub least : (y : List Rational) → IsFeasible (hard_model model) y → value ≤ℚ total model y
+  pub each : own ≡ violations model x
+  pub together : value ≡ total_violation model x
+  pub least : (y : List Rational) → IsFeasible (hard_model model) y
+      → value ≤ℚ total_violation model y
 
 -- ---- the objective
 
@@ -243,7 +243,7 @@ module _ (model : ModelValue) (valid : IsValid model) where
         fits y needed feasible.size (length-row_slacks (at_point model y) model.rows)
         (row_slacks_nonneg (at_point model y) model.rows) refl feasible
 
-    pub extended_value : objective_value relaxed (y ++ needed) ≡ total model y
+    pub extended_value : objective_value relaxed (y ++ needed) ≡ total_violation model y
     extended_value =
         sum_is y needed feasible.size (length-row_slacks (at_point model y) model.rows)
         ∙ row_slacks_sum (at_point model y) model.rows
@@ -276,7 +276,8 @@ module _ (model : ModelValue) (valid : IsValid model) where
         sym (sum_is x s size slack_size)
         ∙ ap (objective_value relaxed) (parts_join model z) ∙ sym optimal.primal
 
-    no_less : (y : List Rational) → IsFeasible (hard_model model) y → value ≤ℚ total model y
+    no_less : (y : List Rational) → IsFeasible (hard_model model) y
+        → value ≤ℚ total_violation model y
     no_less y feasible =
         subst (λ q. value ≤ℚ q) (extended_value y feasible)
         (≤ℚ_from_not_‹ℚ value
@@ -284,14 +285,14 @@ module _ (model : ModelValue) (valid : IsValid model) where
         (none_is_better relaxed relaxed_valid value z rows vars optimal
         (y ++ row_slacks (at_point model y) model.rows) (extended_feasible y feasible)))
 
-    together : value ≡ total model x
+    together : value ≡ total_violation model x
     together =
-        ≤ℚ_antisymm value (total model x)
+        ≤ℚ_antisymm value (total_violation model x)
         (no_less x (meets_hard x s size slack_size both_feasible))
-        (subst (λ q. total model x ≤ℚ q) value_is least_slacks.least)
+        (subst (λ q. total_violation model x ≤ℚ q) value_is least_slacks.least)
 
     pub least_is : IsLeast model value (first_part model z)
-        (slack_overs model.rows (last_part model z))
+        (slack_violations model.rows (last_part model z))
     least_is = record {
       feasible = meets_hard x s size slack_size both_feasible;
       each = least_slacks.exact (value_is ∙ together);

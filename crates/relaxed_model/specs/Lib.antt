@@ -1,6 +1,7 @@
 pub mod Relaxed
 pub mod SlackLaws
 pub mod FunctionLaws
+pub mod SoftOrHard
 pub mod RowLaws
 pub mod OwnLaws
 pub mod PlacedLaws

@@ -20,9 +20,10 @@ use Rattle.user_model.specs.declared.group.GroupVar.{GroupVar}
 use Rattle.user_model.specs.Consistent.{IsConsistent}
 use Rattle.user_model.specs.Model.{ModelValue, variable_address, variables}
 use Rattle.certificates.specs.Points.{address_of, addresses_of, at_point, variables_of}
-use Rattle.dual_model.specs.DualOf.{numbered_groups, variable_count}
-use Rattle.dual_model.specs.NumberLaws.{numbers_from}
-use Rattle.dual_model.specs.PlaceLaws.{addresses_from, group_addresses, length-addresses_from, numbers_at}
+use Rattle.group_numbering.specs.NewGroups.{numbered_groups, variable_count}
+use Rattle.group_numbering.specs.NumberLaws.{numbers_from}
+use Rattle.group_numbering.specs.PlaceLaws.{addresses_from, group_addresses, length-addresses_from, numbers_at}
+use Rattle.relaxed_model.specs.FunctionLaws.{other_number}
 use Rattle.relaxed_model.specs.OwnLaws.{IsNumberedBelow}
 use Rattle.relaxed_model.specs.Relaxed.{free_names, relaxed_model, slack_count, slack_group, slack_names}
 
@@ -59,10 +60,6 @@ spread_second (a ∷ us) vs (q ∷ x) s v size off =
     ∙ spread_second us vs x s v (omega (arith, size)) (All-tail (IsOff v) a us off)
 
 -- ---- numbers of variables
-
-other_number : (v : Address) (n : ℕ) → v.number < n → v ≢ variable_address n
-other_number v n h e =
-    let same : v.number ≡ n = ap (λ (a : Address). a.number) e in absurd (omega (arith, same, h))
 
 off_later : (v : Address) (n k : ℕ) → v.number < n → All (IsOff v) (addresses_from n k)
 off_later v n zero h = All-nil (IsOff v)

@@ -1,13 +1,13 @@
 -- The relaxation of a model, as a model.
 --
--- The scalar affine rows are soft, and all others are hard. Each soft row is given slacks, variables
--- of at least 0 that take up by how much it is missed: one that is subtracted below an upper bound,
--- one that is added above a lower bound, and both for an equation and an interval. The objective is
--- the least sum of all slacks.
+-- The scalar affine rows are soft, and all others are hard. A point violates a soft row by the
+-- distance of the row's value from its set. Each soft row is given slacks, variables of at least 0
+-- that take up its violation: one that is subtracted below an upper bound, one that is added above a
+-- lower bound, and both for an equation and an interval. The objective is the least sum of all slacks.
 --
 -- The slacks are named ~1, ~2 and so on. Where a variable of the model has the name of one, its
 -- number is raised by the number of slacks until the name is free.
-use Rattle.std.specs.Prelude.{ℕ, zero, suc, ◌+◌, cond, not, List, [], ◌∷◌, ◌++◌, decimal, filter, length, map, replicate}
+use Rattle.std.specs.Prelude.{ℕ, zero, suc, ◌+◌, Bool, cond, not, List, [], ◌∷◌, ◌++◌, decimal, drop, filter, length, map, replicate, take}
 use Rattle.std.specs.Ordering.{is_lt}
 use Rattle.ratio_core.specs.Rational.{Rational, neg_ℚ, one_ℚ, rational_cmp, rational_eq, zero_ℚ, ◌+ℚ◌, ◌-ℚ◌}
 use Rattle.rational_laws.specs.Sums.{sum_ℚ}
@@ -25,8 +25,7 @@ use Rattle.user_model.specs.Functions.{is_scalar_affine}
 use Rattle.user_model.specs.Model.{ModelValue, variable_address, variables}
 use Rattle.user_model.specs.Refusals.{has_variable_named}
 use Rattle.certificates.specs.Points.{at_point, functions_of}
-use Rattle.dual_model.specs.DualOf.{NewGroup, numbered_groups, terms_from}
-use Rattle.std.specs.Prelude.{Bool, drop, take}
+use Rattle.group_numbering.specs.NewGroups.{NewGroup, numbered_groups, terms_from}
 
 -- ---- soft and hard rows
 
@@ -47,34 +46,34 @@ abbrev pub hard_model : ModelValue → ModelValue
 hard_model model =
     record model { rows = hard_rows model.rows; objective = objective.Feasibility }
 
--- ---- by how much a point misses the soft rows
+-- ---- violations of the soft rows
 
--- by how much the first number is above the second
-abbrev pub above : Rational → Rational → Rational
-above p q = cond (is_lt (rational_cmp q p)) (p -ℚ q) zero_ℚ
+-- by how much the first number exceeds the second, if it does
+abbrev pub excess : Rational → Rational → Rational
+excess p q = cond (is_lt (rational_cmp q p)) (p -ℚ q) zero_ℚ
 
--- the distance of a number from a set of numbers
-abbrev pub over : Set → Rational → Rational
-over (LessThan u) v = above v u
-over (GreaterThan l) v = above l v
-over (EqualTo a) v = above a v +ℚ above v a
-over (Interval l u) v = above l v +ℚ above v u
-over set v = zero_ℚ
+-- the violation of a set by a number: its distance from the set
+abbrev pub violation : Set → Rational → Rational
+violation (LessThan u) v = excess v u
+violation (GreaterThan l) v = excess l v
+violation (EqualTo a) v = excess a v +ℚ excess v a
+violation (Interval l u) v = excess l v +ℚ excess v u
+violation set v = zero_ℚ
 
 -- the value of a row of numbers
 abbrev pub row_value : (Address → Rational) → Row → Rational
 row_value x r = first_of (values (functions_of r.func) x)
 
-abbrev pub row_over : (Address → Rational) → Row → Rational
-row_over x r = over r.set (row_value x r)
+abbrev pub row_violation : (Address → Rational) → Row → Rational
+row_violation x r = violation r.set (row_value x r)
 
--- by how much the point misses each soft row
-abbrev pub overs : ModelValue → List Rational → List Rational
-overs model x = map (row_over (at_point model x)) (soft_rows model.rows)
+-- the violation of each soft row at a point
+abbrev pub violations : ModelValue → List Rational → List Rational
+violations model x = map (row_violation (at_point model x)) (soft_rows model.rows)
 
--- and all of them together
-abbrev pub total : ModelValue → List Rational → Rational
-total model x = sum_ℚ (overs model x)
+-- and of all of them together
+abbrev pub total_violation : ModelValue → List Rational → Rational
+total_violation model x = sum_ℚ (violations model x)
 
 -- ---- slacks
 
@@ -154,19 +153,19 @@ relaxed_model model =
 
 -- ---- what a point of the relaxation says
 
--- by how much a row is missed where these are its slacks and the least: of two, one is 0
-abbrev pub missed_by : List Rational → Rational
-missed_by [] = zero_ℚ
-missed_by (t ∷ []) = t
-missed_by (t ∷ s ∷ more) = cond (rational_eq t zero_ℚ) s t
+-- the violation of a row whose least slacks are these: of two, one is 0
+abbrev pub slack_violation : List Rational → Rational
+slack_violation [] = zero_ℚ
+slack_violation (t ∷ []) = t
+slack_violation (t ∷ s ∷ more) = cond (rational_eq t zero_ℚ) s t
 
--- by how much each soft row is missed, from the numbers of all slacks
-abbrev pub slack_overs : List Row → List Rational → List Rational
-slack_overs [] s = []
-slack_overs (r ∷ rows) s =
+-- the violation of each soft row, from the numbers of all slacks
+abbrev pub slack_violations : List Row → List Rational → List Rational
+slack_violations [] s = []
+slack_violations (r ∷ rows) s =
     let size = length (row_signs r) in
-    cond (is_soft r) (missed_by (take size s) ∷ slack_overs rows (drop size s))
-    (slack_overs rows s)
+    cond (is_soft r) (slack_violation (take size s) ∷ slack_violations rows (drop size s))
+    (slack_violations rows s)
 
 -- what is kept of a list with an item for each row: those of the hard rows
 abbrev pub at_hard_rows : {X : Type 0} → List Row → List X → List X

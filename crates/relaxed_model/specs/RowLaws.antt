@@ -19,13 +19,13 @@ use Rattle.set_core.specs.Membership.{In}
 use Rattle.set_core.specs.Shapes.{is_crossed, is_scalar}
 use Rattle.set_core.specs.Vectors.{AllNonnegative}
 use Rattle.user_model.specs.declared.function.UserFunc.{UserFunc}
-use Rattle.user_model.specs.declared.function.UserFunc.TheVariants.{Plain, Affine, PlainVec, AffineVec}
 use Rattle.user_model.specs.declared.row.Row.{Row}
 use Rattle.certificates.specs.Points.{functions_of}
-use Rattle.dual_model.specs.NumberLaws.{length-numbers_from, numbers_from, numbers_from-append}
-use Rattle.dual_model.specs.PlaceLaws.{joined_alike}
-use Rattle.relaxed_model.specs.FunctionLaws.{IsBelow, value_below, value_with_slacks, values_below}
-use Rattle.relaxed_model.specs.Relaxed.{hard_rows, is_soft, missed_by, relaxed_row, relaxed_rows, row_over, row_signs, row_value, signs_on, slack_count, slack_overs, soft_rows, with_slacks}
+use Rattle.group_numbering.specs.NumberLaws.{length-numbers_from, numbers_from, numbers_from-append}
+use Rattle.group_numbering.specs.PlaceLaws.{joined_alike}
+use Rattle.relaxed_model.specs.FunctionLaws.{IsBelow, below_from, value_below, value_with_slacks, values_below}
+use Rattle.relaxed_model.specs.Relaxed.{hard_rows, is_soft, relaxed_row, relaxed_rows, row_signs, row_value, row_violation, signs_on, slack_count, slack_violation, slack_violations, soft_rows, with_slacks}
+use Rattle.relaxed_model.specs.SoftOrHard.{SoftOrHard, of_hard, of_soft, soft_or_hard}
 use Rattle.relaxed_model.specs.SlackLaws.{AreEnough, both_equal, length-slacks_on, slackened, slacks_enough, slacks_meet, slacks_nonneg, slacks_on, slacks_sum}
 
 abbrev pub RowIn : (Address → Rational) → Row → Type 0
@@ -57,9 +57,9 @@ module _ {X : Type 0} where
   join_kept P true x xs here rest = rest
   join_kept P false x xs here rest = All-cons P x xs (here refl) rest
 
--- by how much a row is missed, and 0 for a hard row
-abbrev pub soft_over : (Address → Rational) → Row → Rational
-soft_over x r = cond (is_soft r) (row_over x r) zero_ℚ
+-- the violation of a row, and 0 for a hard row
+abbrev pub soft_violation : (Address → Rational) → Row → Rational
+soft_violation x r = cond (is_soft r) (row_violation x r) zero_ℚ
 
 sum_kept : (b : Bool) (f : Row → Rational) (r : Row) (rows : List Row)
     → sum_ℚ (map f (cond b (r ∷ rows) rows)) ≡ cond b (f r) zero_ℚ +ℚ sum_ℚ (map f rows)
@@ -105,39 +105,40 @@ row_slacks_nonneg y (r ∷ rows) =
     All-append (λ q. zero_ℚ ≤ℚ q) (own_slacks y r) (row_slacks y rows) (own_nonneg y r)
     (row_slacks_nonneg y rows)
 
-own_sum : (y : Address → Rational) (r : Row) → sum_ℚ (own_slacks y r) ≡ soft_over y r
+own_sum : (y : Address → Rational) (r : Row) → sum_ℚ (own_slacks y r) ≡ soft_violation y r
 own_sum y r = by (is_soft r)
   where
     by : (b : Bool) → sum_ℚ (cond b (slacks_on r.set (row_value y r)) [])
-        ≡ cond b (row_over y r) zero_ℚ
+        ≡ cond b (row_violation y r) zero_ℚ
     by true = slacks_sum r.set (row_value y r)
     by false = refl
 
 -- they come to by how much the point misses the soft rows
 pub row_slacks_sum : (y : Address → Rational) (rows : List Row)
-    → sum_ℚ (row_slacks y rows) ≡ sum_ℚ (map (row_over y) (soft_rows rows))
+    → sum_ℚ (row_slacks y rows) ≡ sum_ℚ (map (row_violation y) (soft_rows rows))
 row_slacks_sum y [] = refl
 row_slacks_sum y (r ∷ rows) =
     sum_ℚ-append (own_slacks y r) (row_slacks y rows)
     ∙ ap₂ ◌+ℚ◌ (own_sum y r) (row_slacks_sum y rows)
-    ∙ sym (sum_kept (is_soft r) (row_over y) r (soft_rows rows))
+    ∙ sym (sum_kept (is_soft r) (row_violation y) r (soft_rows rows))
 
 -- ---- all slacks with which rows are met
 
 -- what is known of one row: it is met where it is hard, and missed by no more than its slacks
 pub record IsEnoughFor (y : Address → Rational) (r : Row) (ts : List Rational) : Type 0 where
   pub hard : is_soft r ≡ false → RowIn y r
-  pub least : soft_over y r ≤ℚ sum_ℚ ts
-  pub exact : is_soft r ≡ true → sum_ℚ ts ≡ row_over y r → missed_by ts ≡ row_over y r
+  pub least : soft_violation y r ≤ℚ sum_ℚ ts
+  pub exact : is_soft r ≡ true → sum_ℚ ts ≡ row_violation y r
+      → slack_violation ts ≡ row_violation y r
 
 -- the hard rows are met, and the soft ones missed by no more than the slacks; where it is as much,
 -- the slacks say by how much each is
 pub record AreEnoughFor (y : Address → Rational) (rows : List Row)
     (ts : List Rational) : Type 0 where
   pub hard : All (RowIn y) (hard_rows rows)
-  pub least : sum_ℚ (map (row_over y) (soft_rows rows)) ≤ℚ sum_ℚ ts
-  pub exact : sum_ℚ ts ≡ sum_ℚ (map (row_over y) (soft_rows rows))
-      → slack_overs rows ts ≡ map (row_over y) (soft_rows rows)
+  pub least : sum_ℚ (map (row_violation y) (soft_rows rows)) ≤ℚ sum_ℚ ts
+  pub exact : sum_ℚ ts ≡ sum_ℚ (map (row_violation y) (soft_rows rows))
+      → slack_violations rows ts ≡ map (row_violation y) (soft_rows rows)
 
 -- one row more
 module _ (y : Address → Rational) (r : Row) (rows : List Row) (own others : List Rational)
@@ -146,19 +147,20 @@ module _ (y : Address → Rational) (r : Row) (rows : List Row) (own others : Li
   abbrev all : List Rational
   all = own ++ others
 
-  total_is : sum_ℚ (map (row_over y) (soft_rows (r ∷ rows)))
-      ≡ soft_over y r +ℚ sum_ℚ (map (row_over y) (soft_rows rows))
-  total_is = sum_kept (is_soft r) (row_over y) r (soft_rows rows)
+  total_is : sum_ℚ (map (row_violation y) (soft_rows (r ∷ rows)))
+      ≡ soft_violation y r +ℚ sum_ℚ (map (row_violation y) (soft_rows rows))
+  total_is = sum_kept (is_soft r) (row_violation y) r (soft_rows rows)
 
-  overs_with : (b : Bool) → is_soft r ≡ b
-      → soft_over y r ≡ sum_ℚ own → slack_overs rows others ≡ map (row_over y) (soft_rows rows)
-      → cond b (missed_by own ∷ slack_overs rows others) (slack_overs rows all)
-      ≡ map (row_over y) (cond b (r ∷ soft_rows rows) (soft_rows rows))
-  overs_with true soft same others_are =
+  violations_with : (b : Bool) → is_soft r ≡ b
+      → soft_violation y r ≡ sum_ℚ own
+      → slack_violations rows others ≡ map (row_violation y) (soft_rows rows)
+      → cond b (slack_violation own ∷ slack_violations rows others) (slack_violations rows all)
+      ≡ map (row_violation y) (cond b (r ∷ soft_rows rows) (soft_rows rows))
+  violations_with true soft same others_are =
       ap₂ (λ q qs. q ∷ qs)
-      (here.exact soft (sym same ∙ ap (λ b. cond b (row_over y r) zero_ℚ) soft)) others_are
-  overs_with false soft same others_are =
-      ap (slack_overs rows) (ap (λ qs. qs ++ others) (none own
+      (here.exact soft (sym same ∙ ap (λ b. cond b (row_violation y r) zero_ℚ) soft)) others_are
+  violations_with false soft same others_are =
+      ap (slack_violations rows) (ap (λ qs. qs ++ others) (none own
       (size ∙ ap (λ b. length (cond b (signs_on r.set) [])) soft)))
       ∙ others_are
     where
@@ -166,15 +168,16 @@ module _ (y : Address → Rational) (r : Row) (rows : List Row) (own others : Li
       none [] e = refl
       none (q ∷ qs) e = absurd (omega (arith, e))
 
-  exact_more : sum_ℚ all ≡ sum_ℚ (map (row_over y) (soft_rows (r ∷ rows)))
-      → slack_overs (r ∷ rows) all ≡ map (row_over y) (soft_rows (r ∷ rows))
+  exact_more : sum_ℚ all ≡ sum_ℚ (map (row_violation y) (soft_rows (r ∷ rows)))
+      → slack_violations (r ∷ rows) all ≡ map (row_violation y) (soft_rows (r ∷ rows))
   exact_more e =
-      let same = both_equal (soft_over y r) (sum_ℚ own)
-      (sum_ℚ (map (row_over y) (soft_rows rows))) (sum_ℚ others) here.least rest.least
+      let same = both_equal (soft_violation y r) (sum_ℚ own)
+      (sum_ℚ (map (row_violation y) (soft_rows rows))) (sum_ℚ others) here.least rest.least
       (sym (sum_ℚ-append own others) ∙ e ∙ total_is) in
       (λ i. cond (is_soft r)
-      (missed_by (first_part i) ∷ slack_overs rows (last_part i)) (slack_overs rows all))
-      ∙ overs_with (is_soft r) refl same.0 (rest.exact (sym same.1))
+      (slack_violation (first_part i) ∷ slack_violations rows (last_part i))
+      (slack_violations rows all))
+      ∙ violations_with (is_soft r) refl same.0 (rest.exact (sym same.1))
     where
       first_part : take (length (row_signs r)) all ≡ own
       first_part = ap (λ n. take n all) (sym size) ∙ take-append_seam own others
@@ -187,9 +190,9 @@ module _ (y : Address → Rational) (r : Row) (rows : List Row) (own others : Li
     hard = join_kept (RowIn y) (is_soft r) r (hard_rows rows) here.hard rest.hard;
     least =
         subst (λ q. q ≤ℚ sum_ℚ all) (sym total_is)
-        (subst (λ q. (soft_over y r +ℚ sum_ℚ (map (row_over y) (soft_rows rows))) ≤ℚ q)
+        (subst (λ q. (soft_violation y r +ℚ sum_ℚ (map (row_violation y) (soft_rows rows))) ≤ℚ q)
         (sym (sum_ℚ-append own others))
-        (≤ℚ-+ℚ (soft_over y r) (sum_ℚ own) (sum_ℚ (map (row_over y) (soft_rows rows)))
+        (≤ℚ-+ℚ (soft_violation y r) (sum_ℚ own) (sum_ℚ (map (row_violation y) (soft_rows rows)))
         (sum_ℚ others) here.least rest.least));
     exact = exact_more;
   }
@@ -198,15 +201,12 @@ module _ (y : Address → Rational) (r : Row) (rows : List Row) (own others : Li
 
 module _ (first : ℕ) (x y : Address → Rational)
     (agree : (v : Address) → v.number < first → x v ≡ y v) where
-  below_from : (n : ℕ) → first ≤ n → (f : Function) → IsBelow first f → IsBelow n f
-  below_from n h f below v some = let less = below v some in omega (arith, less, h)
-
   -- a soft row's value at x
   soft_value : (n : ℕ) → first ≤ n → (qs : List Rational) (f : Function) → IsBelow first f
       → value_of (with_slacks n qs f) x
       ≡ value_of f y +ℚ dot qs (numbers_from x n (length qs))
   soft_value n h qs f below =
-      value_with_slacks n qs f x (below_from n h f below)
+      value_with_slacks n qs f x (below_from first n h f below)
       ∙ ap (λ q. q +ℚ dot qs (numbers_from x n (length qs))) (value_below first f x y below agree)
 
   -- ---- slacks that meet the sets
@@ -214,26 +214,26 @@ module _ (first : ℕ) (x y : Address → Rational)
   one_relaxed : (n : ℕ) → first ≤ n → (r : Row) → IsOwnRow first r
       → numbers_from x n (length (row_signs r)) ≡ own_slacks y r → (is_soft r ≡ false → RowIn y r)
       → RowIn x (relaxed_row n r)
-  one_relaxed n h r own slacks hard = by r.func own slacks hard
+  one_relaxed n h r own slacks hard = by (soft_or_hard r.func) own slacks hard
     where
       kept : (func : UserFunc) → All {X = Function} (IsBelow first) (functions_of func)
           → In r.set (values (functions_of func) y) → In r.set (values (functions_of func) x)
       kept func below inside =
           subst (In r.set) (sym (values_below first (functions_of func) x y below agree)) inside
 
-      by : (func : UserFunc) → IsOwnRow first (with_func r func)
+      by : {func : UserFunc} → SoftOrHard func → IsOwnRow first (with_func r func)
           → numbers_from x n (length (row_signs (with_func r func)))
           ≡ own_slacks y (with_func r func)
           → (is_soft (with_func r func) ≡ false → RowIn y (with_func r func))
           → RowIn x (relaxed_row n (with_func r func))
-      by (Affine f) own slacks hard =
+      by (of_soft f) own slacks hard =
           subst (λ q. In r.set (q ∷ []))
           (sym (soft_value n h (signs_on r.set) f (All-head (IsBelow first) f [] own.below)
           ∙ ap (slackened r.set (value_of f y)) slacks))
           (slacks_meet r.set (value_of f y) own.uncrossed (own.scalar refl))
-      by (Plain var) own slacks hard = kept (Plain var) own.below (hard refl)
-      by (PlainVec vars) own slacks hard = kept (PlainVec vars) own.below (hard refl)
-      by (AffineVec fs) own slacks hard = kept (AffineVec fs) own.below (hard refl)
+      by (of_hard {func} isnt same) own slacks hard =
+          subst (λ (g : UserFunc). In r.set (values (functions_of g) x))
+          (sym (same (with_slacks n (signs_on r.set)))) (kept func own.below (hard isnt))
 
   pub rows_relaxed : (n : ℕ) → first ≤ n → (rows : List Row) → All (IsOwnRow first) rows
       → numbers_from x n (slack_count rows) ≡ row_slacks y rows → All (RowIn y) (hard_rows rows)
@@ -256,19 +256,19 @@ module _ (first : ℕ) (x y : Address → Rational)
   one_enough : (n : ℕ) → first ≤ n → (r : Row) → IsOwnRow first r
       → AllNonnegative (numbers_from x n (length (row_signs r))) → RowIn x (relaxed_row n r)
       → IsEnoughFor y r (numbers_from x n (length (row_signs r)))
-  one_enough n h r own nonneg inside = by r.func own nonneg inside
+  one_enough n h r own nonneg inside = by (soft_or_hard r.func) own nonneg inside
     where
       kept : (func : UserFunc) → All {X = Function} (IsBelow first) (functions_of func)
           → In r.set (values (functions_of func) x) → In r.set (values (functions_of func) y)
       kept func below inside =
           subst (In r.set) (values_below first (functions_of func) x y below agree) inside
 
-      by : (func : UserFunc) → IsOwnRow first (with_func r func)
+      by : {func : UserFunc} → SoftOrHard func → IsOwnRow first (with_func r func)
           → AllNonnegative (numbers_from x n (length (row_signs (with_func r func))))
           → RowIn x (relaxed_row n (with_func r func))
           → IsEnoughFor y (with_func r func)
           (numbers_from x n (length (row_signs (with_func r func))))
-      by (Affine f) own nonneg inside =
+      by (of_soft f) own nonneg inside =
           let ts : List Rational = numbers_from x n (length (signs_on r.set)) in
           let enough : AreEnough r.set (value_of f y) ts =
           slacks_enough r.set (value_of f y) ts own.uncrossed
@@ -280,20 +280,14 @@ module _ (first : ℕ) (x y : Address → Rational)
             least = enough.least;
             exact = λ _. enough.exact;
           }
-      by (Plain var) own nonneg inside = record {
-        hard = λ _. kept (Plain var) own.below inside;
-        least = ≤ℚ_refl zero_ℚ;
-        exact = λ e. absurd (true≢false (sym e));
-      }
-      by (PlainVec vars) own nonneg inside = record {
-        hard = λ _. kept (PlainVec vars) own.below inside;
-        least = ≤ℚ_refl zero_ℚ;
-        exact = λ e. absurd (true≢false (sym e));
-      }
-      by (AffineVec fs) own nonneg inside = record {
-        hard = λ _. kept (AffineVec fs) own.below inside;
-        least = ≤ℚ_refl zero_ℚ;
-        exact = λ e. absurd (true≢false (sym e));
+      by (of_hard {func} isnt same) own nonneg inside = record {
+        hard = λ _. kept func own.below
+            (subst (λ (g : UserFunc). In r.set (values (functions_of g) x))
+            (same (with_slacks n (signs_on r.set))) inside);
+        least = subst (λ b. cond b (row_violation y (with_func r func)) zero_ℚ
+            ≤ℚ sum_ℚ (numbers_from x n (length (cond b (signs_on r.set) [])))) (sym isnt)
+            (≤ℚ_refl zero_ℚ);
+        exact = λ e. absurd (true≢false (sym e ∙ isnt));
       }
 
   pub rows_enough : (n : ℕ) → first ≤ n → (rows : List Row) → All (IsOwnRow first) rows

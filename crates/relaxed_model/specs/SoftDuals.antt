@@ -18,14 +18,15 @@ use Rattle.set_core.specs.Membership.{Dual, low_of}
 use Rattle.set_core.specs.Shapes.{is_scalar}
 use Rattle.dual_laws.specs.Held.{DualRow, adjoint, adjoint_of, gap, gap_of}
 use Rattle.user_model.specs.declared.function.UserFunc.{UserFunc}
-use Rattle.user_model.specs.declared.function.UserFunc.TheVariants.{Plain, Affine, PlainVec, AffineVec}
+use Rattle.user_model.specs.declared.function.UserFunc.TheVariants.{Affine}
 use Rattle.user_model.specs.declared.row.Row.{Row}
 use Rattle.user_model.specs.Model.{variable_address}
 use Rattle.certificates.specs.Points.{functions_of}
 use Rattle.certificates.specs.Duals.{HasDuals, row_with, rows_with}
-use Rattle.relaxed_model.specs.FunctionLaws.{IsBelow, coefficient_first, coefficient_kept, coefficient_second, slacks_below, zero_from, zeros_from}
+use Rattle.relaxed_model.specs.FunctionLaws.{IsBelow, below_from, coefficient_first, coefficient_kept, coefficient_second, slacks_below, zero_from, zeros_from}
 use Rattle.relaxed_model.specs.Relaxed.{at_hard_rows, hard_rows, is_soft, relaxed_row, relaxed_rows, row_signs, signs_on, slack_count, with_slacks}
 use Rattle.relaxed_model.specs.RowLaws.{IsOwnRow, with_func}
+use Rattle.relaxed_model.specs.SoftOrHard.{SoftOrHard, of_hard, of_soft, soft_or_hard}
 
 -- ---- numbers that are 0
 
@@ -105,9 +106,6 @@ counts_nothing set fs = record {
 }
 
 module _ (first n : ℕ) (after : first ≤ n) where
-  at_or_after : (f : Function) → IsBelow first f → IsBelow n f
-  at_or_after f below v some = let less = below v some in omega (arith, less, after)
-
   row_apart : Row → List Rational → DualRow
   row_apart r y = row_with y (relaxed_row n r)
 
@@ -115,47 +113,48 @@ module _ (first n : ℕ) (after : first ≤ n) where
   zeros_before : (r : Row) → IsOwnRow first r → (m : ℕ) → first ≤ m → m < n
       → All (λ q. q ≡ zero_ℚ)
       (coefficients (functions_of (relaxed_row n r).func) (variable_address m))
-  zeros_before r own m from before = by r.func own.below
+  zeros_before r own m from before = by (soft_or_hard r.func) own.below
     where
-      by : (func : UserFunc) → All {X = Function} (IsBelow first) (functions_of func)
+      by : {func : UserFunc} → SoftOrHard func
+          → All {X = Function} (IsBelow first) (functions_of func)
           → All (λ q. q ≡ zero_ℚ)
           (coefficients (functions_of (relaxed_row n (with_func r func)).func) (variable_address m))
-      by (Affine f) below =
+      by (of_soft f) below =
           All-cons (λ q. q ≡ zero_ℚ)
           (coefficient (with_slacks n (signs_on r.set) f) (variable_address m)) []
           (coefficient_kept n (signs_on r.set) f (variable_address m) before
           ∙ zero_from first f (All-head (IsBelow first) f [] below) (variable_address m) from)
           (All-nil (λ q. q ≡ zero_ℚ))
-      by (Plain var) below = zeros_from first (functions_of (Plain var)) below (variable_address m) from
-      by (PlainVec vars) below =
-          zeros_from first (functions_of (PlainVec vars)) below (variable_address m) from
-      by (AffineVec fs) below = zeros_from first fs below (variable_address m) from
+      by (of_hard {func} isnt same) below =
+          subst (λ (g : UserFunc). All (λ q. q ≡ zero_ℚ)
+          (coefficients (functions_of g) (variable_address m)))
+          (sym (same (with_slacks n (signs_on r.set))))
+          (zeros_from first (functions_of func) below (variable_address m) from)
 
-  -- and behind them
+  -- and after them
   zeros_behind : (r : Row) → IsOwnRow first r → (m : ℕ) → n + length (row_signs r) ≤ m
       → All (λ q. q ≡ zero_ℚ)
       (coefficients (functions_of (relaxed_row n r).func) (variable_address m))
-  zeros_behind r own m behind = by r.func own.below behind
+  zeros_behind r own m behind = by (soft_or_hard r.func) own.below behind
     where
-      by : (func : UserFunc) → All {X = Function} (IsBelow first) (functions_of func)
+      by : {func : UserFunc} → SoftOrHard func
+          → All {X = Function} (IsBelow first) (functions_of func)
           → n + length (row_signs (with_func r func)) ≤ m
           → All (λ q. q ≡ zero_ℚ)
           (coefficients (functions_of (relaxed_row n (with_func r func)).func) (variable_address m))
-      by (Affine f) below behind =
+      by (of_soft f) below behind =
           All-cons (λ q. q ≡ zero_ℚ)
           (coefficient (with_slacks n (signs_on r.set) f) (variable_address m)) []
           (zero_from (n + length (signs_on r.set)) (with_slacks n (signs_on r.set) f)
           (slacks_below n (signs_on r.set) f
-          (at_or_after f (All-head (IsBelow first) f [] below))) (variable_address m) behind)
+          (below_from first n after f (All-head (IsBelow first) f [] below))) (variable_address m) behind)
           (All-nil (λ q. q ≡ zero_ℚ))
-      by (Plain var) below behind =
-          zeros_from first (functions_of (Plain var)) below (variable_address m)
-          (omega (arith, after, behind))
-      by (PlainVec vars) below behind =
-          zeros_from first (functions_of (PlainVec vars)) below (variable_address m)
-          (omega (arith, after, behind))
-      by (AffineVec fs) below behind =
-          zeros_from first fs below (variable_address m) (omega (arith, after, behind))
+      by (of_hard {func} isnt same) below behind =
+          subst (λ (g : UserFunc). All (λ q. q ≡ zero_ℚ)
+          (coefficients (functions_of g) (variable_address m)))
+          (sym (same (with_slacks n (signs_on r.set))))
+          (zeros_from first (functions_of func) below (variable_address m)
+          (omega (arith, after, behind)))
 
   -- a soft row's dual is 0 where its slacks' duals are at least 0
   soft_counts_nothing : (r : Row) (y : List Rational) → IsOwnRow first r → is_soft r ≡ true
@@ -163,7 +162,8 @@ module _ (first n : ℕ) (after : first ≤ n) where
       → ((m : ℕ) → n ≤ m → m < n + length (row_signs r)
       → adjoint_of (row_with y (relaxed_row n r)) (variable_address m) ≤ℚ zero_ℚ)
       → CountsNothing (row_with y (relaxed_row n r))
-  soft_counts_nothing r y own soft duals cancels = by r.func y (own.scalar soft) soft duals cancels
+  soft_counts_nothing r y own soft duals cancels =
+      by (soft_or_hard r.func) y (own.scalar soft) soft duals cancels
     where
       lone : (f : Function) (y : List Rational) → is_scalar r.set ≡ true → length y ≡ 1
           → Dual r.set y
@@ -178,27 +178,23 @@ module _ (first n : ℕ) (after : first ≤ n) where
           (counts_nothing r.set (with_slacks n (signs_on r.set) f ∷ []))
       lone f (d ∷ e ∷ ds) scalar size dual cancels = absurd (omega (arith, size))
 
-      by : (func : UserFunc) (y : List Rational) → is_scalar r.set ≡ true
+      by : {func : UserFunc} → SoftOrHard func → (y : List Rational) → is_scalar r.set ≡ true
           → is_soft (with_func r func) ≡ true
           → HasDuals (row_with y (relaxed_row n (with_func r func)))
           → ((m : ℕ) → n ≤ m → m < n + length (row_signs (with_func r func))
           → adjoint_of (row_with y (relaxed_row n (with_func r func))) (variable_address m)
           ≤ℚ zero_ℚ)
           → CountsNothing (row_with y (relaxed_row n (with_func r func)))
-      by (Affine f) y scalar soft duals cancels = lone f y scalar duals.size duals.dual cancels
-      by (Plain var) y scalar soft duals cancels = absurd (true≢false (sym soft))
-      by (PlainVec vars) y scalar soft duals cancels = absurd (true≢false (sym soft))
-      by (AffineVec fs) y scalar soft duals cancels = absurd (true≢false (sym soft))
+      by (of_soft f) y scalar soft duals cancels = lone f y scalar duals.size duals.dual cancels
+      by (of_hard isnt same) y scalar soft duals cancels = absurd (true≢false (sym soft ∙ isnt))
 
 pub hard_row_kept : (n : ℕ) (r : Row) → is_soft r ≡ false → relaxed_row n r ≡ r
-hard_row_kept n r hard = by r.func hard
+hard_row_kept n r hard = by (soft_or_hard r.func) hard
   where
-    by : (func : UserFunc) → is_soft (with_func r func) ≡ false
+    by : {func : UserFunc} → SoftOrHard func → is_soft (with_func r func) ≡ false
         → relaxed_row n (with_func r func) ≡ with_func r func
-    by (Affine f) hard = absurd (true≢false hard)
-    by (Plain var) hard = refl
-    by (PlainVec vars) hard = refl
-    by (AffineVec fs) hard = refl
+    by (of_soft f) hard = absurd (true≢false hard)
+    by (of_hard isnt same) hard = ap (with_func r) (same (with_slacks n (signs_on r.set)))
 
 -- ---- all rows
 

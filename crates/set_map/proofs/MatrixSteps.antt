@@ -1,13 +1,16 @@
 -- Square matrices: the lengths of their rows and columns, and rows of the unit matrix so far.
-use Rattle.std.specs.Prelude.{◌≡◌, ◌↔◌, ℕ, ◌+◌, ◌<◌, Bool, true, false, ◌&&◌, IsTrue, List, [], ◌∷◌, ◌++◌, All, length, map, take, slice_index_or, refl}
+use Rattle.std.specs.Prelude.{◌≡◌, ◌↔◌, ◌==◌, ℕ, ◌+◌, ◌<◌, ◌≤◌, Bool, cond, not, replicate, true, false, ◌&&◌, IsTrue, List, [], ◌∷◌, ◌++◌, All, length, map, take, slice_index_or, refl}
 use Rattle.std.specs.List.{range_with_len}
-use Rattle.std.proofs.Common.{sym, ◌∙◌, ap, ap₂, arith, subst, get_or, true≢false}
-use Rattle.std.proofs.lemmas.List.{length-map}
+use Rattle.std.proofs.Common.{sym, ◌∙◌, ap, ap₂, arith, inl, inr, subst, get_or, true≢false}
+use Rattle.std.proofs.lemmas.Bool.{cases_Bool, eq-eqb, eqb-true}
+use Rattle.std.proofs.lemmas.Grind.{get_or-set_at}
+use Rattle.std.proofs.lemmas.List.{get_or-replicate, get_or-set_other, get_or_default, length-map, length-replicate, length-set, take_all, take_more}
 use Rattle.std.proofs.lemmas.List.Elements.{All-map, All-weaker}
 use Rattle.std.proofs.lemmas.List.FromFn.{get_or-map-range_with_len, map-range_with_len_more}
 use Rattle.map_laws.specs.LoopLaws.{map-take_more}
-use Rattle.ratio_core.specs.Rational.{Rational, zero_ℚ}
-use Rattle.set_map.specs.Matrices.{AreInverse, ArePair, IsSquare, Matrix, column, product, transposed, unit, unit_row}
+use Rattle.ratio_core.specs.Rational.{Rational, one_ℚ, rational_eq, zero_ℚ}
+use Rattle.ratio_core.specs.RationalLaws.{rational_eq_Decides}
+use Rattle.set_map.specs.Matrices.{AreInverse, ArePair, IsSquare, Matrix, column, product, transposed, unit, unit_number, unit_row}
 
 pub within : (n : ℕ) (m : Matrix) (i : ℕ) → IsSquare n m → i < n → All (λ row. i < length row) m
 within n m i s lt =
@@ -79,6 +82,76 @@ module _ (m : Matrix) (i : ℕ) (row : List Rational) (is : row ≡ get_or m i r
     where
       zero_lem : (k : ℕ) → 0 + k ≡ k
       zero_lem k = omega arith
+
+-- ---- numbers of a row of the unit matrix
+
+abbrev number_at : List Rational → ℕ → Rational
+number_at row j = get_or row j zero_ℚ
+
+pub unit_at : (n i j : ℕ) → i < n → j < n → number_at (unit_row n i) j ≡ unit_number i j
+unit_at n i j within lt =
+    elim (cases_Bool (i == j)) [
+      | inl is ↦
+          let same : j ≡ i = sym (eqb-true i j is) in
+          get_or-set_at (replicate n zero_ℚ) i j one_ℚ zero_ℚ same
+          (subst (λ k. i < k) (sym (length-replicate n zero_ℚ)) within)
+          ∙ sym (ap (λ b. cond b one_ℚ zero_ℚ) is)
+      | inr other ↦
+          get_or-set_other (replicate n zero_ℚ) i j one_ℚ zero_ℚ
+          (λ e. true≢false (sym (eq-eqb i j (sym e)) ∙ other))
+          ∙ get_or-replicate n j zero_ℚ zero_ℚ lt
+          ∙ sym (ap (λ b. cond b one_ℚ zero_ℚ) other)
+    ]
+
+length-unit_row : (n i : ℕ) → length (unit_row n i) ≡ n
+length-unit_row n i = length-set (replicate n zero_ℚ) i one_ℚ ∙ length-replicate n zero_ℚ
+
+module _ (row : List Rational) (n i : ℕ) (within : i < n) where
+  -- numbers that are too few or too many
+  pub not_as_long : ¬ (length row ≡ n) → ¬ (row ≡ unit_row n i)
+  not_as_long other same = other (ap length same ∙ length-unit_row n i)
+
+  module _ (long : length row ≡ n) (j : ℕ) (number : Rational) (is : number ≡ get_or row j number)
+      (lt : j < length row) where
+    at_place : number ≡ number_at row j
+    at_place = is ∙ get_or_default row j number zero_ℚ lt
+
+    -- one number more
+    pub number_more : take j row ≡ take j (unit_row n i) → number ≡ unit_number i j
+        → take (j + 1) row ≡ take (j + 1) (unit_row n i)
+    number_more so_far e =
+        let low : j < n = subst (λ k. j < k) long lt in
+        take_more row j zero_ℚ lt
+        ∙ ap₂ (λ xs q. xs ++ q ∷ []) so_far (sym at_place ∙ e ∙ sym (unit_at n i j within low))
+        ∙ sym (take_more (unit_row n i) j zero_ℚ
+        (subst (λ k. j < k) (sym (length-unit_row n i)) low))
+
+    -- a number that isn't the one there
+    pub number_failed : ¬ (number ≡ unit_number i j) → ¬ (row ≡ unit_row n i)
+    number_failed other same = other
+        (at_place ∙ ap (λ xs. number_at xs j) same
+        ∙ unit_at n i j within (subst (λ k. j < k) long lt))
+
+  pub all_numbers : (j : ℕ) → length row ≡ n → length row ≤ j
+      → take j row ≡ take j (unit_row n i) → row ≡ unit_row n i
+  all_numbers j long all so_far =
+      sym (take_all j row all) ∙ so_far
+      ∙ take_all j (unit_row n i)
+      (subst (λ k. k ≤ j) (long ∙ sym (length-unit_row n i)) all)
+
+-- ---- a test of two numbers
+
+pub same_from_test : (p q : Rational) (b : Bool) → b ≡ not (rational_eq p q) → b ≡ false → p ≡ q
+same_from_test p q b is failed = (rational_eq_Decides p q).0 (by (rational_eq p q) refl)
+  where
+    by : (t : Bool) → rational_eq p q ≡ t → t ≡ true
+    by true e = refl
+    by false e = absurd (true≢false (sym (ap not e) ∙ sym is ∙ failed))
+
+pub other_from_test : (p q : Rational) (b : Bool) → b ≡ not (rational_eq p q) → b ≡ true
+    → ¬ (p ≡ q)
+other_from_test p q b is passed e =
+    true≢false (sym passed ∙ is ∙ ap not ((rational_eq_Decides p q).1 e))
 
 -- ---- both products
 

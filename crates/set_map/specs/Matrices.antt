@@ -3,7 +3,7 @@
 --     transposed m     the columns of a square matrix
 --     product a b      A B, whose entries are the products of the rows of A with the columns of B
 --     unit n           the unit matrix
-use Rattle.std.specs.Prelude.{◌≡◌, ℕ, List, All, length, map, replicate, slice_index_or, slice_set}
+use Rattle.std.specs.Prelude.{◌≡◌, ℕ, List, All, length, map, replicate, slice_index_or, slice_set, if◌then◌else◌, ◌==◌}
 use Rattle.std.specs.List.{range_with_len}
 use Rattle.ratio_core.specs.Rational.{Rational, one_ℚ, zero_ℚ}
 use Rattle.rational_laws.specs.Dot.{dot}
@@ -37,6 +37,10 @@ product a b = map (applied (transposed b)) a
 -- 1 at a place, and 0 at the others
 abbrev pub unit_row : ℕ → ℕ → List Rational
 unit_row n i = slice_set (replicate n zero_ℚ) i one_ℚ
+
+-- the number at place j of the row with place i
+abbrev pub unit_number : ℕ → ℕ → Rational
+unit_number i j = if i == j then one_ℚ else zero_ℚ
 
 abbrev pub unit : ℕ → Matrix
 unit n = map (unit_row n) (range_with_len 0 n)

@@ -49,12 +49,13 @@ impl SetMap {
         requires { ArePair rows.now inverse.now }
         ensures { Reads rows.now inverse.now result }
     {
-        let is_inverse = are_inverse(alloc, rows, inverse)?;
+        let columns = transposed(alloc, rows)?;
+        let is_inverse = are_inverse(alloc, rows, &columns, inverse)?;
         if !is_inverse {
             return Err(MapFault::NotInverse);
         }
-        let columns = Sequence::from_vec(transposed(alloc, rows)?);
         let rows = copied(alloc, rows)?;
+        let columns = Sequence::from_vec(columns);
         Ok(SetMap { rows, columns })
     }
 
@@ -83,14 +84,21 @@ impl SetMap {
     }
 }
 
-// Whether both products are the unit matrix.
-fn are_inverse(alloc: Global, rows: &[Ratios], inverse: &[Ratios]) -> Result<bool, NumberFault>
-    requires { ArePair rows.now inverse.now }
+// Whether both products are the unit matrix. The columns are those of the first rows.
+fn are_inverse(
+    alloc: Global,
+    rows: &[Ratios],
+    columns: &[Ratios],
+    inverse: &[Ratios],
+) -> Result<bool, NumberFault>
+    requires pair { ArePair rows.now inverse.now }
+    requires columns { columns.now ≡ transposed rows.now }
     ensures { ExactWhere result (ProductsFit rows.now inverse.now)
         (λ are_inverse. IsTrue are_inverse ↔ AreInverse rows.now inverse.now) }
 {
-    let is_right = is_product_unit(alloc, rows, inverse)?;
-    let is_left = is_product_unit(alloc, inverse, rows)?;
+    let others = transposed(alloc, inverse)?;
+    let is_right = is_product_unit(alloc, rows, &others)?;
+    let is_left = is_product_unit(alloc, inverse, columns)?;
     Ok(is_right && is_left)
 }
 

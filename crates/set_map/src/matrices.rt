@@ -1,8 +1,8 @@
 //! Columns and products of square matrices.
 ghost use Rattle.std.specs.Prelude.{◌≡◌, ◌↔◌, ◌<◌, All, IfOk, IsTrue, length, map};
 ghost use Rattle.ratio_core.specs.Answers.{ExactWhere};
-ghost use Rattle.set_map.specs.Fitting.{AppliedFits, ProductFits};
-ghost use Rattle.set_map.specs.Matrices.{IsSquare, applied, column, product, transposed, unit};
+ghost use Rattle.set_map.specs.Fitting.{AppliedFits};
+ghost use Rattle.set_map.specs.Matrices.{IsSquare, applied, column, transposed, unit};
 
 use crate::numbers::applied;
 use crate::units::is_unit;
@@ -34,21 +34,19 @@ fn column(alloc: Global, rows: &[Ratios], i: usize) -> Result<Ratios, Memory>
     Ok(Sequence::from_vec(numbers))
 }
 
-/// Whether the product of two square matrices is the unit matrix. `Overflow` exactly where the sum
-/// of an entry, from the left, exceeds 128 bits.
+/// Whether the product of a matrix with the one of these columns is the unit matrix. `Overflow` exactly
+/// where the sum of an entry, from the left, exceeds 128 bits.
 pub(crate) fn is_product_unit(
     alloc: Global,
     left: &[Ratios],
-    right: &[Ratios],
+    columns: &[Ratios],
 ) -> Result<bool, NumberFault>
-    requires left { IsSquare (length left.now) left.now }
-    requires right { IsSquare (length left.now) right.now }
-    ensures { ExactWhere result (ProductFits left.now right.now)
-        (λ is_unit. IsTrue is_unit ↔ (product left.now right.now ≡ unit (length left.now))) }
+    requires { All (λ row. All (λ column. length column ≡ length row) columns.now) left.now }
+    ensures { ExactWhere result (All (AppliedFits columns.now) left.now) (λ is_unit. IsTrue is_unit
+        ↔ (map (applied columns.now) left.now ≡ unit (length left.now))) }
 {
-    let columns = transposed(alloc, right)?;
-    let entries = applied_to_each(alloc, &columns, left)?;
-    Ok(is_unit(alloc, &entries)?)
+    let entries = applied_to_each(alloc, columns, left)?;
+    Ok(is_unit(&entries))
 }
 
 // The product of each row of a matrix with each of some columns.

@@ -1,44 +1,40 @@
 //! The unit matrix.
-ghost use Rattle.std.specs.Prelude.{◌≡◌, ◌↔◌, ◌<◌, IfOk, IsTrue, length};
-ghost use Rattle.set_map.specs.Matrices.{unit, unit_row};
+ghost use Rattle.std.specs.Prelude.{◌≡◌, ◌↔◌, ◌<◌, IsTrue, length};
+ghost use Rattle.set_map.specs.Matrices.{unit, unit_number, unit_row};
 
-use lists::Memory;
 use ratio_core::{Ratio, Ratios};
-use std::alloc::Global;
 
 /// Whether rows are those of the unit matrix.
-pub(crate) fn is_unit(alloc: Global, rows: &[Ratios]) -> Result<bool, Memory>
-    ensures { IfOk result (λ is_unit. IsTrue is_unit ↔ (rows.now ≡ unit (length rows.now))) }
+pub(crate) fn is_unit(rows: &[Ratios]) -> bool
+    ensures { IsTrue result ↔ (rows.now ≡ unit (length rows.now)) }
 {
     for (i, row) in rows.iter().enumerate() {
-        if !is_unit_row(alloc, row.as_slice(), rows.len(), i)? {
-            return Ok(false);
+        if !is_unit_row(row.as_slice(), rows.len(), i) {
+            return false;
         }
     }
-    Ok(true)
+    true
 }
 
 // Whether numbers are a row of the unit matrix.
-fn is_unit_row(alloc: Global, row: &[Ratio], size: usize, i: usize) -> Result<bool, Memory>
+fn is_unit_row(row: &[Ratio], size: usize, i: usize) -> bool
     requires { i < size }
-    ensures { IfOk result (λ is_row. IsTrue is_row ↔ (row.now ≡ unit_row size i)) }
+    ensures { IsTrue result ↔ (row.now ≡ unit_row size i) }
 {
-    let unit = unit_row(alloc, size, i)?;
-    Ok(are_equal(row, &unit))
+    if row.len() != size {
+        return false;
+    }
+    for (j, number) in row.iter().enumerate() {
+        if *number != unit_number(i, j) {
+            return false;
+        }
+    }
+    true
 }
 
 // 1 at a place, and 0 at the others.
-fn unit_row(alloc: Global, size: usize, i: usize) -> Result<Vec<Ratio>, Memory>
-    requires { i < size }
-    ensures { IfOk result (λ row. row.items ≡ unit_row size i) }
+fn unit_number(i: usize, j: usize) -> Ratio
+    ensures { result ≡ unit_number i j }
 {
-    let mut row = vec![in alloc; Ratio::zero(); size]?;
-    row[i] = Ratio::one();
-    Ok(row)
-}
-
-fn are_equal(a: &[Ratio], b: &[Ratio]) -> bool
-    ensures { IsTrue result ↔ (a.now ≡ b.now) }
-{
-    a == b
+    if i == j { Ratio::one() } else { Ratio::zero() }
 }

@@ -10,7 +10,7 @@ use std::alloc::Global;
 
 /// The files of the model and of the maps.
 #[derive(Debug, Drop)]
-pub struct Command {
+pub(crate) struct Command {
     pub model: Name,
     pub maps: Name,
 }

@@ -8,5 +8,4 @@ mod running;
 mod solving;
 mod telling;
 
-pub use command::Command;
 pub use running::run;

@@ -1,13 +1,11 @@
 //! A run of the command.
-ghost use Rattle.std.specs.Prelude.{◌≡◌, ◌≢◌, ◌⊎◌, ◌↔◌, All, IfSome, IsTrue, None};
+ghost use Rattle.std.specs.Prelude.{◌≡◌, All, IsTrue};
 ghost use Rattle.std.specs.Prelude as prelude;
 ghost use Rattle.std.specs.FinMap as finite;
 ghost use Rattle.bridge_set.specs.Bridges.{families_of, occur_once};
+ghost use Rattle.command_run.specs.Run.{IsRun, seen};
 ghost use Rattle.command_words.specs.Texts.{texts};
-ghost use Rattle.file_command.specs.Ending.{EndsWith, IsSound};
 ghost use Rattle.file_command.specs.Loading.{AnswersFile};
-ghost use Rattle.file_command.specs.Status.{IsEnded};
-ghost use Rattle.io_face.specs.Fault.{HasFaulted};
 ghost use Rattle.io_face.specs.Shelf.{AsksFor};
 ghost use Rattle.io_face.specs.Told.{told_by};
 ghost use Rattle.model_command.specs.Alone.{standard_by};
@@ -39,39 +37,22 @@ pub fn run<H: Shelf, O: Sink, B: Bridge>(
     requires once { IsTrue (occur_once (families_of (prelude.map B.state bridges.items))) }
     requires kept { All (λ s. s.kept ≡ finite.empty) (prelude.map B.state bridges.items) }
 
+    // What is written is the answer to the files, whole where the run ended. Each status comes for its
+    // cause alone. The model's file is asked for once, and then that of the maps once, where the model
+    // was made.
+    ensures runs { let setting = standard_by (prelude.map B.state bridges.items) in
+        let told = told_by (H.files shelf.old) (H.sure shelf.old) in
+        IsRun (command_in (texts words.now))
+        (λ command. AnswersFile (Says setting told command.maps) told command.model)
+        (λ command before after. AsksFiles told command.model command.maps (AsksFor before after))
+        (λ command. CanBothBeFetched told command.model command.maps)
+        (seen (H.asked shelf.old) (H.faults shelf.old) (O.written output.old) (O.faults output.old))
+        (seen (H.asked shelf.new) (H.faults shelf.new) (O.written output.new) (O.faults output.new))
+        result }
+
     // Nothing is fetched or written at other arguments.
-    ensures usage { (result ≡ Status.Usage) ↔ (command_in (texts words.now) ≡ None) }
     ensures untouched { result ≡ Status.Usage → (shelf.new ≡ shelf.old)
         × (output.new ≡ output.old) }
-
-    // What is written is the answer to the files, whole where the run ended.
-    ensures ends { let setting = standard_by (prelude.map B.state bridges.items) in
-        let told = told_by (H.files shelf.old) (H.sure shelf.old) in
-        IfSome (command_in (texts words.now)) (λ command.
-        EndsWith (AnswersFile (Says setting told command.maps) told command.model) result
-        (O.written output.old) (O.written output.new)) }
-
-    // A fault was counted, and each that was counted ends the run.
-    ensures read_fault { result ≡ Status.ReadFault
-        → HasFaulted (H.faults shelf.old) (H.faults shelf.new) }
-    ensures write_fault { result ≡ Status.WriteFault
-        → HasFaulted (O.faults output.old) (O.faults output.new) }
-    ensures sound_fetches { IsEnded result → H.faults shelf.new ≡ H.faults shelf.old }
-    ensures sound_writes { IsEnded result → O.faults output.new ≡ O.faults output.old }
-
-    // The model's file is asked for once, and then the maps' once, where the model was made.
-    ensures asks { let told = told_by (H.files shelf.old) (H.sure shelf.old) in
-        result ≢ Status.Memory → IfSome (command_in (texts words.now)) (λ command.
-        AsksFiles told command.model command.maps
-        (AsksFor (H.asked shelf.old) (H.asked shelf.new))) }
-
-    // With nothing against it, the run ends, unless memory runs out.
-    ensures complete { let told = told_by (H.files shelf.old) (H.sure shelf.old) in
-        IfSome (command_in (texts words.now)) (λ command.
-        CanBothBeFetched told command.model command.maps (H.faults shelf.old)
-        (H.faults shelf.new)
-        → IsSound (O.faults output.old) (O.faults output.new)
-        → IsEnded result ⊎ (result ≡ Status.Memory)) }
 {
     match command_of(alloc, words) {
         Ok(Some(command)) => end_with(answer(alloc, &command, shelf, bridges), output),

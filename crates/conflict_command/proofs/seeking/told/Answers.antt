@@ -10,5 +10,5 @@ returns-in-Ok g c =
 
 pub returns-in-Err : goal.returns-in-Err
 returns-in-Err g c =
-    says_why (state_of c.args.cache.now) c.tell_optimize.result c.in-Err.fault c.from.result
-    c.in-Err.ensures.finds c.from.ensures c.tell_optimize.ensures.told
+    says_why (state_of c.args.cache.now) c.tell_optimize.result c.in-Err.fault
+    c.in-Err.ensures.finds c.tell_optimize.ensures.told

@@ -4,7 +4,8 @@ use Rattle.dual_command.proofs.answering.dual_of.Goals as goal
 pub returns-in-Ok : goal.returns-in-Ok
 returns-in-Ok c =
     dual_made c.args.model.now.model c.in-Ok.edits c.into_vec.result.items c.in-Ok.ensures.dual
-    c.in-Ok.ensures.made c.into_vec.ensures c.model_by.result c.model_by.ensures
+    c.in-Ok.ensures.made c.in-Ok.ensures.limits c.into_vec.ensures c.model_by.result
+    c.model_by.ensures
 
 pub returns-in-Err-Overflow : goal.returns-in-Err-Overflow
 returns-in-Err-Overflow c =

@@ -3,8 +3,9 @@ use Rattle.dual_model.specs.Duality.{holds_duals}
 use Rattle.dualization.specs.Fitting.{after_moves, moves, start_sums}
 use Rattle.dualization.specs.Rows.{IsObjectiveOf}
 use Rattle.user_model.specs.Model.{empty_model}
-use Rattle.dualization.specs.DualEdits.{all_edited}
-use Rattle.dualization.proofs.LimitLemmas.{limits_alone}
+use Rattle.limit_laws.specs.Leads.{all_edited}
+use Rattle.limit_laws.specs.Limits.{LimitsAlone}
+use Rattle.dualization.proofs.LimitLemmas.{limits_of_dual}
 use Rattle.dualization.proofs.MovedLemmas.{all_moved}
 use Rattle.dualization.proofs.WholeLemmas.{edits_make}
 use Rattle.dualization.proofs.ValidLemmas.{group_sets, row_sets, variables_apart}
@@ -43,4 +44,6 @@ returns-clause-made c =
     ∙ edits_make c.args.model.now.model c.rows-rows.ensures.valid
 
 pub returns-clause-limits : goal.returns-clause-limits
-returns-clause-limits c = limits_alone c.args.model.now.model c.rows-rows.ensures.valid
+returns-clause-limits c =
+    subst (LimitsAlone empty_model) (sym (c.from_vec.ensures ∙ c.in_ok-edits_with.ensures))
+    (limits_of_dual c.args.model.now.model c.rows-rows.ensures.valid)

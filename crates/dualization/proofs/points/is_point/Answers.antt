@@ -1,5 +1,6 @@
 use Rattle.std.proofs.Common.{ap, arith, sym, true≢false}
-use Rattle.dual_model.specs.DualOf.{new_groups, variable_count}
+use Rattle.group_numbering.specs.NewGroups.{variable_count}
+use Rattle.dual_model.specs.DualOf.{new_groups}
 use Rattle.dual_model.specs.GroupRowLaws.{own_total}
 use Rattle.dual_model.specs.RowPartLaws.{total_parts}
 use Rattle.dualization.proofs.EditLemmas.{size_is}

@@ -1,30 +1,35 @@
-use Rattle.std.proofs.Common.{◌+◌, ◌++◌, ◌∷◌, ◌∙◌, ap, arith, drop, sym}
-use Rattle.std.proofs.Math.ListN.{drop_of_length-le}
-use Rattle.std.proofs.lemmas.List.{drop_more}
+use Rattle.std.proofs.Common.{ap, sym, ◌++◌, ◌∙◌}
+use Rattle.std.specs.Prelude.{not}
 use Rattle.cert_text.specs.Text.{ended, row_line}
-use Rattle.relax_command.proofs.Lines.{line_more, no_rows, none_left}
-use Rattle.relax_command.specs.Left.{rows_left}
+use Rattle.relaxed_model.specs.Relaxed.{hard_rows, is_hard}
+use Rattle.relax_command.proofs.Filtered.{first_passes, first_skipped}
+use Rattle.relax_command.proofs.Lines.{line_more, line_same, no_rows, none_left}
 use Rattle.relax_command.proofs.printing.push_duals.Goals as goal
 
-pub loop-own-preserved : goal.loop-own-preserved
-loop-own-preserved c =
-    let all = c.args.duals.now in
-    let i = c.loop-own.own-index in
-    let item = c.own-item.result in
-    line_more row_line (rows_left c.loop-own.left) (rows_left c.next.new.self) (drop i all)
-    (drop (i + 1) all) c.in-Some.row.now item c.loop-own.draft c.push_row_duals.new.draft _
-    c.loop-own.invariant c.in-Some.ensures.steps
-    (drop_more all i item c.loop-own-test.true ∙ ap (λ y. y ∷ drop (i + 1) all)
-    (sym c.own-item.is))
-    (c.in_ok-push_row_duals.ensures ∙ ap (λ qs. c.loop-own.draft ++ ended (row_line (c.in-Some.row.now, qs))) c.as_slice.ensures)
+pub loop-row-preserved-then-is_soft : goal.loop-row-preserved-then-is_soft
+loop-row-preserved-then-is_soft c =
+    line_more row_line (hard_rows c.loop-row.row-iterator) (hard_rows c.next.new.self)
+    c.loop-row.left.now c.in-Some-2.others.now c.in-Some.row.now c.in-Some-2.own.now
+    c.loop-row.draft c.push_row_duals.new.draft _ c.loop-row.invariant
+    (first_passes is_hard c.loop-row.row-iterator c.next.new.self c.in-Some.row.now
+    c.in-Some.ensures.steps (ap not (sym c.is_soft.ensures ∙ c.if-is_soft.false)))
+    c.in-Some-2.ensures.cases.0
+    (c.in_ok-push_row_duals.ensures ∙ ap (λ qs. c.loop-row.draft
+    ++ ended (row_line (c.in-Some.row.now, qs))) c.as_slice.ensures)
+
+pub loop-row-preserved-else-is_soft : goal.loop-row-preserved-else-is_soft
+loop-row-preserved-else-is_soft c =
+    line_same row_line (hard_rows c.loop-row.row-iterator) (hard_rows c.next.new.self)
+    c.loop-row.left.now c.loop-row.draft _ c.loop-row.invariant
+    (first_skipped is_hard c.loop-row.row-iterator c.next.new.self c.in-Some.row.now
+    c.in-Some.ensures.steps (ap not (sym c.is_soft.ensures ∙ c.if-is_soft.true)))
 
 pub returns-in_default : goal.returns-in_default
 returns-in_default c =
-    no_rows row_line (rows_left c.loop-own.left) (drop c.loop-own.own-index c.args.duals.now)
-    c.loop-own.draft _ c.loop-own.invariant c.in_default.ensures.steps.0
+    none_left row_line (hard_rows c.loop-row.row-iterator) c.loop-row.left.now c.loop-row.draft _
+    c.loop-row.invariant c.in_default.ensures.cases
 
 pub returns : goal.returns
 returns c =
-    none_left row_line (rows_left c.loop-own.left) (drop c.loop-own.own-index c.args.duals.now)
-    c.loop-own.draft _ c.loop-own.invariant
-    (drop_of_length-le c.args.duals.now (omega arith))
+    no_rows row_line (hard_rows c.loop-row.row-iterator) c.loop-row.left.now c.loop-row.draft _
+    c.loop-row.invariant (ap hard_rows c.in-None.ensures.steps.0)

@@ -1,76 +1,53 @@
-use Rattle.std.proofs.Common.{◌≡◌, ◌⊎◌, ◌∷◌, [], subst, sym, ◌∙◌}
-use Rattle.std.proofs.lemmas.Option.{none-some}
-use Rattle.std.specs.Prelude.{IfSome}
+use Rattle.std.proofs.Common.{ℕ, List, sym, ◌∙◌}
 use Rattle.std.specs.Prelude as prelude
+use Rattle.command_run.specs.RanLaws.{no_file, no_memory, ran_on_file}
+use Rattle.command_run.specs.Run.{seen}
 use Rattle.relax_command.proofs.running.run.Goals as goal
 use Rattle.relax_command.specs.Says.{Says}
 use Rattle.relax_command.specs.SaysLaws.{says_plain}
-use Rattle.file_command.specs.Ending.{CanBeFetched, EndsWith, IsSound}
-use Rattle.file_command.specs.Loading.{AnswersFile}
-use Rattle.file_command.specs.RunLaws.{ends_so, ends_well_so, for_a_fault, for_no_fault, for_no_memory, never_usage}
-use Rattle.file_command.specs.Status.{IsEnded}
-use Rattle.file_command.specs.declared.status.Status.TheVariants.{Memory}
-use Rattle.io_face.specs.Shelf.{AsksFor}
+use Rattle.file_command.specs.RunLaws.{never_usage}
 use Rattle.io_face.specs.Told.{told_by}
 use Rattle.model_command.specs.Alone.{standard_by}
 
-pub returns-in-Ok-Some-clause-usage : goal.returns-in-Ok-Some-clause-usage
-returns-in-Ok-Some-clause-usage g c =
-    let some = sym c.in-Ok-Some.ensures.said ∙ c.in-Ok-Some.field-0-is in (
-      λ e. absurd (never_usage c.answer.result c.end_with.result _ _ c.end_with.ensures.ends e),
-      λ e. absurd (none-some c.in-Ok-Some.name (sym e ∙ some)),
-    )
+pub returns-in-Ok-Some-clause-runs : goal.returns-in-Ok-Some-clause-runs
+returns-in-Ok-Some-clause-runs g c =
+    let setting = standard_by (prelude.map g.B.Bridge.state c.args.bridges.items) in
+    let told = told_by (g.H.Shelf.files c.args.shelf.now) (g.H.Shelf.sure c.args.shelf.now) in
+    let old = seen (g.H.Shelf.asked c.args.shelf.now) (g.H.Shelf.faults c.args.shelf.now)
+    (g.O.Sink.written c.args.output.now) (g.O.Sink.faults c.args.output.now) in
+    let new = seen (g.H.Shelf.asked c.answer.new.shelf) (g.H.Shelf.faults c.answer.new.shelf)
+    (g.O.Sink.written c.end_with.new.output) (g.O.Sink.faults c.end_with.new.output) in
+    ran_on_file (λ (name : List ℕ). name) (λ _. Says setting) told _ c.in-Ok-Some.name
+    (sym c.in-Ok-Some.ensures.said ∙ c.in-Ok-Some.field-0-is) c.answer.result old new
+    c.end_with.result
+    (record {
+      says = c.answer.ensures.answers;
+      asks = c.answer.ensures.asks;
+      cause = c.answer.ensures.cause;
+      sound = c.answer.ensures.sound;
+      ends = c.end_with.ensures.ends;
+      write_fault = c.end_with.ensures.write_fault;
+      sound_writes = c.end_with.ensures.sound;
+    })
+    (says_plain setting)
 
 pub returns-in-Ok-Some-clause-untouched : goal.returns-in-Ok-Some-clause-untouched
 returns-in-Ok-Some-clause-untouched g c = λ e.
     absurd (never_usage c.answer.result c.end_with.result _ _ c.end_with.ensures.ends e)
 
-pub returns-in-Ok-Some-clause-ends : goal.returns-in-Ok-Some-clause-ends
-returns-in-Ok-Some-clause-ends g c =
+pub returns-in-Ok-None-clause-runs : goal.returns-in-Ok-None-clause-runs
+returns-in-Ok-None-clause-runs g c =
     let setting = standard_by (prelude.map g.B.Bridge.state c.args.bridges.items) in
     let told = told_by (g.H.Shelf.files c.args.shelf.now) (g.H.Shelf.sure c.args.shelf.now) in
-    let old = g.O.Sink.written c.args.output.now in
-    let new = g.O.Sink.written c.end_with.new.output in
-    subst (λ o. IfSome o (λ name.
-    EndsWith (AnswersFile (Says setting) told name) c.end_with.result old new))
-    (sym (sym c.in-Ok-Some.ensures.said ∙ c.in-Ok-Some.field-0-is))
-    (ends_so c.answer.result (Says setting) told c.in-Ok-Some.name c.answer.ensures.answers
-    c.end_with.result old new c.end_with.ensures.ends)
+    let old = seen (g.H.Shelf.asked c.args.shelf.now) (g.H.Shelf.faults c.args.shelf.now)
+    (g.O.Sink.written c.args.output.now) (g.O.Sink.faults c.args.output.now) in
+    no_file (λ (name : List ℕ). name) (λ _. Says setting) told _
+    (sym c.in-Ok-None.ensures.said ∙ c.in-Ok-None.field-0-is) old
 
-pub returns-in-Ok-Some-clause-read_fault : goal.returns-in-Ok-Some-clause-read_fault
-returns-in-Ok-Some-clause-read_fault g c = λ e.
-    c.answer.ensures.cause
-    (for_a_fault c.answer.result c.end_with.result _ _ c.end_with.ensures.ends e)
-
-pub returns-in-Ok-Some-clause-sound_fetches : goal.returns-in-Ok-Some-clause-sound_fetches
-returns-in-Ok-Some-clause-sound_fetches g c = λ is.
-    c.answer.ensures.sound
-    (for_no_fault c.answer.result c.end_with.result _ _ c.end_with.ensures.ends is)
-
-pub returns-in-Ok-Some-clause-asks : goal.returns-in-Ok-Some-clause-asks
-returns-in-Ok-Some-clause-asks g c = λ not.
-    subst (λ o. IfSome o (λ name. AsksFor (g.H.Shelf.asked c.args.shelf.now)
-    (g.H.Shelf.asked c.answer.new.shelf) (name ∷ [])))
-    (sym (sym c.in-Ok-Some.ensures.said ∙ c.in-Ok-Some.field-0-is))
-    (c.answer.ensures.asks
-    (for_no_memory c.answer.result c.end_with.result _ _ c.end_with.ensures.ends not))
-
-pub returns-in-Ok-Some-clause-complete : goal.returns-in-Ok-Some-clause-complete
-returns-in-Ok-Some-clause-complete g c =
+pub returns-in-Err-clause-runs : goal.returns-in-Err-clause-runs
+returns-in-Err-clause-runs g c =
     let setting = standard_by (prelude.map g.B.Bridge.state c.args.bridges.items) in
     let told = told_by (g.H.Shelf.files c.args.shelf.now) (g.H.Shelf.sure c.args.shelf.now) in
-    let old = g.O.Sink.written c.args.output.now in
-    let new = g.O.Sink.written c.end_with.new.output in
-    let reads = g.H.Shelf.faults c.args.shelf.now in
-    let reads' = g.H.Shelf.faults c.answer.new.shelf in
-    let writes = g.O.Sink.faults c.args.output.now in
-    let writes' = g.O.Sink.faults c.end_with.new.output in
-    subst (λ o. IfSome o (λ name. CanBeFetched told name reads reads'
-    → IsSound writes writes' → IsEnded c.end_with.result ⊎ (c.end_with.result ≡ Memory)))
-    (sym (sym c.in-Ok-Some.ensures.said ∙ c.in-Ok-Some.field-0-is))
-    (ends_well_so c.answer.result (Says setting) told c.in-Ok-Some.name
-    c.answer.ensures.answers c.end_with.result old new c.end_with.ensures.ends
-    (says_plain setting) reads reads' writes writes'
-    (λ e. c.answer.ensures.cause
-    (for_a_fault c.answer.result c.end_with.result old new c.end_with.ensures.ends e))
-    c.end_with.ensures.write_fault)
+    let old = seen (g.H.Shelf.asked c.args.shelf.now) (g.H.Shelf.faults c.args.shelf.now)
+    (g.O.Sink.written c.args.output.now) (g.O.Sink.faults c.args.output.now) in
+    no_memory (λ (name : List ℕ). name) (λ _. Says setting) told _ c.in-Err.ensures.of_one old

@@ -1,4 +1,4 @@
-use Rattle.std.proofs.Common.{◌≤◌, ap, arith, length, subst, sym, ◌∙◌}
+use Rattle.std.proofs.Common.{ap, arith, length, subst}
 use Rattle.certificates.specs.Good.{Good}
 use Rattle.relaxation.proofs.KeptLemmas.{enough_for, not_unbounded, told_hopeless, told_least, told_shown}
 use Rattle.relaxation.proofs.reading.relaxation_of.Goals as goal

@@ -1,4 +1,4 @@
-use Rattle.std.proofs.Common.{arith}
+use Rattle.std.proofs.Common.{ap, arith, length}
 use Rattle.relaxation.proofs.RowLemmas.{few_slacks, first_count}
 use Rattle.relaxation.proofs.rows.slack_count.Goals as goal
 
@@ -11,7 +11,8 @@ overflow_add-count c =
       arith,
       c.loop-row.invariant,
       first,
-      c.sign_count-count.ensures.count,
+      c.count-count.ensures.count,
+      ap length c.slacks_of.ensures,
       few_slacks all,
       c.requires,
     )
@@ -20,4 +21,10 @@ pub loop-row-preserved : goal.loop-row-preserved
 loop-row-preserved c =
     let first = first_count c.loop-row.row-iterator c.next.new.self c.in-Some.row.now
     c.in-Some.ensures.steps in
-    omega (arith, c.loop-row.invariant, first, c.sign_count-count.ensures.count)
+    omega (
+      arith,
+      c.loop-row.invariant,
+      first,
+      c.count-count.ensures.count,
+      ap length c.slacks_of.ensures,
+    )

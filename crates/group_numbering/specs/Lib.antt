@@ -1,0 +1,4 @@
+pub mod NewGroups
+pub mod NumberLaws
+pub mod PlaceLaws
+pub mod HoldLaws

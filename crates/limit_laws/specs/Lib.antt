@@ -1,0 +1,4 @@
+pub mod Limits
+pub mod Leads
+pub mod LeadsLaws
+pub mod NewNames
