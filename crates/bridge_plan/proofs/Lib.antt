@@ -9,3 +9,5 @@ mod Nodes
 mod Outer
 mod NodeSteps
 mod Places
+mod AsNamed
+mod FewLaws

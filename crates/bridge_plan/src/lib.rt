@@ -3,6 +3,7 @@
 #![tactic(auto)]
 
 mod entry;
+mod expressions;
 mod functions;
 mod plan;
 mod planning;

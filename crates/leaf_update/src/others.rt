@@ -118,6 +118,39 @@ pub(crate) fn puts_objective(at: &Address, leaves: &[Item]) -> bool
     false
 }
 
+// Whether a leaf is a row at the address.
+pub(crate) fn puts_row(at: &Address, leaves: &[Item]) -> bool
+    ensures { result ≡ among (keys_of (flat_map leaf_rows leaves.now)) at.now }
+{
+    for leaf in leaves {
+        if !is_other(leaf) && *at == leaf.at {
+            return true;
+        }
+    }
+    false
+}
+
+// Whether a leaf has the variable at the address.
+pub(crate) fn puts_variable(at: &Address, leaves: &[Item]) -> bool
+    ensures { result ≡ among (keys_of (flat_map leaf_variables leaves.now)) at.now }
+{
+    for leaf in leaves {
+        if has_variable(at, leaf) {
+            return true;
+        }
+    }
+    false
+}
+
+fn has_variable(at: &Address, leaf: &Item) -> bool
+    ensures { result ≡ among (keys_of (leaf_variables leaf.now)) at.now }
+{
+    match &leaf.body {
+        Body::Group { vars, .. } | Body::Free { vars } => vars.as_slice().contains(at),
+        _ => false,
+    }
+}
+
 // Pushes an address at which nothing is put.
 pub(crate) fn push_other(
     gone: &mut Vec<Address>,

@@ -1,3 +1,4 @@
 mod Sames
 mod Loops
 mod Separated
+mod Only

@@ -1,7 +1,6 @@
-use Rattle.std.proofs.Common.{arith, refl}
+use Rattle.std.proofs.Common.{arith}
 use Rattle.std.specs.Prelude.{flat_map}
 use Rattle.fresh_bridging.specs.Leaves.{leaf_objectives}
-use Rattle.leaf_update.specs.Others.{among}
 use Rattle.leaf_update.specs.Splice.{keys_of}
 use Rattle.map_laws.specs.LoopLaws.{next_item}
 use Rattle.leaf_update.proofs.OtherSteps.{none_past, other_next}
@@ -13,9 +12,9 @@ loop-at-preserved c =
     let all = c.args.all.now in
     let at = c.at-item.result in
     let keys = keys_of (flat_map leaf_objectives c.args.leaves.now) in
-    other_next keys all l.at-index at (among keys at) l.gone.items c.push_unput.new.gone.items
-    (next_item all all l.at-index at (λ j. all) c.at-item.is c.loop-at-test.true) refl
-    c.in_ok-push_unput.ensures.there c.in_ok-push_unput.ensures.absent l.invariant
+    other_next keys all l.at-index at c.puts_objective.result l.gone.items c.push_unless.new.gone.items
+    (next_item all all l.at-index at (λ j. all) c.at-item.is c.loop-at-test.true)
+    c.puts_objective.ensures c.in_ok-push_unless.ensures.there c.in_ok-push_unless.ensures.absent l.invariant
 
 pub returns : goal.returns
 returns c =

@@ -1,0 +1,11 @@
+use Rattle.std.proofs.Common.{◌≡◌, drop}
+use Rattle.std.specs.Prelude.{flat_map}
+use Rattle.fresh_bridging.specs.Leaves.{leaf_variables}
+use Rattle.leaf_update.specs.Others.{among}
+use Rattle.leaf_update.specs.Splice.{keys_of}
+use Rattle.leaf_update.proofs.others.puts_variable.Given as goal
+
+abbrev pub invariant-loop-leaf : goal.invariant-loop-leaf
+invariant-loop-leaf l =
+    among (keys_of (flat_map leaf_variables (drop l.leaf-index l.leaves))) l.at
+    ≡ among (keys_of (flat_map leaf_variables l.leaves)) l.at
