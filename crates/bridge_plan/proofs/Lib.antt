@@ -1,4 +1,4 @@
-mod Found
+mod Made
 pub mod Left
 mod Covers
 mod KeptLists
@@ -9,5 +9,5 @@ mod Nodes
 mod Outer
 mod NodeSteps
 mod Places
-mod AsNamed
-mod FewLaws
+mod NamedLaws
+mod SortedEntries

@@ -7,6 +7,7 @@ mod expressions;
 mod functions;
 mod plan;
 mod planning;
+mod renaming;
 mod rewriter;
 mod standing;
 

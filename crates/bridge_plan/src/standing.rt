@@ -1,6 +1,5 @@
 //! What stands for the variables of groups that were bridged.
-ghost use Rattle.std.specs.Prelude.{◌≡◌, IfOk, OnOk, IsTrue, true, false, map, MatchOption};
-ghost use Rattle.std.specs.FinMap as finite;
+ghost use Rattle.std.specs.Prelude.{◌≡◌, IfOk, IsTrue, true, false, map, MatchOption};
 ghost use Rattle.std.specs.List.{list_all};
 ghost use Rattle.ratio_core.specs.Answers.{ExactWhere};
 ghost use Rattle.aff_core.specs.Arithmetic.{composed};
@@ -15,7 +14,8 @@ ghost use Rattle.fresh_bridging.specs.FitTests.{substitution_fits};
 
 use crate::Entry;
 use crate::expressions::Expressions;
-use crate::functions::{each_stays, function_for, make_functions, renamed, stays};
+use crate::functions::{function_for, make_functions};
+use crate::renaming::{renamed, stays};
 use aff_core::{Address, Addresses, Aff, Exprs, Sense, VecAff};
 use item_core::{Body, Expression, Item};
 use lists::{Duplicate, Memory};
@@ -58,7 +58,7 @@ impl Standing {
     pub fn of(alloc: Global, entries: Vec<Entry>) -> Result<Standing, Memory>
         ensures { IfOk result (λ s. expression_in s ≡ expression_in entries.items) }
     {
-        let expressions = Expressions::of(alloc, entries)?;
+        let expressions = Expressions::of(entries)?;
         let functions = Exprs::new(alloc);
         Ok(Standing {
             alloc,
@@ -126,18 +126,18 @@ impl Standing {
             Body::Free { vars } => Ok(Body::Free { vars }),
             Body::Plain { var, set } => Ok(self.plain(&var, set)?),
             Body::Affine { func, set } => Ok(Body::Affine {
-                func: self.composed_of(func)?,
+                func: self.composed_owned(func)?,
                 set,
             }),
             Body::PlainVec { vars, set } => Ok(self.plain_vector(vars.as_slice(), set)?),
             Body::AffineVec { func, set } => Ok(Body::AffineVec {
-                func: self.each_of(func)?,
+                func: self.each_composed(func.as_slice())?,
                 set,
             }),
             Body::PlainObj { sense, var } => Ok(self.plain_objective(sense, &var)?),
             Body::AffineObj { sense, func } => Ok(Body::AffineObj {
                 sense,
-                func: self.composed_of(func)?,
+                func: self.composed_owned(func)?,
             }),
         }
     }
@@ -247,8 +247,9 @@ impl Standing {
         Ok(VecAff::from_vec(funcs))
     }
 
-    // The same of a function that isn't kept.
-    fn composed_of(&mut self, func: Aff) -> Result<Aff, NumberFault>
+    // The function with what stands for its variables put in, which is itself where each of them
+    // stands for itself.
+    fn composed_owned(&mut self, func: Aff) -> Result<Aff, NumberFault>
         ensures answer { ExactWhere result
             (IsTrue (substitution_fits (function_in self.old) func))
             (λ f. f ≡ composed (function_in self.old) func) }
@@ -257,25 +258,11 @@ impl Standing {
         if stays(&self.expressions, &func) {
             return Ok(func);
         }
-        self.substituted(&func)
+        self.composed(&func)
     }
 
     // The function with what stands for its variables put in.
     fn composed(&mut self, func: &Aff) -> Result<Aff, NumberFault>
-        ensures answer { ExactWhere result
-            (IsTrue (substitution_fits (function_in self.old) func.now))
-            (λ f. f ≡ composed (function_in self.old) func.now) }
-        ensures same { self.new ≡ self.old }
-    {
-        if stays(&self.expressions, func) {
-            return Ok(func.copy()?);
-        }
-        self.substituted(func)
-    }
-
-    // The same where not each variable stands for itself. Where variables are kept for all of them,
-    // none of the functions that stand for them is made.
-    fn substituted(&mut self, func: &Aff) -> Result<Aff, NumberFault>
         ensures answer { ExactWhere result
             (IsTrue (substitution_fits (function_in self.old) func.now))
             (λ f. f ≡ composed (function_in self.old) func.now) }
@@ -286,19 +273,6 @@ impl Standing {
         }
         make_functions(self.alloc, &self.expressions, &mut self.functions, func)?;
         func.substitute(&self.functions)
-    }
-
-    // The same of functions that aren't kept.
-    fn each_of(&mut self, funcs: VecAff) -> Result<VecAff, NumberFault>
-        ensures answer { ExactWhere result
-            (IsTrue (list_all (substitution_fits (function_in self.old)) funcs))
-            (λ fs. fs ≡ map (composed (function_in self.old)) funcs) }
-        ensures same { self.new ≡ self.old }
-    {
-        if each_stays(&self.expressions, funcs.as_slice()) {
-            return Ok(funcs);
-        }
-        self.each_composed(funcs.as_slice())
     }
 
     fn each_composed(&mut self, funcs: &[Aff]) -> Result<VecAff, NumberFault>
@@ -314,4 +288,3 @@ impl Standing {
         Ok(VecAff::from_vec(made))
     }
 }
-

@@ -1,4 +1,3 @@
 mod Sames
 mod Loops
 mod Separated
-mod Only

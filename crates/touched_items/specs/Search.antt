@@ -2,7 +2,7 @@
 --     AreInOrder           the addresses of a list in their order, each once
 --     row_at               the row at an address
 --     objective_among      the objective, where its address is one of these
-use Rattle.std.specs.Prelude.{◌≡◌, ◌↔◌, All, Bool, cond, List, Contains, Option, Some, None}
+use Rattle.std.specs.Prelude.{◌↔◌, Bool, cond, List, Contains, Option, Some, None}
 use Rattle.std.specs.List.{list_any}
 use Rattle.std.specs.List.Sorted.{IsStrictlySortedBy}
 use Rattle.aff_core.specs.Address.{Address, address_cmp, address_eq, root_address}
@@ -16,11 +16,6 @@ use Rattle.user_model.specs.declared.row.Row.{Row}
 pub record AreInOrder (listed addresses : List Address) : Type 0 where
   pub rising : IsStrictlySortedBy address_cmp addresses
   pub same : (at : Address) → Contains addresses at ↔ Contains listed at
-
--- the address is each of these
-pub record IsAll (listed : List Address) (one : Address) : Type 0 where
-  pub there : Contains listed one
-  pub all : All (λ at. at ≡ one) listed
 
 abbrev pub is_row : Address → Bool
 is_row at = address_eq at (root_address root.Row at.number)

@@ -1,4 +1,4 @@
-use Rattle.bridge_plan.proofs.Found.{none_made}
+use Rattle.bridge_plan.proofs.Made.{none_made}
 use Rattle.bridge_plan.proofs.standing.Standing.of.Goals as goal
 
 pub invariant_of-result : goal.invariant_of-result

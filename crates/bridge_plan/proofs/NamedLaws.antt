@@ -1,6 +1,6 @@
 -- Functions of whose variables each has a variable in its place, where these rise as well: nothing is
 -- added up, and each number fits as it is.
-use Rattle.std.specs.Prelude.{◌≡◌, false, T, ◌&&◌, cond, IsTrue, List, [], ◌∷◌, ◌++◌, All, None, Some, refl}
+use Rattle.std.specs.Prelude.{◌≡◌, false, T, ◌&&◌, cond, IsTrue, List, [], ◌∷◌, ◌++◌, All, None, Some, refl, slice_get}
 use Rattle.std.specs.Ordering.{is_lt}
 use Rattle.std.specs.Cmp.{tied_itself}
 use Rattle.std.specs.declared.cmp.Ordering.TheVariants.{Equal}
@@ -8,8 +8,9 @@ use Rattle.std.specs.FinMap as finite
 use Rattle.std.specs.FinMap.{FinMap, get-empty, get-insert, is_sorted}
 use Rattle.std.specs.FinMap.Entries.{below_all}
 use Rattle.std.specs.List.{list_all}
+use Rattle.std.specs.Option.{option_map_or}
 use Rattle.std.proofs.Common.{ap, ap₂, subst, sym, ◌∙◌}
-use Rattle.std.proofs.lemmas.List.Elements.{All-cons, All-head, All-nil, All-tail}
+use Rattle.std.proofs.lemmas.List.Elements.{All-cons, All-head, All-nil, All-tail, All-weaker}
 use Rattle.map_laws.specs.TestLaws.{first, second}
 use Rattle.ratio_core.specs.Rational.{Fits, Rational, SumFits, one_ℚ, zero_ℚ, ◌*ℚ◌, ◌+ℚ◌}
 use Rattle.rational_laws.specs.Field.{*ℚ-one, *ℚ-zero, +ℚ-zero}
@@ -24,7 +25,7 @@ use Rattle.aff_core.specs.KeyOrder.{address_order, other_key}
 use Rattle.aff_core.specs.Points.{unit}
 use Rattle.aff_core.specs.Rising.{RiseStrictly}
 use Rattle.aff_core.specs.Terms.{TimesFit, ValueFits, is_nonzero, linear, times}
-use Rattle.bridge_plan.specs.Stands.{AreFit, AreNamed, IsItself, named}
+use Rattle.bridge_plan.specs.Stands.{AreNamed, IsNamed, name_by, named}
 use Rattle.linear_laws.specs.ListLaws.{coefficient_variable}
 use Rattle.linear_laws.specs.SlopeLaws.{coefficient_by_unit}
 use Rattle.fresh_bridging.specs.FitTests.{substitution_fits, substitution_fits_Decides}
@@ -65,56 +66,57 @@ rising_fit m (u ∷ us) s h = (
 )
 
 module _ (e : Address → Function) (k : Address → Address) where
-  head : (t : Address × Rational) (ts : Terms) → AreNamed e k (t ∷ ts) → e t.0 ≡ variable (k t.0)
-  head t ts h = All-head (λ s. e s.0 ≡ variable (k s.0)) t ts h
+  abbrev Named : Terms → Type 0
+  Named ts = All (IsNamed e k) ts
 
-  tail : (t : Address × Rational) (ts : Terms) → AreNamed e k (t ∷ ts) → AreNamed e k ts
-  tail t ts h = All-tail (λ s. e s.0 ≡ variable (k s.0)) t ts h
+  head : (t : Address × Rational) (ts : Terms) → Named (t ∷ ts) → IsNamed e k t
+  head t ts h = All-head (IsNamed e k) t ts h
+
+  tail : (t : Address × Rational) (ts : Terms) → Named (t ∷ ts) → Named ts
+  tail t ts h = All-tail (IsNamed e k) t ts h
 
   -- ---- what is put in
 
-  terms_named : (t : Address × Rational) → e t.0 ≡ variable (k t.0)
-      → terms_of (e t.0) ≡ (k t.0, one_ℚ) ∷ []
-  terms_named t is = ap terms_of is ∙ terms-variable address_cmp (k t.0)
+  terms_named : (t : Address × Rational) → IsNamed e k t → terms_of (e t.0) ≡ (k t.0, one_ℚ) ∷ []
+  terms_named t h = ap terms_of h.name ∙ terms-variable address_cmp (k t.0)
 
-  substituted_named : (ts : Terms) → AreNamed e k ts → substituted e ts ≡ named k ts
+  substituted_named : (ts : Terms) → Named ts → substituted e ts ≡ named k ts
   unfolding substituted
   substituted_named [] h = refl
   substituted_named (t ∷ ts) h =
       ap₂ ◌++◌ (ap (times t.1) (terms_named t (head t ts h)) ∙ ap (λ q. (k t.0, q) ∷ []) (*ℚ-one t.1))
       (substituted_named ts (tail t ts h))
 
-  nothing_added : (t : Address × Rational) → e t.0 ≡ variable (k t.0)
-      → t.1 *ℚ (e t.0).constant ≡ zero_ℚ
-  nothing_added t is =
-      ap (λ f. t.1 *ℚ f.constant) is
+  nothing_added : (t : Address × Rational) → IsNamed e k t → t.1 *ℚ (e t.0).constant ≡ zero_ℚ
+  nothing_added t h =
+      ap (λ f. t.1 *ℚ f.constant) h.name
       ∙ ap (λ q. t.1 *ℚ q) (constant-variable address_cmp (k t.0)) ∙ *ℚ-zero t.1
 
-  constants_named : (ts : Terms) → AreNamed e k ts → linear ts (λ u. (e u).constant) ≡ zero_ℚ
+  constants_named : (ts : Terms) → Named ts → linear ts (λ u. (e u).constant) ≡ zero_ℚ
   unfolding linear
   constants_named [] h = refl
   constants_named (t ∷ ts) h =
       ap₂ ◌+ℚ◌ (nothing_added t (head t ts h)) (constants_named ts (tail t ts h)) ∙ +ℚ-zero zero_ℚ
 
-  value_named : (f : Function) → AreNamed e k (terms_of f) → value_of f (λ u. (e u).constant) ≡ f.constant
+  value_named : (f : Function) → AreNamed e k f → value_of f (λ u. (e u).constant) ≡ f.constant
   unfolding value_of
   value_named f h =
-      ap (λ q. f.constant +ℚ q) (constants_named (terms_of f) h) ∙ +ℚ-zero f.constant
+      ap (λ q. f.constant +ℚ q) (constants_named (terms_of f) h.terms) ∙ +ℚ-zero f.constant
 
-  linear_named : (ts : Terms) → AreNamed e k ts → (v : Address)
+  linear_named : (ts : Terms) → Named ts → (v : Address)
       → linear ts (λ u. coefficient (e u) v) ≡ linear (named k ts) (unit v)
   unfolding linear
   linear_named [] h v = refl
   linear_named (t ∷ ts) h v =
       ap₂ (λ q rest. (t.1 *ℚ q) +ℚ rest)
-      (ap (λ f. coefficient f v) (head t ts h) ∙ coefficient_variable (k t.0) v)
+      (ap (λ f. coefficient f v) (head t ts h).name ∙ coefficient_variable (k t.0) v)
       (linear_named ts (tail t ts h) v)
 
   nonzero_named : (ts : Terms) → list_all is_nonzero (named k ts) ≡ list_all is_nonzero ts
   nonzero_named [] = refl
   nonzero_named (t ∷ ts) = ap (λ b. is_nonzero t && b) (nonzero_named ts)
 
-  pub composed_named : (f : Function) → AreNamed e k (terms_of f) → RiseStrictly (named k (terms_of f))
+  pub composed_named : (f : Function) → AreNamed e k f → RiseStrictly (named k (terms_of f))
       → function_of (named k (terms_of f)) f.constant ≡ composed e f
   composed_named f h rise =
       same_coefficients address_order (function_of us f.constant) (composed e f) at
@@ -129,53 +131,53 @@ module _ (e : Address → Function) (k : Address → Address) where
           sym (coefficient_by_unit (function_of us f.constant) v)
           ∙ ap (λ ts. linear ts (unit v))
           (terms_kept us f.constant rise (nonzero_named (terms_of f) ∙ f.nonzero))
-          ∙ sym (linear_named (terms_of f) h v)
+          ∙ sym (linear_named (terms_of f) h.terms v)
           ∙ sym (coefficient-composed address_order e f v)
 
   -- ---- and that it fits
 
-  value_fits_named : (sum : Rational) (ts : Terms) → AreNamed e k ts → Fits sum
+  value_fits_named : (sum : Rational) (ts : Terms) → Named ts → Fits sum
       → ValueFits sum ts (λ u. (e u).constant)
   unfolding ValueFits
   value_fits_named sum [] h fit = tt
   value_fits_named sum (t ∷ ts) h fit =
-      let none = nothing_added t (head t ts h) in
-      (record {
-        product = subst Fits (sym none) Fits_zero;
-        total = subst (SumFits sum) (sym none) (SumFits-zero_right sum fit);
-      },
-      subst (λ q. ValueFits q ts (λ u. (e u).constant))
-      (sym (ap (λ q. sum +ℚ q) none ∙ +ℚ-zero sum)) (value_fits_named sum ts (tail t ts h) fit))
+      let none = nothing_added t (head t ts h) in (
+        record {
+          product = subst Fits (sym none) Fits_zero;
+          total = subst (SumFits sum) (sym none) (SumFits-zero_right sum fit);
+        },
+        subst (λ q. ValueFits q ts (λ u. (e u).constant))
+            (sym (ap (λ q. sum +ℚ q) none ∙ +ℚ-zero sum))
+            (value_fits_named sum ts (tail t ts h) fit),
+      )
 
-  products_fit : (ts : Terms) → AreNamed e k ts → AreFit ts
-      → All (λ t. TimesFit t.1 (terms_of (e t.0))) ts
-  products_fit [] h fit = All-nil (λ t. TimesFit t.1 (terms_of (e t.0)))
-  products_fit (t ∷ ts) h fit =
-      All-cons (λ s. TimesFit s.1 (terms_of (e s.0))) t ts
-      (subst (TimesFit t.1) (sym (terms_named t (head t ts h)))
+  product_fits : (t : Address × Rational) → IsNamed e k t → TimesFit t.1 (terms_of (e t.0))
+  product_fits t h =
+      subst (TimesFit t.1) (sym (terms_named t h))
       (All-cons (λ s. Fits (t.1 *ℚ s.1)) (k t.0, one_ℚ) []
-      (subst Fits (sym (*ℚ-one t.1)) (All-head (λ s. Fits s.1) t ts fit))
-      (All-nil (λ s. Fits (t.1 *ℚ s.1)))))
-      (products_fit ts (tail t ts h) (All-tail (λ s. Fits s.1) t ts fit))
+      (subst Fits (sym (*ℚ-one t.1)) h.fits) (All-nil (λ s. Fits (t.1 *ℚ s.1))))
 
   all_absent : (us : Terms) → All (IsAbsent finite.empty) us
   all_absent us i d lt = get-empty address_cmp _
 
-  pub fits_named : (f : Function) → AreNamed e k (terms_of f) → RiseStrictly (named k (terms_of f))
-      → Fits f.constant → AreFit (terms_of f) → IsTrue (substitution_fits e f)
-  fits_named f h rise constant terms =
+  pub fits_named : (f : Function) → AreNamed e k f → RiseStrictly (named k (terms_of f))
+      → IsTrue (substitution_fits e f)
+  fits_named f h rise =
       (substitution_fits_Decides e f).1 (record {
-        constant = value_fits_named f.constant (terms_of f) h constant;
-        products = products_fit (terms_of f) h terms;
+        constant = value_fits_named f.constant (terms_of f) h.terms h.constant;
+        products =
+            All-weaker (IsNamed e k) (λ t. TimesFit t.1 (terms_of (e t.0))) product_fits
+            (terms_of f) h.terms;
         sums =
-            subst (TermsFit (finite.empty {R = address_cmp})) (sym (substituted_named (terms_of f) h))
+            subst (TermsFit (finite.empty {R = address_cmp}))
+            (sym (substituted_named (terms_of f) h.terms))
             (rising_fit finite.empty (named k (terms_of f)) (rises (named k (terms_of f)) rise)
             (all_absent (named k (terms_of f))));
       })
 
 -- ---- where each variable stands for itself
 
-module _ (e : Address → Function) (f : Function) (h : IsItself e f) where
+module _ (e : Address → Function) (f : Function) (h : AreNamed e (λ v. v) f) where
   same_terms : (ts : Terms) → named (λ v. v) ts ≡ ts
   same_terms [] = refl
   same_terms (t ∷ ts) = ap (λ l. t ∷ l) (same_terms ts)
@@ -187,7 +189,23 @@ module _ (e : Address → Function) (f : Function) (h : IsItself e f) where
   composed_itself =
       sym (function_of-terms f)
       ∙ ap (λ ts. function_of ts f.constant) (sym (same_terms (terms_of f)))
-      ∙ composed_named e (λ v. v) f h.own rise_alike
+      ∙ composed_named e (λ v. v) f h rise_alike
 
   pub fits_itself : IsTrue (substitution_fits e f)
-  fits_itself = fits_named e (λ v. v) f h.own rise_alike h.constant h.terms
+  fits_itself = fits_named e (λ v. v) f h rise_alike
+
+-- ---- a function that is a variable
+
+pub sole : (f : Function) (t : Address × Rational) → terms_of f ≡ t ∷ [] → t.1 ≡ one_ℚ
+    → f.constant ≡ zero_ℚ → f ≡ variable t.0
+unfolding variable
+sole f t only one none =
+    sym (function_of-terms f)
+    ∙ ap₂ function_of (only ∙ ap (λ q. (t.0, q) ∷ []) one) none
+
+-- its name is that of what stands for a variable
+pub name_is : (e : Address → Function) (v name : Address) → e v ≡ variable name
+    → name ≡ name_by e v
+name_is e v name is =
+    sym (ap (λ ts. option_map_or (λ t. t.0) (slice_get ts 0) v)
+    (ap terms_of is ∙ terms-variable address_cmp name))
