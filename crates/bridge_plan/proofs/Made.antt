@@ -1,5 +1,5 @@
 -- Functions that were made for variables.
-use Rattle.std.specs.Prelude.{◌≡◌, Bool, true, false, cond, List, IsTrue, is_some, Option, Some, None, unwrap_or}
+use Rattle.std.specs.Prelude.{◌≡◌, Bool, true, false, cond, List, IsTrue, is_some, Option, Some, None, unwrap_or, refl}
 use Rattle.std.proofs.Common.{ap, sym, ◌∙◌}
 use Rattle.std.specs.FinMap as finite
 use Rattle.std.specs.FinMap.{FinMap, get-empty, get-insert}

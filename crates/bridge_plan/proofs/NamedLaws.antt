@@ -1,6 +1,6 @@
 -- Functions of whose variables each has a variable in its place, where these rise as well: nothing is
 -- added up, and each number fits as it is.
-use Rattle.std.specs.Prelude.{◌≡◌, false, T, ◌&&◌, cond, IsTrue, List, [], ◌∷◌, ◌++◌, All, None, Some, refl, slice_get}
+use Rattle.std.specs.Prelude.{◌≡◌, ◌≤◌, ◌<◌, ◌+◌, ℕ, false, T, ◌&&◌, cond, IsTrue, List, [], ◌∷◌, ◌++◌, All, None, Some, drop, get_or, length, refl, slice_get, take}
 use Rattle.std.specs.Ordering.{is_lt}
 use Rattle.std.specs.Cmp.{tied_itself}
 use Rattle.std.specs.declared.cmp.Ordering.TheVariants.{Equal}
@@ -9,8 +9,10 @@ use Rattle.std.specs.FinMap.{FinMap, get-empty, get-insert, is_sorted}
 use Rattle.std.specs.FinMap.Entries.{below_all}
 use Rattle.std.specs.List.{list_all}
 use Rattle.std.specs.Option.{option_map_or}
-use Rattle.std.proofs.Common.{ap, ap₂, subst, sym, ◌∙◌}
-use Rattle.std.proofs.lemmas.List.Elements.{All-cons, All-head, All-nil, All-tail, All-weaker}
+use Rattle.std.proofs.Common.{ap, ap₂, arith, subst, sym, ◌∙◌}
+use Rattle.std.proofs.lemmas.List.{drop_all, take_all}
+use Rattle.std.proofs.lemmas.List.Elements.{All-cons, All-head, All-nil, All-push, All-tail, All-weaker}
+use Rattle.map_laws.specs.LoopLaws.{next_item}
 use Rattle.map_laws.specs.TestLaws.{first, second}
 use Rattle.ratio_core.specs.Rational.{Fits, Rational, SumFits, one_ℚ, zero_ℚ, ◌*ℚ◌, ◌+ℚ◌}
 use Rattle.rational_laws.specs.Field.{*ℚ-one, *ℚ-zero, +ℚ-zero}
@@ -26,6 +28,7 @@ use Rattle.aff_core.specs.Points.{unit}
 use Rattle.aff_core.specs.Rising.{RiseStrictly}
 use Rattle.aff_core.specs.Terms.{TimesFit, ValueFits, is_nonzero, linear, times}
 use Rattle.bridge_plan.specs.Stands.{AreNamed, IsNamed, name_by, named}
+use Rattle.bridge_plan.proofs.Left.{pushed_all, pushed_next, taken_item}
 use Rattle.linear_laws.specs.ListLaws.{coefficient_variable}
 use Rattle.linear_laws.specs.SlopeLaws.{coefficient_by_unit}
 use Rattle.fresh_bridging.specs.FitTests.{substitution_fits, substitution_fits_Decides}
@@ -119,16 +122,19 @@ module _ (e : Address → Function) (k : Address → Address) where
   pub composed_named : (f : Function) → AreNamed e k f → RiseStrictly (named k (terms_of f))
       → function_of (named k (terms_of f)) f.constant ≡ composed e f
   composed_named f h rise =
-      same_coefficients address_order (function_of us f.constant) (composed e f) at
+      same_coefficients address_order made (composed e f) at
       (constant-function_of address_cmp us f.constant ∙ sym (value_named f h)
       ∙ sym (constant-composed address_order e f))
     where
       us : Terms
       us = named k (terms_of f)
 
-      at : (v : Address) → coefficient (function_of us f.constant) v ≡ coefficient (composed e f) v
+      made : Function
+      made = function_of us f.constant
+
+      at : (v : Address) → coefficient made v ≡ coefficient (composed e f) v
       at v =
-          sym (coefficient_by_unit (function_of us f.constant) v)
+          sym (coefficient_by_unit made v)
           ∙ ap (λ ts. linear ts (unit v))
           (terms_kept us f.constant rise (nonzero_named (terms_of f) ∙ f.nonzero))
           ∙ sym (linear_named (terms_of f) h.terms v)
@@ -175,6 +181,14 @@ module _ (e : Address → Function) (k : Address → Address) where
             (all_absent (named k (terms_of f))));
       })
 
+  -- so what is made of the terms is the composition
+  pub made_named : (f made : Function) (us : Terms) → AreNamed e k f → us ≡ named k (terms_of f)
+      → RiseStrictly us → made ≡ function_of us f.constant
+      → (made ≡ composed e f) × IsTrue (substitution_fits e f)
+  made_named f made us h same rise is =
+      let up = subst RiseStrictly same rise in
+      (is ∙ ap (λ ts. function_of ts f.constant) same ∙ composed_named f h up, fits_named f h up)
+
 -- ---- where each variable stands for itself
 
 module _ (e : Address → Function) (f : Function) (h : AreNamed e (λ v. v) f) where
@@ -196,16 +210,53 @@ module _ (e : Address → Function) (f : Function) (h : AreNamed e (λ v. v) f) 
 
 -- ---- a function that is a variable
 
-pub sole : (f : Function) (t : Address × Rational) → terms_of f ≡ t ∷ [] → t.1 ≡ one_ℚ
-    → f.constant ≡ zero_ℚ → f ≡ variable t.0
+pub sole : (f : Function) (ts : Terms) (s t : Address × Rational) → ts ≡ terms_of f
+    → 1 ≤ length ts → length ts < 2 → (get_or ts 0 t).1 ≡ one_ℚ → f.constant ≡ zero_ℚ
+    → f ≡ variable (get_or ts 0 s).0
 unfolding variable
-sole f t only one none =
+sole f [] s t all low high one none = absurd (omega (arith, low))
+sole f (u ∷ []) s t all low high one none =
     sym (function_of-terms f)
-    ∙ ap₂ function_of (only ∙ ap (λ q. (t.0, q) ∷ []) one) none
+    ∙ ap₂ function_of (sym all ∙ ap (λ q. (u.0, q) ∷ []) one) none
+sole f (u ∷ w ∷ ts) s t all low high one none = absurd (omega (arith, high))
 
 -- its name is that of what stands for a variable
-pub name_is : (e : Address → Function) (v name : Address) → e v ≡ variable name
+name_is : (e : Address → Function) (v name : Address) → e v ≡ variable name
     → name ≡ name_by e v
 name_is e v name is =
     sym (ap (λ ts. option_map_or (λ t. t.0) (slice_get ts 0) v)
     (ap terms_of is ∙ terms-variable address_cmp name))
+
+-- ---- terms named from the first to the last
+
+module _ (e : Address → Function) (ts : Terms) where
+  abbrev pub AreSoFar : ℕ → Terms → Type 0
+  AreSoFar i made =
+      (made ++ named (name_by e) (drop i ts) ≡ named (name_by e) ts)
+      × All (IsNamed e (name_by e)) (take i ts)
+
+  pub named_more : (i : ℕ) (t : Address × Rational) (name : Address) (old new : Terms)
+      → t ≡ get_or ts i t → i < length ts → e t.0 ≡ variable name → Fits t.1
+      → new ≡ old ++ (name, t.1) ∷ [] → AreSoFar i old → AreSoFar (i + 1) new
+  named_more i t name old new is lt stands fit pushed so_far =
+      let own : name ≡ name_by e t.0 = name_is e t.0 name stands in (
+        pushed_next (λ t. (name_by e t.0, t.1)) old new (named (name_by e) ts) (drop i ts)
+            (drop (i + 1) ts) t so_far.0 (next_item ts ts i t (λ j. ts) is lt)
+            (pushed ∙ ap (λ n. old ++ (n, t.1) ∷ []) own),
+        subst (All (IsNamed e (name_by e))) (sym (taken_item ts i t is lt))
+            (All-push (IsNamed e (name_by e)) (take i ts) t so_far.1
+            (record { name = stands ∙ ap (λ n. variable n) own; fits = fit })),
+      )
+
+  pub named_all : (i : ℕ) (f : Function) (made : Terms) → length ts ≤ i → ts ≡ terms_of f
+      → Fits f.constant → AreSoFar i made
+      → (made ≡ named (name_by e) (terms_of f)) × AreNamed e (name_by e) f
+  named_all i f made end all fit so_far = (
+    pushed_all (λ t. (name_by e t.0, t.1)) made (named (name_by e) ts) (drop i ts) so_far.0
+        (drop_all i ts end)
+        ∙ ap (named (name_by e)) all,
+    record {
+      constant = fit;
+      terms = subst (All (IsNamed e (name_by e))) (take_all i ts end ∙ all) so_far.1;
+    },
+  )

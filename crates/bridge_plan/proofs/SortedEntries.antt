@@ -1,14 +1,14 @@
 -- Entries in the order of their components: the first of each stays the first, and is found by halving.
-use Rattle.std.specs.Prelude.{◌≡◌, ◌==◌, ◌≤◌, ◌<◌, ◌+◌, ◌&&◌, ℕ, zero, suc, Bool, true, false, not, cond, List, [], ◌∷◌, filter, find, length, slice_get, Option, Some, None, refl}
-use Rattle.std.specs.Cmp.{IsTotalOrder}
+use Rattle.std.specs.Prelude.{◌≡◌, ◌==◌, ◌≤◌, ◌<◌, ◌&&◌, ℕ, zero, suc, Bool, true, false, not, cond, List, [], ◌∷◌, filter, find, length, slice_get, Option, Some, None, refl}
 use Rattle.std.specs.List.Sorted.{IsNonDecreasingBy, IsPartitionPoint, IsPartitionedBy, IsStableByKey, ties}
 use Rattle.std.specs.Option.{option_map_or}
 use Rattle.std.specs.Ordering.{is_eq, is_lt, ordering_index, ordering_reverse}
 use Rattle.std.specs.declared.cmp.Ordering.{Ordering}
 use Rattle.std.specs.declared.cmp.Ordering.TheVariants.{Less, Equal, Greater}
-use Rattle.std.proofs.Common.{ap, arith, get_or, sym, ◌∙◌}
+use Rattle.std.proofs.Common.{ap, arith, get_or, sym, ◌∙◌, true≢false}
 use Rattle.std.proofs.lemmas.Bool.Decides.{nat_tests}
 use Rattle.std.proofs.lemmas.List.Sorted.{searchable_from_sorted}
+use Rattle.std.proofs.lemmas.Option.{slice_get_past, slice_get_read}
 use Rattle.aff_core.specs.Address.{Address, address_cmp, address_eq, address_total}
 use Rattle.item_core.specs.declared.image.Expression.TheVariants.{Kept}
 use Rattle.fresh_bridging.specs.Entries.{Entry, expression_in}
@@ -156,19 +156,30 @@ module _ (es : List Entry) (v : Address) (sorted : AreByComponent es) where
     by_found o is =
         ap (λ f. option_map_or (λ e. e.expression) f (Kept v)) (found ∙ ap (one_of (place v)) is)
 
-    pub past_all : slice_get es i ≡ None → expression_in es v ≡ Kept v
-    past_all is = by_found None is
+    pub past_all : length es ≤ i → expression_in es v ≡ Kept v
+    past_all end = by_found None (slice_get_past es i end)
 
-    pub found_here : (e : Entry) → slice_get es i ≡ Some e → is_at v e ≡ true
-        → expression_in es v ≡ e.expression
-    found_here e is t =
-        by_found (Some e) is
-        ∙ ap (λ b. option_map_or (λ x. x.expression) (cond b (Some e) None) (Kept v))
-        (sym (at_one (address_cmp e.component v)) ∙ t)
+    -- by a test whether the next entry's component is another
+    module _ (e : Entry) (lt : i < length es) (is : e ≡ get_or es i e) (other : Bool)
+        (test : other ≡ not (is_at v e)) where
+      by_next : (b : Bool) → is_at v e ≡ b
+          → expression_in es v
+          ≡ option_map_or (λ x. x.expression) (cond b (Some e) None) (Kept v)
+      by_next b t =
+          by_found (Some e) (slice_get_read es (length es) i e refl lt is)
+          ∙ ap (λ b. option_map_or (λ x. x.expression) (cond b (Some e) None) (Kept v))
+          (sym (at_one (address_cmp e.component v)) ∙ t)
 
-    pub found_other : (e : Entry) → slice_get es i ≡ Some e → is_at v e ≡ false
-        → expression_in es v ≡ Kept v
-    found_other e is t =
-        by_found (Some e) is
-        ∙ ap (λ b. option_map_or (λ x. x.expression) (cond b (Some e) None) (Kept v))
-        (sym (at_one (address_cmp e.component v)) ∙ t)
+      pub found_next : other ≡ false → expression_in es v ≡ e.expression
+      found_next t = by_next true (turned (is_at v e) (sym test ∙ t))
+        where
+          turned : (b : Bool) → not b ≡ false → b ≡ true
+          turned true h = refl
+          turned false h = absurd (true≢false h)
+
+      pub found_none : other ≡ true → expression_in es v ≡ Kept v
+      found_none t = by_next false (turned (is_at v e) (sym test ∙ t))
+        where
+          turned : (b : Bool) → not b ≡ true → b ≡ false
+          turned true h = absurd (true≢false (sym h))
+          turned false h = refl

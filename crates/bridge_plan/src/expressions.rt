@@ -46,7 +46,9 @@ impl Expressions {
         ensures { expression_in self.now var.now ≡ unwrap_or (option_copied result) (Kept var.now) }
     {
         let first = self.entries.partition_point(|entry| entry.component < *var);
-        let entry = self.entries.get(first)?;
+        let Some(entry) = self.entries.get(first) else {
+            return None;
+        };
         if entry.component != *var {
             return None;
         }

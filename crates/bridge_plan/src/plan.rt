@@ -1,5 +1,5 @@
 //! The plan of a bridging: its leaves and its nodes.
-ghost use Rattle.std.specs.Prelude.{◌≡◌, []};
+ghost use Rattle.std.specs.Prelude.{◌≡◌, [], IfOk};
 
 use bridge_face::KeptItem;
 use item_core::Item;
@@ -14,17 +14,15 @@ pub struct Plan {
     pub nodes: Vec<KeptItem>,
 }
 
-// How many leaves, and how many nodes, most items have at most.
-const MOST: usize = 3;
-
 impl Plan {
-    /// A plan of nothing, with room for the leaves and the nodes that most items have.
-    pub fn roomy(alloc: Global) -> Result<Plan, Memory>
-        ensures { IfOk result (λ plan. (plan.leaves.items ≡ []) × (plan.nodes.items ≡ [])) }
+    /// A plan of nothing, with room for this number of leaves and of nodes.
+    pub fn with_capacity(alloc: Global, count: usize) -> Result<Plan, Memory>
+        ensures leaves { IfOk result (λ plan. plan.leaves.items ≡ []) }
+        ensures nodes { IfOk result (λ plan. plan.nodes.items ≡ []) }
     {
         Ok(Plan {
-            leaves: Vec::with_capacity(alloc, MOST)?,
-            nodes: Vec::with_capacity(alloc, MOST)?,
+            leaves: Vec::with_capacity(alloc, count)?,
+            nodes: Vec::with_capacity(alloc, count)?,
         })
     }
 
