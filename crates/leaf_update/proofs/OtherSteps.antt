@@ -53,8 +53,7 @@ same_among keys sorted moved = λ i at. alike at i
     alike : (at : Address) → among sorted at ≡ among keys at
     alike at =
         same_from_decides (among sorted at) (among keys at)
-        ((λ t. contains_among at sorted t), (λ h. among_contained at sorted h))
-        (
+        ((λ t. contains_among at sorted t), (λ h. among_contained at sorted h)) (
           (λ t. Contains-permutation keys sorted at moved (contains_among at keys t)),
           (λ h. among_contained at keys
               (Contains-permutation sorted keys at (IsPermutation-sym keys sorted moved) h)),

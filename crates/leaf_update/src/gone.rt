@@ -46,16 +46,11 @@ fn rows_among(alloc: Global, all: &[Address], leaves: &[Item]) -> Result<Vec<Add
 }
 
 // Those of the addresses at which nothing is put.
-fn not_put(
-    alloc: Global,
-    put: &SortedAddresses,
-    all: &[Address],
-) -> Result<Vec<Address>, Memory>
+fn not_put(alloc: Global, put: &SortedAddresses, all: &[Address]) -> Result<Vec<Address>, Memory>
     ensures { IfOk result (λ gone. gone.items ≡ others put.now all.now) }
 {
     Ok(
-        all
-            .iter()
+        all.iter()
             .copied()
             .filter(|at| !put.contains(at))
             .collect(alloc)?,
@@ -67,8 +62,7 @@ fn objectives_among(alloc: Global, all: &[Address], leaves: &[Item]) -> Result<V
         ≡ others (keys_of (flat_map leaf_objectives leaves.now)) all.now) }
 {
     Ok(
-        all
-            .iter()
+        all.iter()
             .copied()
             .filter(|at| !puts_objective(at, leaves))
             .collect(alloc)?,

@@ -7,7 +7,7 @@ use Rattle.leaf_update.proofs.sorted.SortedAddresses.contains.Goals as goal
 
 pub returns : goal.returns
 returns c =
-    c.is_ok.ensures
+    c.is_ok.ensures.value
     ∙ searched c.deref.result.now c.args.at.now c.binary_search.result
     (subst (IsSorted address_cmp) (sym c.deref.ensures.value) c.self.invariant)
     c.binary_search.ensures.bound c.binary_search.ensures.position
