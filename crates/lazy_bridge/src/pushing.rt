@@ -118,7 +118,7 @@ pub(crate) fn plan_touched<'a, B: Bridge>(
         ≤ reading.old.reads + length planned.found.items) }
 {
     check_found_groups(bridges, &differing.after.groups)?;
-    let mut plan = Plan::new(alloc);
+    let mut plan = Plan::roomy(alloc)?;
     let entries = match plan_found_groups(alloc, bridges, &mut plan, &differing.after.groups) {
         Ok(entries) => entries,
         Err(fault) => {
