@@ -1,0 +1,6 @@
+mod AroundLaws
+mod GapLaws
+mod ItemLaws
+mod RiseLaws
+mod OwnLaws
+mod ChangeLaws
