@@ -18,11 +18,11 @@ use Rattle.numbered_list.specs.Numbered.{IsAt, Rise, set_at}
 use Rattle.numbered_list.specs.Laws.{Rise-nil}
 use Rattle.numbered_list.specs.SetLaws.{Rise-set_at, find-set_at_other, find-set_at_same, length-set_at}
 use Rattle.item_map.specs.ItemAddresses.{is_of, item_of}
-use Rattle.item_map.specs.ItemLists.{AreInOrder, AreOf, AreOfItem, HasNone, HasRoom, IsChangedAt, IsRoomier, IsSetAt, all_items, entries_in, item_number, items_of, list_of, map_in, of_items, own, own_entries}
+use Rattle.item_map.specs.ItemLists.{AreInOrder, AreOf, AreOfItem, HasNone, HasRoom, IsChangedAt, IsItemWith, IsRoomier, IsSetAt, all_items, entries_in, item_number, items_of, list_of, map_in, of_items, own, own_entries}
 use Rattle.item_map.specs.declared.item_entries.ItemEntries.{ItemEntries}
 use Rattle.item_map.specs.declared.roots.ByRoot.{ByRoot}
 use Rattle.item_map.proofs.RiseLaws.{IsOwn}
-use Rattle.item_map.proofs.OwnLaws.{got, is_own, of_same}
+use Rattle.item_map.proofs.OwnLaws.{got, is_own, none_of_item, of_same}
 
 same_or_not : (r s : Root) (C : Type 0) → (r ≡ s → C) → (r ≢ s → C) → C
 same_or_not r s C same other =
@@ -255,6 +255,31 @@ module _ {V : Type 0} where
       by false e =
           own v (sym (ap is_some (finite.get-remove address_total m at v
           ∙ ap (λ t. cond t None (finite.get m v)) e)) ∙ some)
+
+  -- ---- the entries of an item taken out, and others put
+
+  module _ (at : Address) (a b : ByRoot V) (h : AreInOrder a)
+      (room : HasRoom a at.root at.number) where
+    pub taken_order : IsSetAt at.root at.number None a b → AreInOrder b
+    taken_order set =
+        set_order a b at.root at.number None set tt h (none_of_item (item_of at)) (λ some. room)
+
+    pub put_order : (m : FinMap address_cmp V) (new : Option (ItemEntries V))
+        → IsItemWith at.number m new → AreOfItem (item_of at) m
+        → IsSetAt at.root at.number new a b → AreInOrder b
+    put_order m new with own set =
+        set_order a b at.root at.number new set with.at h
+        (subst (AreOfItem (item_of at)) (sym with.entries) own) (λ some. room)
+
+  pub taken_changed : (at : Address) (a b : ByRoot V) → IsSetAt at.root at.number None a b
+      → IsChangedAt at finite.empty a b
+  taken_changed at a b set = set_changed at a b None set tt
+
+  pub put_changed : (at : Address) (a b : ByRoot V) (m : FinMap address_cmp V)
+      (new : Option (ItemEntries V)) → IsItemWith at.number m new
+      → IsSetAt at.root at.number new a b → IsChangedAt at m a b
+  put_changed at a b m new with set =
+      subst (λ m. IsChangedAt at m a b) with.entries (set_changed at a b new set with.at)
 
   -- ---- nothing
 

@@ -5,6 +5,7 @@ use Rattle.std.proofs.lemmas.Bool.{cases_eq}
 use Rattle.std.proofs.lemmas.List.{append-nil, length-map, nil_from_length}
 use Rattle.std.proofs.lemmas.List.Elements.{All-contains, All-head, All-tail, All-weaker, filter-append}
 use Rattle.std.proofs.lemmas.List.Filters.{length-filter_both}
+use Rattle.std.specs.Option.{option_map}
 use Rattle.std.specs.FinMap as finite
 use Rattle.std.specs.FinMap.{FinMap}
 use Rattle.std.specs.FinMap.Entries.{find-where_key}
@@ -19,7 +20,7 @@ use Rattle.numbered_list.specs.Numbered as numbered
 use Rattle.numbered_list.specs.Numbered.{Rise}
 use Rattle.numbered_list.specs.Laws.{Contains-found, Rise-tail, find-first, find-past, find-rest, number_of_found}
 use Rattle.item_map.specs.ItemAddresses.{is_of, item_of}
-use Rattle.item_map.specs.ItemLists.{AreInOrder, AreOfItem, all_items, entries_in, entries_of, item_number, items_of, map_in, of_items, own, own_entries}
+use Rattle.item_map.specs.ItemLists.{AreInOrder, AreOfItem, HasRoom, all_items, entries_in, entries_of, item_number, items_of, map_in, of_items, own, own_entries}
 use Rattle.item_map.specs.declared.item_entries.ItemEntries.{ItemEntries}
 use Rattle.item_map.specs.declared.roots.ByRoot.{ByRoot}
 use Rattle.item_map.proofs.RiseLaws.{IsOwn, all_rise, entries_are, own_addresses, parted, roots_of}
@@ -205,6 +206,33 @@ module _ {V : Type 0} where
             (number_of_found item_number at.number item (items_of roots at.root) is)
             (All-contains (IsOwn at.root) (items_of roots at.root) item (h.each at.root).own
             (Contains-found item_number at.number item (items_of roots at.root) is))
+
+    -- where the map has something, there is an item, and so there is room for it
+    pub room_there : (at : Address) → IsSome (finite.get (map_in roots) at)
+        → HasRoom roots at.root at.number
+    room_there at some none = absurd (by (own roots at) refl)
+      where
+        by : (o : Option (ItemEntries V)) → own roots at ≡ o → ⊥
+        by None is =
+            true≢false (sym some ∙ ap is_some (got at ∙ ap (λ o. finite.get (entries_in o) at) is
+            ∙ finite.get-empty address_cmp at))
+        by (Some item) is = true≢false (sym (ap is_some is) ∙ none)
+
+  -- ---- what a look-up of an item's entries says
+
+  pub found_is : (o : Option (ItemEntries V)) (m : FinMap address_cmp V)
+      → Some m ≡ option_map (λ item. item.entries) o → m ≡ entries_in o
+  found_is None m e = cc
+  found_is (Some item) m e = cc
+
+  pub missing_is : (o : Option (ItemEntries V)) → None ≡ option_map (λ item. item.entries) o
+      → entries_in o ≡ finite.empty
+  missing_is None e = refl
+  missing_is (Some item) e = cc
+
+  pub none_of_item : (item : Address) → AreOfItem item (finite.empty {X = V})
+  none_of_item item v some =
+      absurd (true≢false (sym some ∙ ap is_some (finite.get-empty {X = V} address_cmp v)))
 
   -- ---- an address below the item's own is that of no item
 

@@ -101,7 +101,7 @@ module _ {V : Type 0} where
         (v : Address) → item_of v ≢ item_of at → own_entries after v ≡ own_entries before v
 
   -- an item with these entries, if there are any
-  pub record IsItemWith (n : ℕ) (entries : FinMap address_cmp V) (item : Option (ItemEntries V))
+  pub record IsItemWith (n : ℕ) (m : FinMap address_cmp V) (item : Option (ItemEntries V))
       : Type 0 where
     pub at : IsAt item_number n item
-    pub entries : entries_in item ≡ entries
+    pub entries : entries_in item ≡ m

@@ -3,3 +3,4 @@ pub mod Forks
 pub mod Gaps
 pub mod ItemLists
 pub mod ItemsLeft
+pub mod CountLaws

@@ -9,13 +9,13 @@ use Rattle.address_map.proofs.places.Places.put.Goals as goal
 pub returns-in_err-reserve-clause-one_to_one : goal.returns-in_err-reserve-clause-one_to_one
 returns-in_err-reserve-clause-one_to_one c =
     subst IsOneToOne (sym c.reserve.ensures.same)
-    (one_to_one c.self.inside.ordered.indices (address_among c.self.inside.by_index.entries)
+    (one_to_one c.self.inside.by_address (address_among c.self.inside.by_index.entries)
     c.self.invariant)
 
 pub returns-in_err-insert-clause-one_to_one : goal.returns-in_err-insert-clause-one_to_one
 returns-in_err-insert-clause-one_to_one c =
     subst IsOneToOne (sym c.reserve.ensures.same)
-    (one_to_one c.self.inside.ordered.indices (address_among c.self.inside.by_index.entries)
+    (one_to_one c.self.inside.by_address (address_among c.self.inside.by_index.entries)
     c.self.invariant)
 
 pub invariant_of-self-2 : goal.invariant_of-self-2

@@ -8,7 +8,7 @@ use Rattle.address_map.proofs.places.Places.remove.Goals as goal
 
 pub invariant_of-self : goal.invariant_of-self
 invariant_of-self c =
-    let m = c.self.inside.ordered.indices in
+    let m = c.self.inside.by_address in
     subst (λ n. AreInverse (finite.get n) (address_among c.self.inside.by_index.entries))
     (sym (c.remove.ensures.removed ∙ taken_in_vain address_total exact_addresses m c.args.at.now
     (sym c.in_err-i.ensures.index)))
@@ -21,7 +21,7 @@ returns-in_err-i-clause-one_to_one c =
 
 pub invariant_of-self-2 : goal.invariant_of-self-2
 invariant_of-self-2 c =
-    let m = c.self.inside.ordered.indices in
+    let m = c.self.inside.by_address in
     let after = address_among c.swap_remove.new.self.entries in
     subst (λ n. AreInverse (finite.get n) after) (sym c.remove.ensures.removed)
     (inverse_removed m (address_among c.self.inside.by_index.entries) c.self.invariant
