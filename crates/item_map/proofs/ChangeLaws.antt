@@ -18,7 +18,7 @@ use Rattle.numbered_list.specs.Numbered.{IsAt, Rise, set_at}
 use Rattle.numbered_list.specs.Laws.{Rise-nil}
 use Rattle.numbered_list.specs.SetLaws.{Rise-set_at, find-set_at_other, find-set_at_same, length-set_at}
 use Rattle.item_map.specs.ItemAddresses.{is_of, item_of}
-use Rattle.item_map.specs.ItemLists.{AreInOrder, AreOf, AreOfItem, HasNone, HasRoom, IsChangedAt, IsItemWith, IsRoomier, IsSetAt, all_items, entries_in, item_number, items_of, list_of, map_in, of_items, own, own_entries}
+use Rattle.item_map.specs.ItemLists.{AreInOrder, AreOf, AreOfItem, HasNone, HasRoom, IsChangedAt, IsItemWith, IsKept, IsRoomier, IsSetAt, all_items, entries_in, item_number, items_of, list_of, map_in, of_items, own, own_entries}
 use Rattle.item_map.specs.declared.item_entries.ItemEntries.{ItemEntries}
 use Rattle.item_map.specs.declared.roots.ByRoot.{ByRoot}
 use Rattle.item_map.proofs.RiseLaws.{IsOwn}
@@ -234,6 +234,22 @@ module _ {V : Type 0} where
             there_now (finite.remove (own_entries a at) at) change v e
             ∙ ap (λ t. cond t None (finite.get (map_in a) v)) (sym (not_at v e))
 
+  -- the entries of an item taken out, and put back with one more, or one less
+  module _ (at : Address) (a b c : ByRoot V) (entries : FinMap address_cmp V)
+      (was : AreInOrder a) (is : AreInOrder c) (out : IsChangedAt at finite.empty a b)
+      (back : IsChangedAt at entries b c) where
+    pub put_in : (x : V) → entries ≡ finite.insert (own_entries a at) at x
+        → map_in c ≡ finite.insert (map_in a) at x
+    put_in x e =
+        inserted_map at a c was is x
+        (subst (λ m. IsChangedAt at m a c) e (chained at finite.empty entries a b c out back))
+
+    pub taken_from : entries ≡ finite.remove (own_entries a at) at
+        → map_in c ≡ finite.remove (map_in a) at
+    taken_from e =
+        removed_map at a c was is
+        (subst (λ m. IsChangedAt at m a c) e (chained at finite.empty entries a b c out back))
+
   -- ---- entries of one item
 
   pub inserted_own : (at : Address) (m : FinMap address_cmp V) (x : V) → AreOfItem (item_of at) m
@@ -302,6 +318,14 @@ module _ {V : Type 0} where
       empty_made =
           finite.same_entries_map (finite.from_sorted []) finite.empty
           (finite.entries-from_sorted address_cmp [] tt ∙ sym (entries_empty address_cmp))
+
+  pub none_kept : (roots : ByRoot V) (nothing : FinMap address_cmp V) → HasNone roots
+      → nothing ≡ finite.empty → IsKept roots nothing 0
+  none_kept roots nothing none empty = record {
+    order = none_order roots none;
+    empty = empty;
+    count = sym (ap finite.len (none_map roots none) ∙ finite.len-empty address_cmp V);
+  }
 
   -- ---- counts
 

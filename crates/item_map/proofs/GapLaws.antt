@@ -1,15 +1,16 @@
 -- An entry put among others or taken from them, at its place in the order of the addresses.
-use Rattle.std.specs.Prelude.{◌≡◌, ℕ, zero, suc, ◌<◌, ◌≤◌, Bool, true, false, not, cond, drop, map, nat_lt, Option, None, List, [], ◌∷◌, length, slice_index_or, Result, Ok, Err, MatchResult, refl}
+use Rattle.std.specs.Prelude.{◌≡◌, ℕ, suc, ◌<◌, Bool, true, false, not, cond, Option, None, Some, List, length, slice_get, slice_index_or, Result, Ok, Err, MatchResult, refl}
 use Rattle.std.proofs.Common.{arith, sym, ap, subst, ◌∙◌}
-use borrow.Author.Tests.{ltb-true, ltb-false}
 use Rattle.std.specs.List.{remove}
 use Rattle.std.specs.List.Sorted.{IsBinarySearchResult, IsSearchInRange}
 use Rattle.std.proofs.lemmas.List.Sorted.{searchable_from_sorted}
-use Rattle.std.specs.Ordering.{eq_by_cmp, is_eq, is_lt, ordering_reverse}
+use Rattle.std.specs.Ordering.{eq_by_cmp, is_eq, ordering_reverse}
 use Rattle.std.specs.declared.cmp.Ordering.{Ordering}
 use Rattle.std.specs.declared.cmp.Ordering.TheVariants.{Less, Equal, Greater}
 use Rattle.std.specs.Cmp.{IsTotalOrder}
-use Rattle.std.proofs.lemmas.List.{length-map}
+use Rattle.std.proofs.lemmas.Option.{get_or_from_slice_get}
+use Rattle.std.specs.Option.{option_map}
+use Rattle.map_laws.specs.PlaceLaws.{none_past}
 use Rattle.std.specs.FinMap as finite
 use Rattle.std.specs.FinMap.{FinMap, IsAntisymmetric}
 use Rattle.std.specs.FinMap.Entries.{find-where_key, is_sorted-where_key, where_key}
@@ -105,3 +106,12 @@ module _ {X : Type 0} (m : FinMap address_cmp X) (items : List (Address × X)) (
 
   pub made_map : finite.from_sorted {R = address_cmp} items ≡ m
   made_map = ap finite.from_sorted is ∙ from_sorted-entries address_total m
+
+-- what was read at the place of an entry is its value
+pub second_at : {X Y : Type 0} (es : List (Address × X)) (n : ℕ) (f : Y → Address × X)
+    (o : Option Y) (found : Option X) → option_map f o ≡ slice_get es n → n < length es
+    → ((d : Address × X) → found ≡ Some (slice_index_or es n d).1)
+    → option_map (λ y. (f y).1) o ≡ found
+second_at es n f None found is lt at = absurd (none_past n es (sym is) lt)
+second_at es n f (Some y) found is lt at =
+    sym (at (f y) ∙ ap (λ e. Some e.1) (get_or_from_slice_get es n (f y) (f y) (sym is)))

@@ -4,3 +4,5 @@ mod ItemLaws
 mod RiseLaws
 mod OwnLaws
 mod ChangeLaws
+mod RootLaws
+mod LeftLaws

@@ -75,7 +75,7 @@ impl<'a, V> Iterator for Entries<'a, V> {
     ghost remaining = { item_count (λ entries. entries) };
 
     fn next(&mut self) -> Option<&'a (Address, V)> {
-        loop {
+        'entries: loop {
             if let Some(entry) = self.own.next() {
                 return Some(entry);
             }
