@@ -1,5 +1,5 @@
 //! The entries that are left of a map, one after the other.
-ghost use Rattle.std.specs.Prelude.{◌≡◌, ◌×◌, ◌∷◌, ◌++◌, [], MatchOption};
+ghost use Rattle.std.specs.Prelude.{◌≡◌, ◌∷◌, ◌++◌, [], MatchOption};
 ghost use Rattle.std.specs.Iterator.{YieldsFirstRef, item_count};
 ghost use Rattle.item_map.specs.ItemsLeft.{items_left};
 ghost use Rattle.item_map.specs.ItemLists.{of_items};
