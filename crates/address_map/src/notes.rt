@@ -86,9 +86,9 @@ impl Notes {
         ensures taken { IsNotedAt self.old self.new var.now
             (without_item (noted_in self.old var.now) item.now) }
     {
-        if self.items.get(var).is_none() {
+        let Some(_items) = self.items.get(var) else {
             return false;
-        }
+        };
         let mut items = self.take_items(var);
         let was_there = items.remove(item).is_some();
         self.put_items(var, items);

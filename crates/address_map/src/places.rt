@@ -53,11 +53,13 @@ impl Places {
         if let Err(refused) = self.by_address.put_new(at, i) {
             return Err(refused.1);
         }
-        if self.by_index.insert(i, at).is_err() {
-            self.by_address.remove(&at);
-            return Err(Memory);
+        match self.by_index.insert(i, at) {
+            Ok(_before) => Ok(()),
+            Err(_refused) => {
+                self.by_address.remove(&at);
+                Err(Memory)
+            }
         }
-        Ok(())
     }
 
     /// Takes an address out, and answers its index.

@@ -34,7 +34,7 @@ same_or_not r s C same other =
 All-set_at : {X : Type 0} (number_of : X → ℕ) (P : X → Type 0) (n : ℕ) (new : Option X)
     (xs : List X) → IfSome new P → All P xs → All P (set_at number_of n new xs)
 unfolding set_at
-All-set_at number_of P n new xs here all =
+All-set_at {X = X} number_of P n new xs here all =
     All-append P (numbered.below number_of n xs)
     (option_to_list new ++ numbered.above number_of n xs)
     (All-filter (λ x. nat_lt (number_of x) n) P xs all) (with_new new here)
@@ -278,7 +278,7 @@ module _ {V : Type 0} where
       (room : HasRoom a at.root at.number) where
     pub taken_order : IsSetAt at.root at.number None a b → AreInOrder b
     taken_order set =
-        set_order a b at.root at.number None set tt h (none_of_item (item_of at)) (λ some. room)
+        set_order a b at.root at.number None set tt h (none_of_item V (item_of at)) (λ some. room)
 
     pub put_order : (m : FinMap address_cmp V) (new : Option (ItemEntries V))
         → IsItemWith at.number m new → AreOfItem (item_of at) m
@@ -314,7 +314,7 @@ module _ {V : Type 0} where
       ++ (none Group i ++ (none Row i ++ none Objective i)))))
       ∙ empty_made
     where
-      empty_made : finite.from_sorted {R = address_cmp} {X = V} [] ≡ finite.empty
+      empty_made : finite.from_sorted {X = V} {R = address_cmp} [] ≡ finite.empty
       empty_made =
           finite.same_entries_map (finite.from_sorted []) finite.empty
           (finite.entries-from_sorted address_cmp [] tt ∙ sym (entries_empty address_cmp))

@@ -115,3 +115,19 @@ pub second_at : {X Y : Type 0} (es : List (Address × X)) (n : ℕ) (f : Y → A
 second_at es n f None found is lt at = absurd (none_past n es (sym is) lt)
 second_at es n f (Some y) found is lt at =
     sym (at (f y) ∙ ap (λ e. Some e.1) (get_or_from_slice_get es n (f y) (f y) (sym is)))
+
+over_itself : {X : Type 0} (x : X) (b : Bool) (o : Option X)
+    → cond b (Some x) (cond b None o) ≡ cond b (Some x) o
+over_itself x true o = refl
+over_itself x false o = refl
+
+-- an address that is taken out and put in again has the last value
+pub inserted_again : {X : Type 0} (m : FinMap address_cmp X) (at : Address) (x : X)
+    → finite.insert (finite.remove m at) at x ≡ finite.insert m at x
+inserted_again m at x =
+    finite.same_map address_total exact_addresses (finite.insert (finite.remove m at) at x)
+    (finite.insert m at x) (λ q.
+    finite.get-insert address_total (finite.remove m at) at x q
+    ∙ ap (cond (eq_by_cmp address_cmp q at) (Some x)) (finite.get-remove address_total m at q)
+    ∙ over_itself x (eq_by_cmp address_cmp q at) (finite.get m q)
+    ∙ sym (finite.get-insert address_total m at x q))

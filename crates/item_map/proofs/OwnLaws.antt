@@ -1,5 +1,5 @@
 -- What the map of all entries has at or below the address of an item is what the item has.
-use Rattle.std.specs.Prelude.{◌≡◌, ◌≢◌, ◌+◌, ◌<◌, ◌≤◌, ℕ, Bool, true, false, not, cond, List, [], ◌∷◌, ◌++◌, All, IsSome, Option, Some, None, filter, find, is_some, length, map, refl}
+use Rattle.std.specs.Prelude.{◌≡◌, ◌≢◌, ◌+◌, ◌<◌, ◌≤◌, ℕ, Bool, true, false, not, cond, List, [], ◌∷◌, ◌++◌, All, IsSome, Option, Some, None, filter, find, is_some, length, map, slice_index_or, refl}
 use Rattle.std.proofs.Common.{arith, inl, inr, sym, ap, subst, true≢false, ◌∙◌}
 use Rattle.std.proofs.lemmas.Bool.{cases_eq}
 use Rattle.std.proofs.lemmas.List.{append-nil, length-map, nil_from_length}
@@ -37,6 +37,11 @@ not_own item at ne = by (is_of item at) refl
     by : (b : Bool) → is_of item at ≡ b → b ≡ false
     by true e = absurd (ne (of_same item at e))
     by false e = refl
+
+-- nothing is of any item
+pub none_of_item : (V : Type 0) (item : Address) → AreOfItem item (finite.empty {X = V})
+none_of_item V item v some =
+    absurd (true≢false (sym some ∙ ap is_some (finite.get-empty {X = V} address_cmp v)))
 
 module _ {V : Type 0} where
   abbrev pub those_of : Address → List (Address × V) → List (Address × V)
@@ -230,17 +235,14 @@ module _ {V : Type 0} where
   missing_is None e = refl
   missing_is (Some item) e = cc
 
-  pub none_of_item : (item : Address) → AreOfItem item (finite.empty {X = V})
-  none_of_item item v some =
-      absurd (true≢false (sym some ∙ ap is_some (finite.get-empty {X = V} address_cmp v)))
-
   -- ---- an address below the item's own is that of no item
 
   pub none_below : (item : Address) (es : List (Address × V)) → 0 < length item.positions
       → those_of item es ≡ []
   none_below item es lt =
       filter_nothing (λ e. is_of item e.0) es (λ k d within.
-      not_own item _ (λ s. absurd (omega (arith, ap (λ v. length v.positions) s))))
+      not_own item (slice_index_or es k d).0
+      (λ s. omega (arith, ap (λ v. length v.positions) s)))
 
   -- ---- the first that passes, and the keys
 

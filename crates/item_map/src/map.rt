@@ -119,12 +119,12 @@ impl<V: Drop> ItemMap<V> {
         ensures err { OnErr result (self.new ≡ self.old) }
         ensures handed_back { IfErr result (λ e. e.0 ≡ value) }
     {
-        if self.get(&at).is_some() {
-            return Ok(Some(self.replace(&at, value)));
-        }
-        match self.put_new(at, value) {
-            Ok(()) => Ok(None),
-            Err(refused) => Err(refused),
+        match self.get(&at) {
+            Some(_there) => Ok(Some(self.replace(&at, value))),
+            None => match self.put_new(at, value) {
+                Ok(()) => Ok(None),
+                Err(refused) => Err(refused),
+            },
         }
     }
 
@@ -155,7 +155,7 @@ impl<V: Drop> ItemMap<V> {
 
     /// Puts a value in the place of the one at its address, and answers that.
     pub fn replace(&mut self, at: &Address, value: V) -> V
-        requires there { IsSome (finite.get self.old at.now) }
+        requires { IsSome (finite.get self.old at.now) }
         ensures before { Some result ≡ finite.get self.old at.now }
         ensures after { self.new ≡ finite.insert self.old at.now value }
     {
@@ -170,9 +170,9 @@ impl<V: Drop> ItemMap<V> {
         ensures value { result ≡ finite.get self.old at.now }
         ensures removed { self.new ≡ finite.remove self.old at.now }
     {
-        if self.get(at).is_none() {
+        let Some(_there) = self.get(at) else {
             return None;
-        }
+        };
         let mut entries = self.roots.take(at);
         let value = entries.remove(at);
         self.roots.put(at, entries);

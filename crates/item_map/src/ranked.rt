@@ -74,7 +74,10 @@ impl<T: Drop> Fork<T> {
         };
         match Box::new(alloc, alone) {
             Ok(room) => Ok(room),
-            Err(refused) => Err((refused.value.item, Memory)),
+            Err(refused) => {
+                let alone = refused.value;
+                Err((alone.item, Memory))
+            }
         }
     }
 }

@@ -16,11 +16,11 @@ returns g t c =
     elim c.if-n-before.branch [
       | then-n-before w ↦
           c.balanced.ensures.items ∙ ap (λ f. items_of f.value) w.fork-is
-          ∙ ap (λ b. b ++ w.deref_mut-then-n-before.result.now.item
-          ∷ w.deref_mut-then-n-before.result.now.after) w.insert.ensures
-          ∙ ap (λ f. insert f.before c.args.n c.args.item ++ f.item ∷ f.after)
-          w.deref_mut-then-n-before.ensures.value
-          ∙ inserted_before fork.before fork.item fork.after is c.args.n c.args.item
+          ∙ ap (λ b. b ++ w.deref_mut.result.now.item
+          ∷ w.deref_mut.result.now.after) w.insert.ensures
+          ∙ ap (λ f. insert f.before c.args.n c.args.room.value.item ++ f.item ∷ f.after)
+          w.deref_mut.ensures.value
+          ∙ inserted_before fork.before fork.item fork.after is c.args.n c.args.room.value.item
           (omega (arith, w.if-n-before.true, count))
       | else-n-before w ↦
           c.balanced.ensures.items ∙ ap (λ f. items_of f.value) w.fork-is
@@ -29,7 +29,7 @@ returns g t c =
           ∙ (λ i. (w.deref_mut-else-n-before.ensures.value i).before
           ++ (w.deref_mut-else-n-before.ensures.value i).item
           ∷ insert (w.deref_mut-else-n-before.ensures.value i).after (c.args.n - count i - 1)
-          c.args.item)
-          ∙ inserted_after fork.before fork.item fork.after is c.args.n c.args.item
+          c.args.room.value.item)
+          ∙ inserted_after fork.before fork.item fork.after is c.args.n c.args.room.value.item
           (omega (arith, w.if-n-before.false, count))
     ]
