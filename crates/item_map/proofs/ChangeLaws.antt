@@ -1,5 +1,5 @@
 -- One item's entries change: what that leaves of the lists, and of the map.
-use Rattle.std.specs.Prelude.{◌≡◌, ◌≢◌, ◌+◌, ◌-◌, ◌<◌, ◌≤◌, ℕ, Bool, true, false, cond, List, [], ◌∷◌, ◌++◌, All, IfSome, IsNone, IsSome, Option, Some, None, is_some, length, nat_lt, suc, zero, refl}
+use Rattle.std.specs.Prelude.{◌≡◌, ◌≢◌, ◌+◌, ◌-◌, ◌<◌, ◌≤◌, ℕ, Bool, true, false, cond, List, [], ◌++◌, All, IfSome, IsNone, IsSome, Option, Some, None, is_some, length, nat_lt, suc, zero, refl}
 use Rattle.std.proofs.Common.{arith, inl, inr, sym, ap, subst, true≢false, ◌∙◌}
 use Rattle.std.proofs.lemmas.Bool.{cases_eq}
 use Rattle.std.proofs.lemmas.List.Elements.{All-append, All-cons, All-filter, All-nil}
@@ -18,7 +18,7 @@ use Rattle.numbered_list.specs.Numbered.{IsAt, Rise, set_at}
 use Rattle.numbered_list.specs.Laws.{Rise-nil}
 use Rattle.numbered_list.specs.SetLaws.{Rise-set_at, find-set_at_other, find-set_at_same, length-set_at}
 use Rattle.item_map.specs.ItemAddresses.{is_of, item_of}
-use Rattle.item_map.specs.ItemLists.{AreInOrder, AreOf, AreOfItem, HasNone, HasRoom, IsChangedAt, IsItemWith, IsKept, IsRoomier, IsSetAt, all_items, entries_in, item_number, items_of, list_of, map_in, of_items, own, own_entries}
+use Rattle.item_map.specs.ItemLists.{AreInOrder, AreOf, AreOfItem, HasNone, HasRoom, IsChangedAt, IsItemWith, IsKept, IsRoomier, IsSetAt, entries_in, item_number, items_of, list_of, map_in, of_items, own, own_entries}
 use Rattle.item_map.specs.declared.item_entries.ItemEntries.{ItemEntries}
 use Rattle.item_map.specs.declared.roots.ByRoot.{ByRoot}
 use Rattle.item_map.proofs.RiseLaws.{IsOwn}

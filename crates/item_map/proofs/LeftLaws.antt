@@ -1,6 +1,6 @@
 -- The first item that is left, and its entries.
-use Rattle.std.specs.Prelude.{◌≡◌, List, [], ◌∷◌, ◌++◌, refl}
-use Rattle.std.proofs.Common.{sym, ap, ◌∙◌, append_assoc}
+use Rattle.std.specs.Prelude.{◌≡◌, List, [], ◌∷◌, ◌++◌}
+use Rattle.std.proofs.Common.{sym, ap, ◌∙◌}
 use Rattle.aff_core.specs.Address.{Address}
 use Rattle.item_map.specs.ItemLists.{entries_of, of_items}
 use Rattle.item_map.specs.declared.item_entries.ItemEntries.{ItemEntries}

@@ -1,17 +1,15 @@
 -- What the map of all entries has at or below the address of an item is what the item has.
-use Rattle.std.specs.Prelude.{◌≡◌, ◌≢◌, ◌+◌, ◌<◌, ◌≤◌, ℕ, Bool, true, false, not, cond, List, [], ◌∷◌, ◌++◌, All, IsSome, Option, Some, None, filter, find, is_some, length, map, slice_index_or, refl}
+use Rattle.std.specs.Prelude.{◌≡◌, ◌≢◌, ◌<◌, ◌≤◌, ℕ, Bool, true, false, not, cond, List, [], ◌∷◌, ◌++◌, All, IsSome, Option, Some, None, filter, find, is_some, length, map, slice_index_or, refl}
 use Rattle.std.proofs.Common.{arith, inl, inr, sym, ap, subst, true≢false, ◌∙◌}
 use Rattle.std.proofs.lemmas.Bool.{cases_eq}
-use Rattle.std.proofs.lemmas.List.{append-nil, length-map, nil_from_length}
+use Rattle.std.proofs.lemmas.List.{append-nil, length-map}
 use Rattle.std.proofs.lemmas.List.Elements.{All-contains, All-head, All-tail, All-weaker, filter-append}
 use Rattle.std.proofs.lemmas.List.Filters.{length-filter_both}
 use Rattle.std.specs.Option.{option_map}
 use Rattle.std.specs.FinMap as finite
 use Rattle.std.specs.FinMap.{FinMap}
 use Rattle.std.specs.FinMap.Entries.{find-where_key}
-use Rattle.std.specs.Ordering.{eq_by_cmp}
-use Rattle.aff_core.specs.Address.{Address, address_cmp, address_eq-Decides, address_total, exact_addresses, root_address}
-use Rattle.aff_core.specs.KeyOrder.{address_order, key_eq-Decides}
+use Rattle.aff_core.specs.Address.{Address, address_cmp, address_eq-Decides, exact_addresses, root_address}
 use Rattle.aff_core.specs.declared.root.Root.{Root}
 use Rattle.aff_core.specs.declared.root.Root.TheVariants.{Variable, Group, Row, Objective}
 use Rattle.map_laws.specs.MadeLaws.{entries_empty}

@@ -1,5 +1,5 @@
 -- One of the four lists changes: what that leaves of all four.
-use Rattle.std.specs.Prelude.{◌≡◌, ◌≢◌, ◌<◌, ◌≤◌, ℕ, List, [], OnOk, Option, Result, Ok, Err, length, refl}
+use Rattle.std.specs.Prelude.{◌≡◌, ◌≢◌, ◌<◌, ◌≤◌, ℕ, [], OnOk, Option, Result, Ok, Err, length, refl}
 use Rattle.std.proofs.Common.{arith}
 use Rattle.aff_core.specs.declared.root.Root.{Root}
 use Rattle.aff_core.specs.declared.root.Root.TheVariants.{Variable, Group, Row, Objective}

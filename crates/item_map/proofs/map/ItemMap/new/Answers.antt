@@ -1,4 +1,3 @@
-use Rattle.item_map.specs.ItemLists.{map_in}
 use Rattle.item_map.proofs.ChangeLaws.{none_kept, none_map}
 use Rattle.item_map.proofs.map.ItemMap.new.Goals as goal
 

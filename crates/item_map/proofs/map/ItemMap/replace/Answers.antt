@@ -1,4 +1,4 @@
-use Rattle.std.specs.Prelude.{◌≡◌, IsSome, Some}
+use Rattle.std.specs.Prelude.{◌≡◌, IsSome}
 use Rattle.std.proofs.Common.{sym, ap, subst, ◌∙◌}
 use Rattle.std.specs.FinMap as finite
 use Rattle.item_map.specs.ItemAddresses.{item_of}

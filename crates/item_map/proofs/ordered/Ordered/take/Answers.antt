@@ -1,7 +1,6 @@
-use Rattle.std.specs.Prelude.{◌≡◌, Some, slice_get, slice_index_or}
+use Rattle.std.specs.Prelude.{◌≡◌, slice_get}
 use Rattle.std.proofs.Common.{sym, ap, ◌∙◌}
 use Rattle.std.specs.List.{remove}
-use Rattle.std.specs.Option.{option_map}
 use Rattle.std.specs.FinMap as finite
 use Rattle.aff_core.specs.Address.{address_total, exact_addresses}
 use Rattle.map_laws.specs.SumLaws.{taken_in_vain}

@@ -1,4 +1,3 @@
-use Rattle.std.specs.Prelude.{◌≡◌}
 use Rattle.std.proofs.Common.{sym, ap, subst, ◌∙◌}
 use Rattle.numbered_list.specs.Numbered.{find}
 use Rattle.item_map.specs.ItemLists.{HasRoom, IsSetAt, item_number, items_of}

@@ -1,5 +1,4 @@
-use Rattle.std.specs.Prelude.{◌≡◌}
-use Rattle.std.proofs.Common.{sym, ap, subst, ◌∙◌}
+use Rattle.std.proofs.Common.{sym, subst, ◌∙◌}
 use Rattle.numbered_list.specs.Numbered.{IsAt}
 use Rattle.item_map.specs.ItemLists.{HasRoom, IsItemWith, IsSetAt, item_number}
 use Rattle.item_map.proofs.ChangeLaws.{put_changed, put_order}

@@ -1,5 +1,5 @@
-use Rattle.std.specs.Prelude.{◌≡◌, OnOk}
-use Rattle.std.proofs.Common.{sym, ap, subst, ◌∙◌}
+use Rattle.std.specs.Prelude.{OnOk}
+use Rattle.std.proofs.Common.{sym, subst, ◌∙◌}
 use Rattle.aff_core.specs.declared.root.Root.TheVariants as root
 use Rattle.item_map.specs.ItemLists.{HasRoom}
 use Rattle.item_map.proofs.RootLaws.{room_made, roomier_variables, roomier_groups, roomier_rows, roomier_objectives}
