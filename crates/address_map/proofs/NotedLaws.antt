@@ -56,7 +56,7 @@ pub unnoted : (m : Noted) (var item : Address) → finite.get (noted_in m var) i
     → IsNotedAt m m var (without_item (noted_in m var) item)
 unnoted m var item e = record {
   here = sym (taken_in_vain address_total exact_addresses (noted_in m var) item e);
-  elsewhere = λ v n. refl;
+  elsewhere = λ v n i. noted_in m v;
 }
 
 pub empty_misses : (s : AddressSet) (item : Address) → s ≡ finite.empty → finite.get s item ≡ None

@@ -21,22 +21,20 @@ returns-in_default-clause-there c =
 
 pub returns-in_default-clause-taken : goal.returns-in_default-clause-taken
 returns-in_default-clause-taken c =
-    subst (λ n. IsNotedAt c.args.self.now n c.args.var.now
-    (without_item (noted_in c.args.self.now c.args.var.now) c.args.item.now)) (sym c.self.view_is)
-    (unnoted c.args.self.now c.args.var.now c.args.item.now
-    (missing (goal.at.returns-in_default-clause-taken c).In_default))
+    unnoted c.args.self.now c.args.var.now c.args.item.now
+    (missing (goal.at.returns-in_default-clause-taken c).In_default)
 
 pub take_items-items-requires : goal.take_items-items-requires
-take_items-items-requires c =
-    ap is_some (sym (ap (λ n. finite.get n c.args.var.now) c.self.view_is) ∙ sym c.get.ensures
-    ∙ ap option_copied c.in-Some.is)
+take_items-items-requires c = record {
+  there = ap is_some (sym (ap (λ n. finite.get n c.args.var.now) c.self.view_is)
+      ∙ sym c.get.ensures ∙ ap option_copied c.in-Some.is);
+}
 
 pub returns-clause-there : goal.returns-clause-there
 returns-clause-there c =
     c.is_some-was_there.ensures
     ∙ ap is_some (c.remove.ensures.value
-    ∙ ap (λ s. finite.get s c.args.item.now) (c.take_items-items.ensures.items
-    ∙ ap (λ n. noted_in n c.args.var.now) c.self.view_is))
+    ∙ ap (λ s. finite.get s c.args.item.now) c.take_items-items.ensures.items)
 
 pub returns-clause-taken : goal.returns-clause-taken
 returns-clause-taken c =
@@ -44,9 +42,7 @@ returns-clause-taken c =
     let item = c.args.item.now in
     let same = c.remove.ensures.removed ∙ ap (λ s. without_item s item) c.take_items-items.ensures.items
     in
-    subst (λ n. IsNotedAt n c.put_items.new.self var (without_item (noted_in n var) item))
-    c.self.view_is
-    (noted_then c.self.inside.items c.take_items-items.new.self c.put_items.new.self var finite.empty
-    (without_item (noted_in c.self.inside.items var) item) c.take_items-items.ensures.taken
+    noted_then c.args.self.now c.take_items-items.new.self c.put_items.new.self var finite.empty
+    (without_item (noted_in c.args.self.now var) item) c.take_items-items.ensures.taken
     (subst (IsNotedAt c.take_items-items.new.self c.put_items.new.self var) same
-    c.put_items.ensures))
+    c.put_items.ensures)
