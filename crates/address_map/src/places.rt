@@ -1,12 +1,12 @@
 //! A one-to-one map between addresses and indices.
-ghost use Rattle.std.specs.Prelude.{◌≡◌, ◌+◌, ◌<◌, ◌≤◌, None, IsOk, OnOk, OnErr, drop, length, slice_get};
+ghost use Rattle.std.specs.Prelude.{◌≡◌, None, OnOk, OnErr, filter, length};
 ghost use Rattle.std.specs.FinMap as finite;
-ghost use Rattle.address_map.specs.Places.{IsAddressAt, IsFree, IsOneToOne, addresses, from_on};
+ghost use Rattle.item_map.specs.ItemAddresses.{is_of};
+ghost use Rattle.address_map.specs.Places.{IsAddressAt, IsFree, IsOneToOne, addresses};
 
-use crate::items::Items;
-use crate::reserved::Reserved;
 use aff_core::Address;
 use indexmap::IndexMap;
+use item_map::{Entries, ItemMap, Items};
 use lists::Memory;
 use std::alloc::Global;
 use std::marker::Model;
@@ -14,7 +14,7 @@ use std::marker::Model;
 /// Addresses with their indices, where no two addresses have one index.
 #[derive(Debug, Drop)]
 pub struct Places {
-    ordered: Reserved,
+    by_address: ItemMap<usize>,
     by_index: IndexMap<usize, Address>,
 }
 
@@ -37,19 +37,9 @@ impl Places {
         ensures { result.indices ≡ finite.empty }
     {
         Places {
-            ordered: Reserved::new(alloc),
+            by_address: ItemMap::new(alloc),
             by_index: IndexMap::new(alloc),
         }
-    }
-
-    pub fn reserve(&mut self, extra: usize) -> Result<(), Memory>
-        ensures ok { OnOk result (extra ≤ self.new.spare) }
-        ensures same { self.new.indices ≡ self.old.indices }
-        ensures spare { self.old.spare ≤ self.new.spare }
-    {
-        self.ordered.reserve(extra)?;
-        self.by_index.reserve(extra)?;
-        Ok(())
     }
 
     /// Puts an address in with its index, neither of which may be there.
@@ -58,34 +48,36 @@ impl Places {
         requires index_free { IsFree self.old.indices i }
         ensures ok { OnOk result (self.new.indices ≡ finite.insert self.old.indices at i) }
         ensures err { OnErr result (self.new.indices ≡ self.old.indices) }
-        ensures succeeds { 0 < self.old.spare → IsOk result }
-        ensures spare { self.old.spare ≤ self.new.spare + 1 }
         ensures one_to_one { IsOneToOne self.new.indices }
     {
-        self.ordered.reserve(1)?;
-        self.by_index.insert(i, at)?;
-        self.ordered.insert(at, i);
-        Ok(())
+        if let Err(refused) = self.by_address.put_new(at, i) {
+            return Err(refused.1);
+        }
+        match self.by_index.insert(i, at) {
+            Ok(_before) => Ok(()),
+            Err(_refused) => {
+                self.by_address.remove(&at);
+                Err(Memory)
+            }
+        }
     }
 
     /// Takes an address out, and answers its index.
     pub fn remove(&mut self, at: &Address) -> Option<usize>
         ensures index { result ≡ finite.get self.old.indices at.now }
         ensures removed { self.new.indices ≡ finite.remove self.old.indices at.now }
-        ensures spare { self.old.spare ≤ self.new.spare }
         ensures one_to_one { IsOneToOne self.new.indices }
     {
-        let i = self.ordered.remove(at)?;
+        let i = self.by_address.remove(at)?;
         self.by_index.swap_remove(&i);
         Some(i)
     }
 
-    /// Takes all out, and keeps the room.
+    /// Takes all out.
     pub fn clear(&mut self)
-        ensures emptied { self.new.indices ≡ finite.empty }
-        ensures spare { self.old.spare ≤ self.new.spare }
+        ensures { self.new.indices ≡ finite.empty }
     {
-        self.ordered.clear();
+        self.by_address.clear();
         self.by_index.clear();
     }
 
@@ -93,7 +85,7 @@ impl Places {
         ensures value { result ≡ finite.get self.now.indices at.now }
         ensures one_to_one { IsOneToOne self.now.indices }
     {
-        self.ordered.get(at)
+        self.by_address.get(at).copied()
     }
 
     pub fn address(&self, i: usize) -> Option<Address>
@@ -106,29 +98,20 @@ impl Places {
     pub fn len(&self) -> usize
         ensures { result ≡ length (addresses self.now.indices) }
     {
-        self.ordered.len()
+        self.by_address.len()
     }
 
-    /// The addresses from a place on, in their order, each with its index.
-    pub fn iter_from(&self, place: usize) -> Items<'_, (Address, usize)>
-        ensures { result ≡ drop place (finite.entries self.now.indices) }
+    /// The addresses in their order, each with its index.
+    pub fn iter(&self) -> Entries<'_, usize>
+        ensures { result ≡ finite.entries self.now.indices }
     {
-        self.ordered.iter_from(place)
+        self.by_address.iter()
     }
 
-    /// The address at a place in the order of addresses, and `None` past the last.
-    pub fn nth(&self, n: usize) -> Option<Address>
-        ensures { result ≡ slice_get (addresses self.now.indices) n }
+    /// The addresses at and below that of an item of the model, each with its index.
+    pub fn of_item(&self, item: &Address) -> Items<'_, (Address, usize)>
+        ensures { result ≡ filter (λ e. is_of item.now e.0) (finite.entries self.now.indices) }
     {
-        self.ordered.nth(n)
-    }
-
-    /// The place of the first address that isn't before this one.
-    pub fn place_from(&self, at: &Address) -> usize
-        ensures in_range { result ≤ length (addresses self.now.indices) }
-        ensures from { drop result (addresses self.now.indices)
-            ≡ from_on at.now (addresses self.now.indices) }
-    {
-        self.ordered.place_from(at)
+        self.by_address.of_item(item)
     }
 }

@@ -3,10 +3,8 @@ use address_map::AddressMap;
 use aff_core::{Address, Root};
 use test_support::Page;
 
-/// Makes room for three rows, puts them and drops the last.
+/// Puts three rows and drops the last.
 pub fn show(page: &mut Page, map: &mut AddressMap) {
-    let room = map.reserve(0, 3);
-    page.line(format_args!("room for rows: {room:?}"));
     put(page, map, 0, 0);
     put(page, map, 1, 1);
     put(page, map, 2, 5);
@@ -29,7 +27,7 @@ fn find(page: &mut Page, map: &AddressMap) {
     let at = Address::root(Root::Row, 2);
     let (index, address) = (map.row_index(&at), map.row_at(5));
     page.line(format_args!("{at} is under {index:?}, and 5 is of {address:?}"));
-    page.line(format_args!("{} rows: {:?}", map.row_count(), map.nth_row(0)));
+    page.line(format_args!("{} rows", map.row_count()));
     for entry in map.rows() {
         page.line(format_args!("{} under {}", entry.0, entry.1));
     }

@@ -1,0 +1,6 @@
+pub mod ItemAddresses
+pub mod Forks
+pub mod Gaps
+pub mod ItemLists
+pub mod ItemsLeft
+pub mod CountLaws
