@@ -6,8 +6,8 @@ use Rattle.std.proofs.lemmas.Option.{none-some, same_Some}
 use Rattle.std.proofs.lemmas.Bool.{eqb-true, ne_eqb}
 use Rattle.std.specs.FinMap as finite
 use Rattle.std.specs.Ordering.{eq_by_cmp}
-use Rattle.aff_core.specs.Address.{Address, address_cmp, address_total, exact_addresses}
-use Rattle.aff_core.specs.KeyOrder.{address_order, key_eq-Decides, other_key, same_key, same_or_other}
+use Rattle.aff_core.specs.Address.{Address, address_cmp, address_total}
+use Rattle.aff_core.specs.KeyOrder.{address_order, other_key, same_key, same_or_other}
 use Rattle.address_map.specs.KeptPlaces.{AreInverse}
 use Rattle.address_map.specs.Places.{Indices, IsFree, IsOneToOne}
 
@@ -127,18 +127,3 @@ inverse_empty m back none nowhere = record {
       ∙ finite.get-empty address_cmp at) ∙ e));
   returns = λ at i e. absurd (none-some at (sym (nowhere i) ∙ e));
 }
-
--- an address that was put in and is taken out again leaves the map as it was
-pub taken_again : (m : Indices) (at : Address) (i : ℕ) → finite.get m at ≡ None
-    → finite.remove (finite.insert m at i) at ≡ m
-taken_again m at i free =
-    finite.same_map address_total exact_addresses (finite.remove (finite.insert m at i) at) m
-    (λ q. finite.get-remove address_total (finite.insert m at i) at q
-    ∙ ap (cond (eq_by_cmp address_cmp q at) None) (finite.get-insert address_total m at i q)
-    ∙ by q (eq_by_cmp address_cmp q at) refl)
-  where
-    by : (q : Address) (b : Bool) → eq_by_cmp address_cmp q at ≡ b
-        → cond b None (cond b (Some i) (finite.get m q)) ≡ finite.get m q
-    by q true is =
-        sym (ap (finite.get m) ((key_eq-Decides address_order q at).0 is) ∙ free)
-    by q false is = refl

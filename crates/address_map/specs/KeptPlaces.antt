@@ -1,10 +1,13 @@
--- How addresses and indices are kept: the indices by address, and beside them the addresses by index.
-use Rattle.std.specs.Prelude.{◌≡◌, ℕ, List, Option, Some, nat_eq}
+-- How addresses and indices are kept: entries item by item with room for more, and beside them the
+-- addresses by index.
+use Rattle.std.specs.Prelude.{◌≡◌, ℕ, List, Option, Some, min, nat_eq, vec_len}
 use Rattle.std.specs.FinMap as finite
 use Rattle.std.specs.Map.{lookup}
+use Rattle.indexmap.specs.IndexMap.{spare}
 use Rattle.aff_core.specs.Address.{Address}
 use Rattle.address_map.specs.Places.{Places}
 use Rattle.address_map.specs.declared.places.Places.TheInside.{Inside}
+use Rattle.address_map.specs.declared.reserved.Reserved.TheInside.{Inside as Reserved}
 
 -- one leads back where the other leads
 pub record AreInverse (there : Address → Option ℕ) (back : ℕ → Option Address) : Type 0 where
@@ -15,8 +18,18 @@ pub record AreInverse (there : Address → Option ℕ) (back : ℕ → Option Ad
 abbrev pub address_among : List (ℕ × Address) → ℕ → Option Address
 address_among es i = lookup (nat_eq i) es
 
+-- as many more fit as there are rooms, and places for items
+abbrev pub reserved_in : Reserved → Places
+reserved_in a = record {
+  indices = a.ordered.entries;
+  spare = min (vec_len a.rooms) a.ordered.spare;
+}
+
 abbrev pub places_in : Inside → Places
-places_in a = record { indices = a.by_address }
+places_in a = record {
+  indices = a.ordered.indices;
+  spare = min a.ordered.spare (spare a.by_index);
+}
 
 abbrev pub IsKept : Inside → Type 0
-IsKept a = AreInverse (finite.get a.by_address) (address_among a.by_index.entries)
+IsKept a = AreInverse (finite.get a.ordered.indices) (address_among a.by_index.entries)

@@ -1,9 +1,9 @@
 -- Leaf addresses with their solver indices.
---     Places           a finite map from addresses to indices
+--     Places           a finite map from addresses to indices, and how many more need no memory
 --     IsOneToOne IsFree IsAddressAt      the other direction
 --     addresses        the addresses in their order
 use Rattle.std.specs.Prelude.{◌≡◌, ◌≢◌, ◌↔◌, ℕ, List, Option, Some, refl}
-use Rattle.std.specs.Coded.{Coded, code_by, coded_ℕ}
+use Rattle.std.specs.Coded.{Coded, code_by, coded×, coded_ℕ}
 use Rattle.std.specs.FinMap as finite
 use Rattle.std.specs.FinMap.{FinMap}
 use Rattle.aff_core.specs.Address.{Address, address_cmp, address_code}
@@ -13,11 +13,12 @@ Indices = FinMap address_cmp ℕ
 
 pub record Places : Type 0 where
   pub indices : Indices
+  pub spare : ℕ
 
 abbrev pub places_code : Coded Places
 places_code =
-    code_by Indices (finite.code address_code coded_ℕ) (λ p. p.indices)
-    (λ m. record { indices = m }) (λ _. refl)
+    code_by (Indices × ℕ) (coded× (finite.code address_code coded_ℕ) coded_ℕ)
+    (λ p. (p.indices, p.spare)) (λ p. record { indices = p.0; spare = p.1 }) (λ _. refl)
 
 -- no address has the index
 abbrev pub IsFree : Indices → ℕ → Type 0

@@ -4,6 +4,7 @@
 mod map;
 mod notes;
 mod places;
+mod reserved;
 
 pub use aff_core::{Address, Aff};
 pub use item_map::{Entries, Items};

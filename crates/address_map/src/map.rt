@@ -1,5 +1,5 @@
 //! The map between leaf addresses and solver indices.
-ghost use Rattle.std.specs.Prelude.{◌≡◌, None, IfOk, OnOk, OnErr, false, filter, is_some, length};
+ghost use Rattle.std.specs.Prelude.{◌≡◌, ◌+◌, ◌<◌, ◌≤◌, None, IsOk, IfOk, OnOk, OnErr, false, filter, is_some, length};
 ghost use Rattle.std.specs.FinMap as finite;
 ghost use Rattle.std.specs.Option.{option_copied};
 ghost use Rattle.item_map.specs.ItemAddresses.{is_of};
@@ -17,11 +17,12 @@ use std::marker::Model;
 /// One-to-one maps between the addresses of leaves and the indices that a solver's model gave them,
 /// for variables and for rows, and each variable's expression over leaf variables.
 ///
-/// Contracts see finite maps from addresses. A look-up by index is a few probes of a table. All that
-/// is found by an address is kept item by item, so that a leaf is put, dropped and looked up in the
-/// time of a walk of its own item's leaves. `vars` and `rows` give all leaves with their indices,
-/// and `vars_of` and `rows_of` those of an item, so that none of them is looked up. Besides, it is
-/// noted which items mention a variable, and which variables are kept.
+/// Contracts see finite maps from addresses, and beside those of the leaves how many can still be
+/// put without memory. A look-up by index is a few probes of a table. All that is found by an address
+/// is kept item by item, so that a leaf is put, dropped and looked up in the time of a walk of its
+/// own item's leaves. `vars` and `rows` give all leaves with their indices, and `vars_of` and
+/// `rows_of` those of an item, so that none of them is looked up. Besides, it is noted which items
+/// mention a variable, and which variables are kept.
 #[derive(Debug, Drop)]
 pub struct AddressMap {
     vars: Places,
@@ -41,9 +42,9 @@ impl Model for AddressMap {
     ghost view = { λ a. record {
       vars = a.vars;
       rows = a.rows;
-      exprs = a.exprs;
+      exprs = a.exprs.entries;
       noted = a.notes;
-      kept = a.kept;
+      kept = a.kept.entries;
     } };
 }
 
@@ -63,6 +64,22 @@ impl AddressMap {
             notes: Notes::new(alloc),
             kept: ItemMap::new(alloc),
         }
+    }
+
+    /// Makes room, so that as many variables and as many rows can be put without memory.
+    pub fn reserve(&mut self, vars: usize, rows: usize) -> Result<(), Memory>
+        ensures vars { OnOk result (vars ≤ self.new.vars.spare) }
+        ensures rows { OnOk result (rows ≤ self.new.rows.spare) }
+        ensures same_vars { self.new.vars.indices ≡ self.old.vars.indices }
+        ensures same_rows { self.new.rows.indices ≡ self.old.rows.indices }
+        ensures exprs { self.new.exprs ≡ self.old.exprs }
+        ensures spare_vars { self.old.vars.spare ≤ self.new.vars.spare }
+        ensures spare_rows { self.old.rows.spare ≤ self.new.rows.spare }
+        ensures noted { self.new.noted ≡ self.old.noted }
+        ensures kept { self.new.kept ≡ self.old.kept }
+    {
+        self.vars.reserve(vars)?;
+        self.rows.reserve(rows)
     }
 
     /// The index of a leaf variable, and `None` where the address has none.
@@ -104,13 +121,16 @@ impl AddressMap {
         self.exprs.get(at)
     }
 
-    /// Puts a leaf variable with its index, neither of which may be there.
+    /// Puts a leaf variable with its index, neither of which may be there. With `spare` above 0 it
+    /// can't be refused.
     pub fn put_var(&mut self, at: Address, i: usize) -> Result<(), Memory>
         requires address_free { finite.get self.old.vars.indices at ≡ None }
         requires index_free { IsFree self.old.vars.indices i }
         ensures ok { OnOk result
             (self.new.vars.indices ≡ finite.insert self.old.vars.indices at i) }
         ensures err { OnErr result (self.new.vars.indices ≡ self.old.vars.indices) }
+        ensures succeeds { 0 < self.old.vars.spare → IsOk result }
+        ensures spare { self.old.vars.spare ≤ self.new.vars.spare + 1 }
         ensures rows { self.new.rows ≡ self.old.rows }
         ensures exprs { self.new.exprs ≡ self.old.exprs }
         ensures one_to_one { IsOneToOne self.new.vars.indices }
@@ -120,13 +140,16 @@ impl AddressMap {
         self.vars.put(at, i)
     }
 
-    /// Puts a leaf row with its index, neither of which may be there.
+    /// Puts a leaf row with its index, neither of which may be there. With `spare` above 0 it can't
+    /// be refused.
     pub fn put_row(&mut self, at: Address, i: usize) -> Result<(), Memory>
         requires address_free { finite.get self.old.rows.indices at ≡ None }
         requires index_free { IsFree self.old.rows.indices i }
         ensures ok { OnOk result
             (self.new.rows.indices ≡ finite.insert self.old.rows.indices at i) }
         ensures err { OnErr result (self.new.rows.indices ≡ self.old.rows.indices) }
+        ensures succeeds { 0 < self.old.rows.spare → IsOk result }
+        ensures spare { self.old.rows.spare ≤ self.new.rows.spare + 1 }
         ensures vars { self.new.vars ≡ self.old.vars }
         ensures exprs { self.new.exprs ≡ self.old.exprs }
         ensures one_to_one { IsOneToOne self.new.rows.indices }
@@ -140,6 +163,7 @@ impl AddressMap {
     pub fn drop_var(&mut self, at: &Address) -> Option<usize>
         ensures index { result ≡ finite.get self.old.vars.indices at.now }
         ensures removed { self.new.vars.indices ≡ finite.remove self.old.vars.indices at.now }
+        ensures spare { self.old.vars.spare ≤ self.new.vars.spare }
         ensures rows { self.new.rows ≡ self.old.rows }
         ensures exprs { self.new.exprs ≡ self.old.exprs }
         ensures noted { self.new.noted ≡ self.old.noted }
@@ -152,6 +176,7 @@ impl AddressMap {
     pub fn drop_row(&mut self, at: &Address) -> Option<usize>
         ensures index { result ≡ finite.get self.old.rows.indices at.now }
         ensures removed { self.new.rows.indices ≡ finite.remove self.old.rows.indices at.now }
+        ensures spare { self.old.rows.spare ≤ self.new.rows.spare }
         ensures vars { self.new.vars ≡ self.old.vars }
         ensures exprs { self.new.exprs ≡ self.old.exprs }
         ensures noted { self.new.noted ≡ self.old.noted }
@@ -351,6 +376,8 @@ impl AddressMap {
         ensures exprs { self.new.exprs ≡ finite.empty }
         ensures noted { self.new.noted ≡ finite.empty }
         ensures kept { self.new.kept ≡ finite.empty }
+        ensures spare_vars { self.old.vars.spare ≤ self.new.vars.spare }
+        ensures spare_rows { self.old.rows.spare ≤ self.new.rows.spare }
     {
         self.vars.clear();
         self.rows.clear();

@@ -27,7 +27,7 @@ impl Model for Notes {
 
     ghost coded = { noted_code };
 
-    ghost view = { λ a. a.items };
+    ghost view = { λ a. a.items.entries };
 }
 
 impl Notes {

@@ -1,12 +1,13 @@
 //! A one-to-one map between addresses and indices.
-ghost use Rattle.std.specs.Prelude.{◌≡◌, None, OnOk, OnErr, filter, length};
+ghost use Rattle.std.specs.Prelude.{◌≡◌, ◌+◌, ◌<◌, ◌≤◌, None, IsOk, OnOk, OnErr, filter, length};
 ghost use Rattle.std.specs.FinMap as finite;
 ghost use Rattle.item_map.specs.ItemAddresses.{is_of};
 ghost use Rattle.address_map.specs.Places.{IsAddressAt, IsFree, IsOneToOne, addresses};
 
+use crate::reserved::Reserved;
 use aff_core::Address;
 use indexmap::IndexMap;
-use item_map::{Entries, ItemMap, Items};
+use item_map::{Entries, Items};
 use lists::Memory;
 use std::alloc::Global;
 use std::marker::Model;
@@ -14,7 +15,7 @@ use std::marker::Model;
 /// Addresses with their indices, where no two addresses have one index.
 #[derive(Debug, Drop)]
 pub struct Places {
-    by_address: ItemMap<usize>,
+    ordered: Reserved,
     by_index: IndexMap<usize, Address>,
 }
 
@@ -37,9 +38,19 @@ impl Places {
         ensures { result.indices ≡ finite.empty }
     {
         Places {
-            by_address: ItemMap::new(alloc),
+            ordered: Reserved::new(alloc),
             by_index: IndexMap::new(alloc),
         }
+    }
+
+    pub fn reserve(&mut self, extra: usize) -> Result<(), Memory>
+        ensures ok { OnOk result (extra ≤ self.new.spare) }
+        ensures same { self.new.indices ≡ self.old.indices }
+        ensures spare { self.old.spare ≤ self.new.spare }
+    {
+        self.ordered.reserve(extra)?;
+        self.by_index.reserve(extra)?;
+        Ok(())
     }
 
     /// Puts an address in with its index, neither of which may be there.
@@ -48,36 +59,34 @@ impl Places {
         requires index_free { IsFree self.old.indices i }
         ensures ok { OnOk result (self.new.indices ≡ finite.insert self.old.indices at i) }
         ensures err { OnErr result (self.new.indices ≡ self.old.indices) }
+        ensures succeeds { 0 < self.old.spare → IsOk result }
+        ensures spare { self.old.spare ≤ self.new.spare + 1 }
         ensures one_to_one { IsOneToOne self.new.indices }
     {
-        if let Err(refused) = self.by_address.put_new(at, i) {
-            return Err(refused.1);
-        }
-        match self.by_index.insert(i, at) {
-            Ok(_before) => Ok(()),
-            Err(_refused) => {
-                self.by_address.remove(&at);
-                Err(Memory)
-            }
-        }
+        self.ordered.reserve(1)?;
+        self.by_index.insert(i, at)?;
+        self.ordered.insert(at, i);
+        Ok(())
     }
 
     /// Takes an address out, and answers its index.
     pub fn remove(&mut self, at: &Address) -> Option<usize>
         ensures index { result ≡ finite.get self.old.indices at.now }
         ensures removed { self.new.indices ≡ finite.remove self.old.indices at.now }
+        ensures spare { self.old.spare ≤ self.new.spare }
         ensures one_to_one { IsOneToOne self.new.indices }
     {
-        let i = self.by_address.remove(at)?;
+        let i = self.ordered.remove(at)?;
         self.by_index.swap_remove(&i);
         Some(i)
     }
 
-    /// Takes all out.
+    /// Takes all out, and keeps the room.
     pub fn clear(&mut self)
-        ensures { self.new.indices ≡ finite.empty }
+        ensures emptied { self.new.indices ≡ finite.empty }
+        ensures spare { self.old.spare ≤ self.new.spare }
     {
-        self.by_address.clear();
+        self.ordered.clear();
         self.by_index.clear();
     }
 
@@ -85,7 +94,7 @@ impl Places {
         ensures value { result ≡ finite.get self.now.indices at.now }
         ensures one_to_one { IsOneToOne self.now.indices }
     {
-        self.by_address.get(at).copied()
+        self.ordered.get(at)
     }
 
     pub fn address(&self, i: usize) -> Option<Address>
@@ -98,20 +107,20 @@ impl Places {
     pub fn len(&self) -> usize
         ensures { result ≡ length (addresses self.now.indices) }
     {
-        self.by_address.len()
+        self.ordered.len()
     }
 
     /// The addresses in their order, each with its index.
     pub fn iter(&self) -> Entries<'_, usize>
         ensures { result ≡ finite.entries self.now.indices }
     {
-        self.by_address.iter()
+        self.ordered.iter()
     }
 
     /// The addresses at and below that of an item of the model, each with its index.
     pub fn of_item(&self, item: &Address) -> Items<'_, (Address, usize)>
         ensures { result ≡ filter (λ e. is_of item.now e.0) (finite.entries self.now.indices) }
     {
-        self.by_address.of_item(item)
+        self.ordered.of_item(item)
     }
 }

@@ -26,7 +26,7 @@ impl Model for KeptMap {
 
     ghost coded = { kept_code };
 
-    ghost view = { λ a. a.items };
+    ghost view = { λ a. a.items.entries };
 }
 
 impl KeptMap {

@@ -3,8 +3,10 @@ use address_map::AddressMap;
 use aff_core::{Address, Root};
 use test_support::Page;
 
-/// Puts three rows and drops the last.
+/// Makes room for three rows, puts them and drops the last.
 pub fn show(page: &mut Page, map: &mut AddressMap) {
+    let room = map.reserve(0, 3);
+    page.line(format_args!("room for rows: {room:?}"));
     put(page, map, 0, 0);
     put(page, map, 1, 1);
     put(page, map, 2, 5);

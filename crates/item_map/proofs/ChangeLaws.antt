@@ -1,5 +1,5 @@
 -- One item's entries change: what that leaves of the lists, and of the map.
-use Rattle.std.specs.Prelude.{◌≡◌, ◌≢◌, ◌+◌, ◌-◌, ◌<◌, ◌≤◌, ℕ, Bool, true, false, cond, List, [], ◌++◌, All, IfSome, IsNone, IsSome, Option, Some, None, is_some, length, nat_lt, suc, zero, refl}
+use Rattle.std.specs.Prelude.{◌≡◌, ◌≢◌, ◌+◌, ◌-◌, ◌<◌, ◌≤◌, ◌^◌, ℕ, Bool, true, false, cond, List, [], ◌++◌, All, IfSome, IsNone, IsSome, Option, Some, None, is_some, length, nat_lt, suc, zero, refl}
 use Rattle.std.proofs.Common.{arith, inl, inr, sym, ap, subst, true≢false, ◌∙◌}
 use Rattle.std.proofs.lemmas.Bool.{cases_eq}
 use Rattle.std.proofs.lemmas.List.Elements.{All-append, All-cons, All-filter, All-nil}
@@ -18,7 +18,7 @@ use Rattle.numbered_list.specs.Numbered.{IsAt, Rise, set_at}
 use Rattle.numbered_list.specs.Laws.{Rise-nil}
 use Rattle.numbered_list.specs.SetLaws.{Rise-set_at, find-set_at_other, find-set_at_same, length-set_at}
 use Rattle.item_map.specs.ItemAddresses.{is_of, item_of}
-use Rattle.item_map.specs.ItemLists.{AreInOrder, AreOf, AreOfItem, HasNone, HasRoom, IsChangedAt, IsItemWith, IsKept, IsRoomier, IsSetAt, entries_in, item_number, items_of, list_of, map_in, of_items, own, own_entries}
+use Rattle.item_map.specs.ItemLists.{AreInOrder, AreOf, AreOfItem, HasNone, HasRoom, HaveRoom, HaveRoomBeside, IsChangedAt, IsEmptied, IsItemWith, IsKept, IsRoomier, IsSetAt, entries_in, item_number, items_of, list_of, map_in, of_items, own, own_entries}
 use Rattle.item_map.specs.declared.item_entries.ItemEntries.{ItemEntries}
 use Rattle.item_map.specs.declared.roots.ByRoot.{ByRoot}
 use Rattle.item_map.proofs.RiseLaws.{IsOwn}
@@ -67,6 +67,21 @@ module _ {V : Type 0} where
     pub roomier_map : map_in b ≡ map_in a
     roomier_map = λ i. finite.from_sorted (of_items (more.same Variable i
         ++ (more.same Group i ++ (more.same Row i ++ more.same Objective i))))
+
+    pub roomier_room : (spare : ℕ) → HaveRoom a spare → HaveRoom b spare
+    roomier_room spare h root =
+        omega (arith, ap length (more.same root), more.room root, h root)
+
+    pub roomier_kept : (nothing : FinMap address_cmp V) (len spare new : ℕ)
+        → IsKept a nothing len spare → HaveRoom b new → len + new < 2 ^ 64
+        → IsKept b nothing len new
+    roomier_kept nothing len spare new h room fits = record {
+      order = roomier_order h.order;
+      empty = h.empty;
+      count = h.count ∙ sym (ap finite.len roomier_map);
+      room = room;
+      fits = fits;
+    }
 
   -- ---- another item at a number
 
@@ -297,6 +312,66 @@ module _ {V : Type 0} where
   put_changed at a b m new with set =
       subst (λ m. IsChangedAt at m a b) with.entries (set_changed at a b new set with.at)
 
+  -- ---- how many more items fit
+
+  at_most_one : (o : Option (ItemEntries V)) → length (option_to_list o) ≤ 1
+  at_most_one None = omega arith
+  at_most_one (Some item) = omega arith
+
+  module _ (a b : ByRoot V) (root : Root) (n more : ℕ) (h : AreInOrder a) where
+    pub taken_room : IsSetAt root n None a b → HaveRoom a more
+        → HaveRoomBeside b root
+        (more + length (option_to_list (numbered.find item_number n (items_of a root)))) more
+    taken_room set room = record {
+      here = omega (
+        arith,
+        ap length set.here,
+        set.room,
+        room root,
+        length-set_at item_number n None (items_of a root) (h.each root).rise,
+      );
+      others = λ r ne. subst (λ (l : Listed (ItemEntries V)). length l.items + more ≤ l.room)
+          (sym (set.others r ne)) (room r);
+    }
+
+    pub put_room : (new : Option (ItemEntries V)) → IsSetAt root n new a b
+        → HaveRoomBeside a root (more + 1) more → HaveRoom b more
+    put_room new set room r =
+        same_or_not r root (length (items_of b r) + more ≤ (list_of b r).room)
+        (λ same. subst (λ s. length (items_of b s) + more ≤ (list_of b s).room) (sym same)
+        (omega (
+          arith,
+          ap length set.here,
+          set.room,
+          room.here,
+          at_most_one new,
+          length-set_at item_number n new (items_of a root) (h.each root).rise,
+        )))
+        (λ other. subst (λ (l : Listed (ItemEntries V)). length l.items + more ≤ l.room)
+        (sym (set.others r other)) (room.others r other))
+
+  -- an item that was there is put back
+  pub put_again : (at : Address) (a b : ByRoot V) (more : ℕ)
+      → HaveRoomBeside b at.root (more + length (option_to_list (own a at))) more → AreInOrder a
+      → IsSome (finite.get (map_in a) at) → HaveRoomBeside b at.root (more + 1) more
+  put_again at a b more room h some = by (own a at) refl
+    where
+      by : (o : Option (ItemEntries V)) → own a at ≡ o → HaveRoomBeside b at.root (more + 1) more
+      by None is =
+          absurd (true≢false (sym some ∙ ap is_some (got a h at
+          ∙ ap (λ o. finite.get (entries_in o) at) is ∙ finite.get-empty {X = V} address_cmp at)))
+      by (Some item) is =
+          subst (λ o. HaveRoomBeside b at.root (more + length (option_to_list o)) more) is room
+
+  -- one more is put
+  pub put_one : (at : Address) (a b c : ByRoot V) (more : ℕ) → 0 < more
+      → HaveRoomBeside b at.root (more + length (option_to_list (own a at))) more
+      → ((s : ℕ) → HaveRoomBeside b at.root (s + 1) s → HaveRoom c s) → HaveRoom c (more - 1)
+  put_one at a b c more some room then = then (more - 1) (record {
+    here = omega (arith, room.here, some);
+    others = λ r ne. omega (arith, room.others r ne, some);
+  })
+
   -- ---- nothing
 
   pub none_order : (roots : ByRoot V) → HasNone roots → AreInOrder roots
@@ -319,13 +394,24 @@ module _ {V : Type 0} where
           finite.same_entries_map (finite.from_sorted []) finite.empty
           (finite.entries-from_sorted address_cmp [] tt ∙ sym (entries_empty address_cmp))
 
-  pub none_kept : (roots : ByRoot V) (nothing : FinMap address_cmp V) → HasNone roots
-      → nothing ≡ finite.empty → IsKept roots nothing 0
-  none_kept roots nothing none empty = record {
+  pub none_room : (roots : ByRoot V) → HasNone roots → HaveRoom roots 0
+  none_room roots none root = omega (arith, ap length (none root))
+
+  pub none_kept : (roots : ByRoot V) (nothing : FinMap address_cmp V) (spare : ℕ) → HasNone roots
+      → nothing ≡ finite.empty → HaveRoom roots spare → spare < 2 ^ 64
+      → IsKept roots nothing 0 spare
+  none_kept roots nothing spare none empty room fits = record {
     order = none_order roots none;
     empty = empty;
     count = sym (ap finite.len (none_map roots none) ∙ finite.len-empty address_cmp V);
+    room = room;
+    fits = fits;
   }
+
+  pub emptied_room : (a b : ByRoot V) (spare : ℕ) → IsEmptied a b → HaveRoom a spare
+      → HaveRoom b spare
+  emptied_room a b spare emptied room root =
+      omega (arith, ap length (emptied.none root), emptied.room root, room root)
 
   -- ---- counts
 

@@ -6,3 +6,4 @@ mod OwnLaws
 mod ChangeLaws
 mod RootLaws
 mod LeftLaws
+mod EndLaws

@@ -5,7 +5,8 @@
 --     AreInOrder       in each list numbers rise, and each address is of its item
 --     IsSetAt          another item stands at a number, or none
 --     IsChangedAt      the item of an address has these entries, each other the same as before
-use Rattle.std.specs.Prelude.{◌≡◌, ◌≢◌, ℕ, ◌<◌, ◌≤◌, List, [], ◌++◌, Option, Some, None, All, IsNone, IsSome, length}
+--     HaveRoom         some more items fit, of whatever root
+use Rattle.std.specs.Prelude.{◌≡◌, ◌≢◌, ℕ, ◌+◌, ◌<◌, ◌≤◌, ◌^◌, List, [], ◌++◌, Option, Some, None, All, IsNone, IsSome, length}
 use Rattle.std.specs.FinMap as finite
 use Rattle.std.specs.FinMap.{FinMap}
 use Rattle.std.specs.List.{flat_map}
@@ -68,14 +69,38 @@ module _ {V : Type 0} where
   pub record AreInOrder (roots : ByRoot V) : Type 0 where
     pub each : (root : Root) → AreOf root (list_of roots root)
 
-  -- what is kept beside the items: a map of nothing, and the count of all entries
-  pub record IsKept (roots : ByRoot V) (nothing : FinMap address_cmp V) (len : ℕ) : Type 0 where
+  -- as many more items fit, of whatever root
+  abbrev pub HaveRoom : ByRoot V → ℕ → Type 0
+  HaveRoom roots more =
+      (root : Root) → length (items_of roots root) + more ≤ (list_of roots root).room
+
+  -- as many more fit of one root, and as many of each other
+  pub record HaveRoomBeside (roots : ByRoot V) (root : Root) (here_more more : ℕ) : Type 0 where
+    pub here : length (items_of roots root) + here_more ≤ (list_of roots root).room
+    pub others :
+        (r : Root) → r ≢ root → length (items_of roots r) + more ≤ (list_of roots r).room
+
+  -- what is kept beside the items: a map of nothing, the count of all entries, and how many more
+  -- entries need no place for an item
+  pub record IsKept (roots : ByRoot V) (nothing : FinMap address_cmp V) (len spare : ℕ) : Type 0 where
     pub order : AreInOrder roots
     pub empty : nothing ≡ finite.empty
     pub count : len ≡ finite.len (map_in roots)
+    pub room : HaveRoom roots spare
+    pub fits : len + spare < 2 ^ 64
 
   abbrev pub HasNone : ByRoot V → Type 0
   HasNone roots = (root : Root) → items_of roots root ≡ []
+
+  -- all items are gone, and their room stays
+  pub record IsEmptied (before after : ByRoot V) : Type 0 where
+    pub none : HasNone after
+    pub room : (root : Root) → (list_of before root).room ≤ (list_of after root).room
+
+  -- no number is below the first or above the last
+  pub record AreBetween (first last : ℕ) (items : List (ItemEntries V)) : Type 0 where
+    pub from : All (λ item. first ≤ item.number) items
+    pub to : All (λ item. item.number ≤ last) items
 
   -- an item can be put at the number, if none stands there, without memory
   abbrev pub HasRoom : ByRoot V → Root → ℕ → Type 0

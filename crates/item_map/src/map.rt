@@ -1,12 +1,12 @@
 //! Finite maps from addresses, kept item by item.
-ghost use Rattle.std.specs.Prelude.{◌≡◌, None, IfErr, IfOk, IsSome, OnErr, OnOk, filter, find, length};
+ghost use Rattle.std.specs.Prelude.{◌≡◌, ◌+◌, ◌<◌, ◌≤◌, None, IfErr, IfOk, IsOk, IsSome, OnErr, OnOk, filter, find, length};
 ghost use Rattle.std.specs.FinMap as finite;
 ghost use Rattle.std.specs.Option.{option_copied};
 ghost use Rattle.item_map.specs.ItemAddresses.{is_of};
 
 use crate::entries::{Entries, ItemsLeft};
 use crate::items::Items;
-use crate::ordered::Ordered;
+use crate::ordered::{Ordered, Room};
 use crate::roots::ByRoot;
 use aff_core::Address;
 use lists::Memory;
@@ -20,6 +20,9 @@ use std::marker::Model;
 /// An item that was emptied keeps its place, so that entries put there again move nothing. Places
 /// are given up where most are empty and an item of a new number comes, so they cost no more than
 /// the items that came.
+///
+/// Contracts see the entries, and beside them how many can still be inserted without memory but
+/// their own room.
 #[derive(Debug, Drop)]
 pub struct ItemMap<V> {
     alloc: Global,
@@ -27,45 +30,47 @@ pub struct ItemMap<V> {
     // the entries of an item that isn't there
     nothing: Ordered<V>,
     len: usize,
+    // for each root there are places for as many items more
+    spare: usize,
 }
 
 impl<V> Model for ItemMap<V> {
-    ghost use Rattle.std.specs.FinMap as finite;
-    ghost use Rattle.aff_core.specs.Address.{address_cmp, address_code};
     ghost use Rattle.item_map.specs.ItemLists.{IsKept, map_in};
+    ghost use Rattle.item_map.specs.ItemMap.{ItemMap, item_map_code};
 
-    ghost Value = { finite.FinMap address_cmp V };
+    ghost Value = { ItemMap V };
 
-    ghost coded = { finite.code address_code V.code };
+    ghost coded = { item_map_code V.code };
 
-    ghost view = { λ a. map_in a.roots };
+    ghost view = { λ a. record { entries = map_in a.roots; spare = a.spare } };
 
-    ghost invariant = { λ a. IsKept a.roots a.nothing a.len };
+    ghost invariant = { λ a. IsKept a.roots a.nothing a.len a.spare };
 }
 
 impl<V> ItemMap<V> {
     /// No addresses, which takes no memory.
     pub fn new(alloc: Global) -> ItemMap<V>
-        ensures { result ≡ finite.empty }
+        ensures { result.entries ≡ finite.empty }
     {
         ItemMap {
             alloc,
             roots: ByRoot::new(alloc),
             nothing: Ordered::new(),
             len: 0,
+            spare: 0,
         }
     }
 
     /// How many addresses there are.
     pub fn len(&self) -> usize
-        ensures { result ≡ length (finite.keys self.now) }
+        ensures { result ≡ length (finite.keys self.now.entries) }
     {
         self.len
     }
 
     /// The value at an address, and `None` where it isn't there.
     pub fn get(&self, at: &Address) -> Option<&V>
-        ensures { option_copied result ≡ finite.get self.now at.now }
+        ensures { option_copied result ≡ finite.get self.now.entries at.now }
     {
         match self.roots.own(at) {
             Some(entries) => entries.get(at),
@@ -75,7 +80,7 @@ impl<V> ItemMap<V> {
 
     /// The addresses in their order, each with its value.
     pub fn iter(&self) -> Entries<'_, V>
-        ensures { result ≡ finite.entries self.now }
+        ensures { result ≡ finite.entries self.now.entries }
     {
         let left = ItemsLeft {
             variables: self.roots.variables.items.iter(),
@@ -88,7 +93,7 @@ impl<V> ItemMap<V> {
 
     /// The addresses at and below that of an item of the model, in their order, each with its value.
     pub fn of_item(&self, item: &Address) -> Items<'_, (Address, V)>
-        ensures { result ≡ filter (λ e. is_of item.now e.0) (finite.entries self.now) }
+        ensures { result ≡ filter (λ e. is_of item.now e.0) (finite.entries self.now.entries) }
     {
         if item.depth() > 0 {
             return self.nothing.iter();
@@ -101,7 +106,7 @@ impl<V> ItemMap<V> {
 
     /// The first address at or below that of an item of the model, and `None` where there is none.
     pub fn first_of(&self, item: &Address) -> Option<Address>
-        ensures { result ≡ find (is_of item.now) (finite.keys self.now) }
+        ensures { result ≡ find (is_of item.now) (finite.keys self.now.entries) }
     {
         match self.of_item(item).next() {
             Some(entry) => Some(entry.0),
@@ -114,9 +119,9 @@ impl<V: Drop> ItemMap<V> {
     /// Puts a value at an address, and answers the one before. Where memory runs out it hands the
     /// value back, and nothing is changed.
     pub fn put(&mut self, at: Address, value: V) -> Result<Option<V>, (V, Memory)>
-        ensures before { IfOk result (λ before. before ≡ finite.get self.old at) }
-        ensures ok { OnOk result (self.new ≡ finite.insert self.old at value) }
-        ensures err { OnErr result (self.new ≡ self.old) }
+        ensures before { IfOk result (λ before. before ≡ finite.get self.old.entries at) }
+        ensures ok { OnOk result (self.new.entries ≡ finite.insert self.old.entries at value) }
+        ensures err { OnErr result (self.new.entries ≡ self.old.entries) }
         ensures handed_back { IfErr result (λ e. e.0 ≡ value) }
     {
         match self.get(&at) {
@@ -131,33 +136,63 @@ impl<V: Drop> ItemMap<V> {
     /// Puts a value at an address that isn't there. Where memory runs out it hands the value back,
     /// and nothing is changed.
     pub fn put_new(&mut self, at: Address, value: V) -> Result<(), (V, Memory)>
-        requires free { finite.get self.old at ≡ None }
-        ensures ok { OnOk result (self.new ≡ finite.insert self.old at value) }
-        ensures err { OnErr result (self.new ≡ self.old) }
+        requires free { finite.get self.old.entries at ≡ None }
+        ensures ok { OnOk result (self.new.entries ≡ finite.insert self.old.entries at value) }
+        ensures err { OnErr result (self.new.entries ≡ self.old.entries) }
         ensures handed_back { IfErr result (λ e. e.0 ≡ value) }
     {
-        if self.len == usize::MAX {
-            return Err((value, Memory));
-        }
-        if let Err(memory) = self.roots.reserve(&at) {
+        if let Err(memory) = self.reserve(1) {
             return Err((value, memory));
         }
         let room = match Ordered::room(self.alloc, at, value) {
             Ok(room) => room,
             Err(refused) => return Err(refused),
         };
+        self.insert(room);
+        Ok(())
+    }
+
+    /// Makes places for items, so that as many addresses can be inserted without memory but their
+    /// own room.
+    pub fn reserve(&mut self, more: usize) -> Result<(), Memory>
+        ensures ok { OnOk result (more ≤ self.new.spare) }
+        ensures succeeds { more ≤ self.old.spare → IsOk result }
+        ensures same { self.new.entries ≡ self.old.entries }
+        ensures spare { self.old.spare ≤ self.new.spare }
+    {
+        if more <= self.spare {
+            return Ok(());
+        }
+        if usize::MAX - self.len < more {
+            return Err(Memory);
+        }
+        self.roots.reserve(more)?;
+        self.spare = more;
+        Ok(())
+    }
+
+    /// Puts an address in that isn't there, with its value, in the room that they are in.
+    pub fn insert(&mut self, room: Room<V>)
+        requires free { finite.get self.old.entries room.value.item.0 ≡ None }
+        requires spare { 0 < self.old.spare }
+        ensures put { self.new.entries
+            ≡ finite.insert self.old.entries room.value.item.0 room.value.item.1 }
+        ensures spare { self.old.spare ≤ self.new.spare + 1 }
+    {
+        let at = room.item.0;
         let mut entries = self.roots.take(&at);
         entries.insert(room);
         self.roots.put(&at, entries);
         self.len += 1;
-        Ok(())
+        self.spare -= 1;
     }
 
     /// Puts a value in the place of the one at its address, and answers that.
     pub fn replace(&mut self, at: &Address, value: V) -> V
-        requires { IsSome (finite.get self.old at.now) }
-        ensures before { Some result ≡ finite.get self.old at.now }
-        ensures after { self.new ≡ finite.insert self.old at.now value }
+        requires { IsSome (finite.get self.old.entries at.now) }
+        ensures before { Some result ≡ finite.get self.old.entries at.now }
+        ensures after { self.new.entries ≡ finite.insert self.old.entries at.now value }
+        ensures spare { self.new.spare ≡ self.old.spare }
     {
         let mut entries = self.roots.take(at);
         let before = entries.replace(at, value);
@@ -167,8 +202,9 @@ impl<V: Drop> ItemMap<V> {
 
     /// Takes an address out, and answers its value, or `None` where it wasn't there.
     pub fn remove(&mut self, at: &Address) -> Option<V>
-        ensures value { result ≡ finite.get self.old at.now }
-        ensures removed { self.new ≡ finite.remove self.old at.now }
+        ensures value { result ≡ finite.get self.old.entries at.now }
+        ensures removed { self.new.entries ≡ finite.remove self.old.entries at.now }
+        ensures spare { self.new.spare ≡ self.old.spare }
     {
         let Some(_there) = self.get(at) else {
             return None;
@@ -180,11 +216,16 @@ impl<V: Drop> ItemMap<V> {
         value
     }
 
-    /// Takes all out.
+    /// Takes all out. Places that were reserved stay.
     pub fn clear(&mut self)
-        ensures { self.new ≡ finite.empty }
+        ensures emptied { self.new.entries ≡ finite.empty }
+        ensures spare { self.new.spare ≡ self.old.spare }
     {
-        self.roots = ByRoot::new(self.alloc);
         self.len = 0;
+        if self.spare == 0 {
+            self.roots = ByRoot::new(self.alloc);
+            return;
+        }
+        self.roots.clear();
     }
 }

@@ -79,6 +79,14 @@ impl<V: Drop> Ordered<V> {
         }
     }
 
+    /// The room with another address and value in it.
+    pub fn filled(mut room: Room<V>, at: Address, value: V) -> Room<V>
+        ensures { result.value.item ≡ (at, value) }
+    {
+        room.item = (at, value);
+        room
+    }
+
     /// Puts an address in with its value, in the room that they are in.
     pub fn insert(&mut self, room: Room<V>)
         requires free { finite.get self.old room.value.item.0 ≡ None }

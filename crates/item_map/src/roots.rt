@@ -1,10 +1,10 @@
 //! The items of each root, and the entries of one item taken out and put back.
-ghost use Rattle.std.specs.Prelude.{◌≡◌, IsSome, OnOk};
+ghost use Rattle.std.specs.Prelude.{◌≡◌, ◌+◌, ℕ, IsSome, OnOk, length};
 ghost use Rattle.std.specs.FinMap as finite;
-ghost use Rattle.std.specs.Option.{option_copied, option_map};
+ghost use Rattle.std.specs.Option.{option_copied, option_map, option_to_list};
 ghost use Rattle.numbered_list.specs.Numbered.{IsAt, find};
 ghost use Rattle.item_map.specs.ItemAddresses.{item_of};
-ghost use Rattle.item_map.specs.ItemLists.{AreInOrder, AreOfItem, HasNone, HasRoom, IsChangedAt, IsItemWith, IsRoomier, IsSetAt, item_number, items_of, list_of, own, own_entries};
+ghost use Rattle.item_map.specs.ItemLists.{AreInOrder, AreOfItem, HasNone, HasRoom, HaveRoom, HaveRoomBeside, IsChangedAt, IsEmptied, IsItemWith, IsRoomier, IsSetAt, item_number, items_of, list_of, own, own_entries};
 
 use crate::item_entries::ItemEntries;
 use crate::one_root::OneRoot;
@@ -58,18 +58,15 @@ impl<V> ByRoot<V> {
 }
 
 impl<V: Drop> ByRoot<V> {
-    // Makes room for the item that an address is at or below.
-    pub(crate) fn reserve(&mut self, at: &Address) -> Result<(), Memory>
-        ensures ok { OnOk result (HasRoom self.new at.now.root at.now.number) }
+    // Makes room for more items of each root.
+    pub(crate) fn reserve(&mut self, more: usize) -> Result<(), Memory>
+        ensures ok { OnOk result (HaveRoom self.new more) }
         ensures same { IsRoomier self.old self.new }
     {
-        let number = at.number();
-        match at.kind() {
-            Root::Variable => self.variables.reserve(number),
-            Root::Group => self.groups.reserve(number),
-            Root::Row => self.rows.reserve(number),
-            Root::Objective => self.objectives.reserve(number),
-        }
+        self.variables.reserve(more)?;
+        self.groups.reserve(more)?;
+        self.rows.reserve(more)?;
+        self.objectives.reserve(more)
     }
 
     // Takes the entries out of the item that an address is at or below, where room stays for them.
@@ -80,6 +77,8 @@ impl<V: Drop> ByRoot<V> {
         ensures taken { IsChangedAt at.now finite.empty self.old self.new }
         ensures order { AreInOrder self.new }
         ensures room { HasRoom self.new at.now.root at.now.number }
+        ensures spare { (more : ℕ) → HaveRoom self.old more → HaveRoomBeside self.new at.now.root
+            (more + length (option_to_list (own self.old at.now))) more }
     {
         match self.exchange(at.kind(), at.number(), None) {
             Some(item) => item.entries,
@@ -94,9 +93,21 @@ impl<V: Drop> ByRoot<V> {
         requires own { AreOfItem (item_of at.now) entries }
         ensures put { IsChangedAt at.now entries self.old self.new }
         ensures order { AreInOrder self.new }
+        ensures spare { (more : ℕ) → HaveRoomBeside self.old at.now.root (more + 1) more
+            → HaveRoom self.new more }
     {
         let item = item_with(at.number(), entries);
         drop(self.exchange(at.kind(), at.number(), item));
+    }
+
+    // Takes all items out, whose room stays.
+    pub(crate) fn clear(&mut self)
+        ensures { IsEmptied self.old self.new }
+    {
+        self.variables.clear();
+        self.groups.clear();
+        self.rows.clear();
+        self.objectives.clear();
     }
 
     // Puts an item at a number, or none, and gives back what stood there.
@@ -112,10 +123,10 @@ impl<V: Drop> ByRoot<V> {
         ensures set { IsSetAt root number new self.old self.new }
     {
         match root {
-            Root::Variable => self.variables.items.exchange(number, new),
-            Root::Group => self.groups.items.exchange(number, new),
-            Root::Row => self.rows.items.exchange(number, new),
-            Root::Objective => self.objectives.items.exchange(number, new),
+            Root::Variable => self.variables.exchange(number, new),
+            Root::Group => self.groups.exchange(number, new),
+            Root::Row => self.rows.exchange(number, new),
+            Root::Objective => self.objectives.exchange(number, new),
         }
     }
 }

@@ -6,7 +6,7 @@ use Rattle.address_map.proofs.NotedLaws.{found_noted, put_noted, still_there}
 use Rattle.address_map.proofs.notes.Notes.take_items.Goals as goal
 use Rattle.address_map.proofs.notes.Notes.take_items.Goals.{After-replace}
 
-now : (c : After-replace) → c.replace.new.self
+now : (c : After-replace) → c.replace.new.self.entries
     ≡ finite.insert c.args.self.now c.args.var.now finite.empty
 now c =
     c.replace.ensures.after

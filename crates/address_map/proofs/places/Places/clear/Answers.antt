@@ -5,5 +5,5 @@ use Rattle.address_map.proofs.places.Places.clear.Goals as goal
 
 pub invariant_of-self : goal.invariant_of-self
 invariant_of-self c =
-    inverse_empty _ _ c.clear.ensures (λ i. ap (λ es. address_among es i)
+    inverse_empty _ _ c.clear.ensures.emptied (λ i. ap (λ es. address_among es i)
     c.clear-2.ensures.empty)

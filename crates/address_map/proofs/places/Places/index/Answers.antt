@@ -7,5 +7,5 @@ use Rattle.address_map.proofs.places.Places.index.Goals as goal
 pub returns-clause-one_to_one : goal.returns-clause-one_to_one
 returns-clause-one_to_one c =
     subst IsOneToOne (ap (λ p. p.indices) c.self.view_is)
-    (one_to_one c.self.inside.by_address (address_among c.self.inside.by_index.entries)
+    (one_to_one c.self.inside.ordered.indices (address_among c.self.inside.by_index.entries)
     c.self.invariant)

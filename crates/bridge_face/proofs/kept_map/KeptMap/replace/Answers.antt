@@ -31,7 +31,7 @@ pub returns-clause-new : goal.returns-clause-new
 returns-clause-new c =
     let there = found (goal.at.returns-clause-new c).After-replace in
     let P : Option KeptItem → Type 0 =
-    λ o. IfSome o (λ kept. c.replace.new.self
+    λ o. IfSome o (λ kept. c.replace.new.self.entries
     ≡ finite.insert c.args.self.now c.args.item.at (kept_item c.args.item kept)) in
     subst P (sym there)
     (c.replace.ensures.after

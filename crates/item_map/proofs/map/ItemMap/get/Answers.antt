@@ -14,7 +14,7 @@ returns-in-Some g c =
     ∙ ap (λ m. finite.get m at) (found_is (own roots at) c.in-Some.entries.now
     (sym (ap option_copied c.in-Some.is) ∙ c.own.ensures))
     ∙ sym (got roots c.self.invariant.order at)
-    ∙ ap (λ m. finite.get m at) c.self.view_is
+    ∙ ap (λ m. finite.get m.entries at) c.self.view_is
 
 pub returns-in-None : goal.returns-in-None
 returns-in-None g c =
@@ -24,4 +24,4 @@ returns-in-None g c =
     ∙ ap (λ m. finite.get m at) (sym (missing_is (own roots at)
     (sym (ap option_copied c.in-None.is) ∙ c.own.ensures)))
     ∙ sym (got roots c.self.invariant.order at)
-    ∙ ap (λ m. finite.get m at) c.self.view_is
+    ∙ ap (λ m. finite.get m.entries at) c.self.view_is

@@ -14,4 +14,4 @@ returns g c =
     ++ of_items (c.iter.ensures.items i ++ (c.iter-2.ensures.items i
     ++ (c.iter-3.ensures.items i ++ c.iter-4.ensures.items i))))
     ∙ sym (entries_are c.self.inside.roots c.self.invariant.order)
-    ∙ ap finite.entries c.self.view_is
+    ∙ ap (λ m. finite.entries m.entries) c.self.view_is

@@ -5,4 +5,5 @@ use Rattle.item_map.proofs.map.ItemMap.len.Goals as goal
 
 pub returns : goal.returns
 returns g c =
-    c.self.invariant.count ∙ ap finite.len c.self.view_is ∙ sym (counted c.args.self.now)
+    c.self.invariant.count ∙ ap (λ m. finite.len m.entries) c.self.view_is
+    ∙ sym (counted c.args.self.now.entries)

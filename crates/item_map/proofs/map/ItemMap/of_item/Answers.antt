@@ -12,7 +12,7 @@ use Rattle.item_map.proofs.map.ItemMap.of_item.Goals as goal
 pub returns-then-depth-gt0 : goal.returns-then-depth-gt0
 returns-then-depth-gt0 g c =
     c.iter.ensures ∙ ap finite.entries c.self.invariant.empty ∙ entries_empty address_cmp
-    ∙ sym (none_below c.args.item.now (finite.entries c.args.self.now)
+    ∙ sym (none_below c.args.item.now (finite.entries c.args.self.now.entries)
     (omega (arith, c.depth.ensures.count, c.if-depth-gt0.true)))
 
 pub returns-in-Some : goal.returns-in-Some
@@ -25,7 +25,7 @@ returns-in-Some g c =
     ∙ ap finite.entries (found_is (own roots item) c.in-Some.entries.now
     (sym (ap option_copied c.in-Some.is) ∙ c.own.ensures))
     ∙ sym (of_item roots c.self.invariant.order item flat)
-    ∙ ap (λ m. those_of item (finite.entries m)) c.self.view_is
+    ∙ ap (λ m. those_of item (finite.entries m.entries)) c.self.view_is
 
 pub returns-in-None : goal.returns-in-None
 returns-in-None g c =
@@ -37,4 +37,4 @@ returns-in-None g c =
     ∙ ap finite.entries (c.self.invariant.empty ∙ sym (missing_is (own roots item)
     (sym (ap option_copied c.in-None.is) ∙ c.own.ensures)))
     ∙ sym (of_item roots c.self.invariant.order item flat)
-    ∙ ap (λ m. those_of item (finite.entries m)) c.self.view_is
+    ∙ ap (λ m. those_of item (finite.entries m.entries)) c.self.view_is

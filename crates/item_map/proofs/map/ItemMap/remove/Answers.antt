@@ -6,23 +6,23 @@ use Rattle.aff_core.specs.Address.{address_total, exact_addresses}
 use Rattle.map_laws.specs.SumLaws.{taken_in_vain}
 use Rattle.item_map.specs.ItemAddresses.{item_of}
 use Rattle.item_map.specs.ItemLists.{AreOfItem, map_in, own_entries}
-use Rattle.item_map.proofs.ChangeLaws.{one_less, removed_own, some_there, taken_from}
+use Rattle.item_map.proofs.ChangeLaws.{one_less, put_again, removed_own, some_there, taken_from}
 use Rattle.item_map.proofs.OwnLaws.{got, own_are, room_there}
 use Rattle.item_map.proofs.map.ItemMap.remove.Goals as goal
 use Rattle.item_map.proofs.map.ItemMap.remove.Goals.{After-put, In-Some}
 
 pub returns-in_default-clause-removed : goal.returns-in_default-clause-removed
 returns-in_default-clause-removed g c =
-    sym (taken_in_vain address_total exact_addresses c.args.self.now c.args.at.now
+    sym (taken_in_vain address_total exact_addresses c.args.self.now.entries c.args.at.now
     (sym c.get.ensures ∙ ap option_copied c.in_default.is))
 
-there : (g : _) (c : In-Some g) → IsSome (finite.get c.args.self.now c.args.at.now)
+there : (g : _) (c : In-Some g) → IsSome (finite.get c.args.self.now.entries c.args.at.now)
 there g c = ap is_some (sym c.get.ensures ∙ ap option_copied c.in-Some.is)
 
 pub take-entries-requires-clause-room : goal.take-entries-requires-clause-room
 take-entries-requires-clause-room g c =
     room_there c.self.inside.roots c.self.invariant.order c.args.at.now
-    (subst (λ m. IsSome (finite.get m c.args.at.now)) (sym c.self.view_is)
+    (subst (λ m. IsSome (finite.get m.entries c.args.at.now)) (sym c.self.view_is)
     (there g (goal.at.take-entries-requires-clause-room g c).In-Some))
 
 pub put-requires-clause-own : goal.put-requires-clause-own
@@ -47,7 +47,7 @@ made g c =
 inside : (g : _) (c : After-put g)
     → IsSome (finite.get (map_in c.self.inside.roots) c.args.at.now)
 inside g c =
-    subst (λ m. IsSome (finite.get m c.args.at.now)) (sym c.self.view_is)
+    subst (λ m. IsSome (finite.get m.entries c.args.at.now)) (sym c.self.view_is)
     (ap is_some (sym c.get.ensures ∙ ap option_copied c.in-Some.is))
 
 pub overflow_sub-self : goal.overflow_sub-self
@@ -68,6 +68,11 @@ invariant_of-self g c =
       empty = c.self.invariant.empty;
       count = ap (λ n. n - 1) c.self.invariant.count
           ∙ sym (ap finite.len (made g d) ∙ one_less (map_in a) c.args.at.now (inside g d));
+      room = c.put.ensures.spare c.self.inside.spare
+          (put_again c.args.at.now a c.take-entries.new.self c.self.inside.spare
+          (c.take-entries.ensures.spare c.self.inside.spare c.self.invariant.room) c.self.invariant.order
+          (inside g d));
+      fits = omega (arith, c.self.invariant.fits);
     }
 
 pub returns-clause-value : goal.returns-clause-value
@@ -75,9 +80,9 @@ returns-clause-value g c =
     c.remove-value.ensures.value
     ∙ ap (λ m. finite.get m c.args.at.now) c.take-entries.ensures.entries
     ∙ sym (got c.self.inside.roots c.self.invariant.order c.args.at.now)
-    ∙ ap (λ m. finite.get m c.args.at.now) c.self.view_is
+    ∙ ap (λ m. finite.get m.entries c.args.at.now) c.self.view_is
 
 pub returns-clause-removed : goal.returns-clause-removed
 returns-clause-removed g c =
     made g (goal.at.returns-clause-removed g c).After-put
-    ∙ ap (λ m. finite.remove m c.args.at.now) c.self.view_is
+    ∙ ap (λ m. finite.remove m.entries c.args.at.now) c.self.view_is

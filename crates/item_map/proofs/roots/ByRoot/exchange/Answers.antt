@@ -16,7 +16,7 @@ returns-in-Variable-clause-before g c =
 pub returns-in-Variable-clause-set : goal.returns-in-Variable-clause-set
 returns-in-Variable-clause-set g c =
     subst (λ r. IsSetAt r c.args.number c.args.new c.args.self.now
-    (record c.args.self.now { variables = record c.args.self.now.variables { items = c.exchange.new.self } })) (sym c.in-Variable.is)
+    (record c.args.self.now { variables = c.exchange.new.self })) (sym c.in-Variable.is)
     (set_variables c.args.self.now c.args.number c.args.new c.exchange.new.self
     c.exchange.ensures.after c.exchange.ensures.room)
 
@@ -32,7 +32,7 @@ returns-in-Group-clause-before g c =
 pub returns-in-Group-clause-set : goal.returns-in-Group-clause-set
 returns-in-Group-clause-set g c =
     subst (λ r. IsSetAt r c.args.number c.args.new c.args.self.now
-    (record c.args.self.now { groups = record c.args.self.now.groups { items = c.exchange-in-Group.new.self } })) (sym c.in-Group.is)
+    (record c.args.self.now { groups = c.exchange-in-Group.new.self })) (sym c.in-Group.is)
     (set_groups c.args.self.now c.args.number c.args.new c.exchange-in-Group.new.self
     c.exchange-in-Group.ensures.after c.exchange-in-Group.ensures.room)
 
@@ -48,7 +48,7 @@ returns-in-Row-clause-before g c =
 pub returns-in-Row-clause-set : goal.returns-in-Row-clause-set
 returns-in-Row-clause-set g c =
     subst (λ r. IsSetAt r c.args.number c.args.new c.args.self.now
-    (record c.args.self.now { rows = record c.args.self.now.rows { items = c.exchange-in-Row.new.self } })) (sym c.in-Row.is)
+    (record c.args.self.now { rows = c.exchange-in-Row.new.self })) (sym c.in-Row.is)
     (set_rows c.args.self.now c.args.number c.args.new c.exchange-in-Row.new.self
     c.exchange-in-Row.ensures.after c.exchange-in-Row.ensures.room)
 
@@ -64,6 +64,6 @@ returns-in-Objective-clause-before g c =
 pub returns-in-Objective-clause-set : goal.returns-in-Objective-clause-set
 returns-in-Objective-clause-set g c =
     subst (λ r. IsSetAt r c.args.number c.args.new c.args.self.now
-    (record c.args.self.now { objectives = record c.args.self.now.objectives { items = c.exchange-in-Objective.new.self } })) (sym c.in-Objective.is)
+    (record c.args.self.now { objectives = c.exchange-in-Objective.new.self })) (sym c.in-Objective.is)
     (set_objectives c.args.self.now c.args.number c.args.new c.exchange-in-Objective.new.self
     c.exchange-in-Objective.ensures.after c.exchange-in-Objective.ensures.room)

@@ -1,7 +1,7 @@
 use Rattle.std.proofs.Common.{sym, subst, ◌∙◌}
 use Rattle.numbered_list.specs.Numbered.{IsAt}
 use Rattle.item_map.specs.ItemLists.{HasRoom, IsItemWith, IsSetAt, item_number}
-use Rattle.item_map.proofs.ChangeLaws.{put_changed, put_order}
+use Rattle.item_map.proofs.ChangeLaws.{put_changed, put_order, put_room}
 use Rattle.item_map.proofs.roots.ByRoot.put.Goals as goal
 use Rattle.item_map.proofs.roots.ByRoot.put.Goals.{After-exchange}
 
@@ -41,3 +41,9 @@ returns-clause-order g c =
     let d = (goal.at.returns-clause-order g c).After-exchange in
     put_order c.args.at.now c.args.self.now c.exchange.new.self c.requires.order c.requires.room
     c.args.entries c.item_with-item.result (with g d) c.requires.own (set g d)
+
+pub returns-clause-spare : goal.returns-clause-spare
+returns-clause-spare g c = λ more.
+    put_room c.args.self.now c.exchange.new.self c.args.at.now.root c.args.at.now.number more
+    c.requires.order c.item_with-item.result
+    (set g (goal.at.returns-clause-spare g c).After-exchange)

@@ -2,7 +2,7 @@ use Rattle.std.specs.Prelude.{◌≡◌, None}
 use Rattle.std.proofs.Common.{sym, ap, subst, ◌∙◌}
 use Rattle.numbered_list.specs.Numbered.{find}
 use Rattle.item_map.specs.ItemLists.{IsSetAt, entries_in, item_number, items_of, own}
-use Rattle.item_map.proofs.ChangeLaws.{room_left, taken_changed, taken_order}
+use Rattle.item_map.proofs.ChangeLaws.{room_left, taken_changed, taken_order, taken_room}
 use Rattle.item_map.proofs.roots.ByRoot.take.Goals as goal
 use Rattle.item_map.proofs.roots.ByRoot.take.Goals.{After-exchange}
 
@@ -60,3 +60,13 @@ returns-in-None-clause-room g c =
     room_left c.args.at.now c.args.self.now c.exchange.new.self
     (set g (goal.at.returns-in-None-clause-room g c).After-exchange) c.requires.order
     c.requires.room
+
+pub returns-in-Some-clause-spare : goal.returns-in-Some-clause-spare
+returns-in-Some-clause-spare g c = λ more.
+    taken_room c.args.self.now c.exchange.new.self c.args.at.now.root c.args.at.now.number more
+    c.requires.order (set g (goal.at.returns-in-Some-clause-spare g c).After-exchange)
+
+pub returns-in-None-clause-spare : goal.returns-in-None-clause-spare
+returns-in-None-clause-spare g c = λ more.
+    taken_room c.args.self.now c.exchange.new.self c.args.at.now.root c.args.at.now.number more
+    c.requires.order (set g (goal.at.returns-in-None-clause-spare g c).After-exchange)
