@@ -31,7 +31,7 @@ same_or_not r s C same other =
       | inr ne ↦ other (λ e. ne (ap root_number e))
     ]
 
-All-set_at : {X : Type 0} (number_of : X → ℕ) (P : X → Type 0) (n : ℕ) (new : Option X)
+pub All-set_at : {X : Type 0} (number_of : X → ℕ) (P : X → Type 0) (n : ℕ) (new : Option X)
     (xs : List X) → IfSome new P → All P xs → All P (set_at number_of n new xs)
 unfolding set_at
 All-set_at {X = X} number_of P n new xs here all =
@@ -405,7 +405,7 @@ module _ {V : Type 0} where
     empty = empty;
     count = sym (ap finite.len (none_map roots none) ∙ finite.len-empty address_cmp V);
     room = room;
-    fits = fits;
+    fits = omega (arith, fits);
   }
 
   pub emptied_room : (a b : ByRoot V) (spare : ℕ) → IsEmptied a b → HaveRoom a spare

@@ -4,7 +4,7 @@ use Rattle.std.proofs.Common.{arith, sym, ap, subst, ◌∙◌}
 use Rattle.std.proofs.lemmas.Bool.{ltb-true}
 use Rattle.std.proofs.lemmas.List.Elements.{All-append, All-cons, All-nil, All-weaker, filter_passes}
 use Rattle.map_laws.specs.PairLaws.{AllPairs-before}
-use Rattle.numbered_list.specs.Numbered.{Rise, above, below, set_at}
+use Rattle.numbered_list.specs.Numbered.{Rise, above, set_at}
 use Rattle.numbered_list.specs.Laws.{Rise-head}
 use Rattle.numbered_list.specs.SetLaws.{above-none, below-none}
 use Rattle.item_map.specs.ItemLists.{AreBetween, item_number}
@@ -40,13 +40,13 @@ module _ {V : Type 0} where
   -- one is taken out
   pub one_past : (n last : ℕ) (items : List (ItemEntries V)) → AreBetween n last items
       → AreBetween (n + 1) last (set_at item_number n None items)
+  unfolding set_at
   one_past n last items h = record {
     from = past;
     to = All-set_at item_number (λ item. item.number ≤ last) n None items tt h.to;
   }
     where
       past : All (λ item. n + 1 ≤ item.number) (set_at item_number n None items)
-      unfolding set_at
       past =
           subst (All (λ item. n + 1 ≤ item.number))
           (sym (ap (λ l. l ++ above item_number n items) (below-none item_number n items h.from)))
