@@ -1,4 +1,4 @@
-use Rattle.std.specs.Prelude.{◌≡◌, IsSome, None, is_some}
+use Rattle.std.specs.Prelude.{◌≡◌, None, is_some}
 use Rattle.std.proofs.Common.{sym, ap, subst, ◌∙◌}
 use Rattle.std.specs.Option.{option_copied}
 use Rattle.std.specs.FinMap as finite
