@@ -1,7 +1,12 @@
 // A case that is run.
+ghost use Rattle.std.specs.Prelude.{◌≡◌, All, IfOk, IsTrue, map};
+ghost use Rattle.std.specs.FinMap as finite;
+ghost use Rattle.any_bridge.specs.States.{state_of_any};
+ghost use Rattle.bridge_set.specs.Bridges.{families_of, occur_once};
+
 use crate::Command;
 use crate::case::{Call, Case};
-use any_bridge::all_bridges;
+use any_bridge::{AnyBridge, all_bridges};
 use io_face::{Calls, MemShelf, MemSink, NamedFile, NamedFiles};
 use lists::Memory;
 use std::alloc::Global;
@@ -18,13 +23,23 @@ pub fn run_case<C: Command>(rt: &HostRuntime, case: &Case) -> Result<(), Stop> {
     let writes = failing(alloc, case.failing(Call::Write))?;
     let mut shelf = MemShelf::new(files_of(alloc, case)?, fetches);
     let mut output = MemSink::new(alloc, case.piece, writes);
-    let bridges = if case.is_bare {
-        Vec::new(alloc)
-    } else {
-        all_bridges(alloc)?
-    };
+    let bridges = bridges_for(alloc, case)?;
     let status = C::run(alloc, &case.words, &mut shelf, &mut output, bridges);
     tell(rt, status.number(), output.written())
+}
+
+// A bridge of each family, or none.
+fn bridges_for(alloc: Global, case: &Case) -> Result<Vec<AnyBridge>, Memory>
+    ensures once { IfOk result (λ bridges.
+        IsTrue (occur_once (families_of (map state_of_any bridges.items)))) }
+    ensures kept { IfOk result (λ bridges.
+        All (λ s. s.kept ≡ finite.empty) (map state_of_any bridges.items)) }
+{
+    if case.is_bare {
+        Ok(Vec::new(alloc))
+    } else {
+        all_bridges(alloc)
+    }
 }
 
 // The files of the model and of the maps, unless they are missing.
