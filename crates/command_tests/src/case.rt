@@ -1,16 +1,17 @@
-// A run that is to be made.
+//! A run that is to be made.
 use lists::Memory;
 use std::alloc::Global;
 
 /// A kind of call, one of which fails.
 #[derive(Clone, Copy)]
-pub enum Call {
+pub(crate) enum Call {
     Write,
     Fetch,
 }
 
+/// The arguments, files and faults of a run.
 #[derive(Drop)]
-pub struct Case {
+pub(crate) struct Case {
     pub words: Vec<String>,
     /// What the file `m.json` has.
     pub model: Vec<u8>,
@@ -30,7 +31,7 @@ pub struct Case {
 
 impl Case {
     /// A case with these arguments, which are separated by spaces, and two empty files.
-    pub fn new(alloc: Global, words: &str) -> Result<Case, Memory> {
+    pub(crate) fn new(alloc: Global, words: &str) -> Result<Case, Memory> {
         Ok(Case {
             words: words_of(alloc, words)?,
             model: Vec::new(alloc),
@@ -44,7 +45,7 @@ impl Case {
     }
 
     /// The number of the call of a kind that fails, and 0 where none does.
-    pub fn failing(&self, call: Call) -> u64 {
+    pub(crate) fn failing(&self, call: Call) -> u64 {
         match (self.failing, call) {
             (Some((Call::Write, number)), Call::Write)
             | (Some((Call::Fetch, number)), Call::Fetch) => number,
@@ -54,7 +55,7 @@ impl Case {
 }
 
 /// Words that are separated by spaces.
-pub fn words_of(alloc: Global, text: &str) -> Result<Vec<String>, Memory> {
+pub(crate) fn words_of(alloc: Global, text: &str) -> Result<Vec<String>, Memory> {
     let mut words = Vec::new(alloc);
     for word in text.split(' ') {
         words.push(String::from_str(alloc, word)?)?;

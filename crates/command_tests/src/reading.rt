@@ -1,4 +1,4 @@
-// The lines of the cases.
+//! The lines of the cases.
 use crate::Command;
 use crate::case::{Call, Case, words_of};
 use crate::running::run_case;

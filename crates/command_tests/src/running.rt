@@ -1,4 +1,4 @@
-// A case that is run.
+//! A case that is run.
 ghost use Rattle.std.specs.Prelude.{◌≡◌, All, IfOk, IsTrue, map};
 ghost use Rattle.std.specs.FinMap as finite;
 ghost use Rattle.any_bridge.specs.States.{state_of_any};
@@ -14,7 +14,7 @@ use std::str;
 use test_support::Stop;
 
 /// Runs a case, and prints how it ends and what it writes.
-pub fn run_case<C: Command>(rt: &HostRuntime, case: &Case) -> Result<(), Stop> {
+pub(crate) fn run_case<C: Command>(rt: &HostRuntime, case: &Case) -> Result<(), Stop> {
     if case.piece == 0 {
         return Err(Stop);
     }
