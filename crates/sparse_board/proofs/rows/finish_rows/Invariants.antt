@@ -1,11 +1,12 @@
 use Rattle.std.specs.Prelude.{◌≡◌, ◌-◌, ◌<◌, length, true}
+use Rattle.sparse_board.specs.Lowering.{IsFinished}
 use Rattle.sparse_board.specs.Marks.{has}
-use Rattle.sparse_board.proofs.RowsSteps.{AreSettledTo}
-use Rattle.sparse_board.proofs.rows.settle_rows.Given as goal
+use Rattle.sparse_board.proofs.RowsSteps.{AreChangedTo}
+use Rattle.sparse_board.proofs.rows.finish_rows.Given as goal
 
 abbrev pub invariant-loop-i : goal.invariant-loop-i
 invariant-loop-i l = record {
-  settled : AreSettledTo l.r l.q l.step l.fn.rows l.rows l.i;
+  changed : AreChangedTo (IsFinished l.step) l.r l.q l.marks l.fn.rows l.rows l.i;
   here : l.i < length l.fn.rows → has l.marks l.q l.i ≡ true;
 }
 
