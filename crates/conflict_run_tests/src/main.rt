@@ -1,37 +1,29 @@
-// Runs the command of conflicts over a shelf and a sink in memory, one case after another, and prints
-// how each ends, by its exit status, and what it writes.
-//
-//     case NAME              begins a case, with no arguments and an empty file
-//     words WORD ..          its arguments
-//     |LINE                  a line of the file `m.json`
-//     repeat N TEXT          a text in it, N times
-//     missing                there is no such file
-//     bare                   no bridge is there, and not one of each family
-//     piece N                a write takes N bytes at most, and not 4,096
-//     failing fetch N        the fetch of this number fails, or the write
-//     run                    runs the case
+// Runs the command of conflicts over the cases of standard input, and prints how each ends and what it
+// writes. The language of the cases is that of `command_tests`.
 #![tactic(auto)]
 
-mod case;
-mod reading;
-mod running;
-
-use case::Case;
+use any_bridge::AnyBridge;
+use command_tests::{Command, run_cases};
+use conflict_command::run;
+use file_command::Status;
+use io_face::{MemShelf, MemSink};
+use std::alloc::Global;
 use std::io;
-use test_support::Stop;
 
-fn main(rt: HostRuntime) -> io::Result<()> {
-    let mut case = Case::new(rt.alloc());
-    match run(&rt, &mut case) {
-        Ok(()) => Ok(()),
-        Err(Stop) => println!(rt; "stopped"),
+struct Conflict;
+
+impl Command for Conflict {
+    fn run(
+        alloc: Global,
+        words: &[String],
+        shelf: &mut MemShelf,
+        output: &mut MemSink,
+        bridges: Vec<AnyBridge>,
+    ) -> Status {
+        run(alloc, words, shelf, output, bridges)
     }
 }
 
-fn run(rt: &HostRuntime, case: &mut Case) -> Result<(), Stop> {
-    for line in rt.lines(rt.alloc()) {
-        let line = line?;
-        reading::step(rt, case, line.as_str())?;
-    }
-    Ok(())
+fn main(rt: HostRuntime) -> io::Result<()> {
+    run_cases::<Conflict>(&rt, "m.json")
 }

@@ -1,43 +1,29 @@
-// Runs the command of set maps over a shelf and a sink in memory, one case after another, and prints
-// how each ends, by its exit status, and what it writes.
-//
-//     case NAME              begins a case, with the arguments `m.json maps.txt` and two empty files
-//     words WORD ..          its arguments
-//     |LINE                  a line of the file `m.json`
-//     >LINE                  a line of the file `maps.txt`
-//     unended                the last byte of `maps.txt` is dropped
-//     missing                there is no file `m.json`
-//     without_maps           there is no file `maps.txt`
-//     bare                   no bridge is there, and not one of each family
-//     piece N                a write takes N bytes at most, and not 4,096
-//     failing fetch N        the fetch of this number fails, or the write
-//     run                    runs the case
+// Runs the command of set maps over the cases of standard input, and prints how each ends and what it
+// writes. The language of the cases is that of `command_tests`.
 #![tactic(auto)]
 
-mod case;
-mod reading;
-mod running;
-
-use case::Case;
+use any_bridge::AnyBridge;
+use command_tests::{Command, run_cases};
+use file_command::Status;
+use io_face::{MemShelf, MemSink};
+use setmap_command::run;
+use std::alloc::Global;
 use std::io;
-use test_support::Stop;
+
+struct SetMaps;
+
+impl Command for SetMaps {
+    fn run(
+        alloc: Global,
+        words: &[String],
+        shelf: &mut MemShelf,
+        output: &mut MemSink,
+        bridges: Vec<AnyBridge>,
+    ) -> Status {
+        run(alloc, words, shelf, output, bridges)
+    }
+}
 
 fn main(rt: HostRuntime) -> io::Result<()> {
-    match run(&rt) {
-        Ok(()) => Ok(()),
-        Err(Stop) => println!(rt; "stopped"),
-    }
-}
-
-fn run(rt: &HostRuntime) -> Result<(), Stop> {
-    let mut case = Case::new(rt.alloc())?;
-    run_all(rt, &mut case)
-}
-
-fn run_all(rt: &HostRuntime, case: &mut Case) -> Result<(), Stop> {
-    for line in rt.lines(rt.alloc()) {
-        let line = line?;
-        reading::step(rt, case, line.as_str())?;
-    }
-    Ok(())
+    run_cases::<SetMaps>(&rt, "m.json maps.txt")
 }

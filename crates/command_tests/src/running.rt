@@ -1,15 +1,20 @@
-// A case that is run.
+//! A case that is run.
+ghost use Rattle.std.specs.Prelude.{◌≡◌, All, IfOk, IsTrue, map};
+ghost use Rattle.std.specs.FinMap as finite;
+ghost use Rattle.any_bridge.specs.States.{state_of_any};
+ghost use Rattle.bridge_set.specs.Bridges.{families_of, occur_once};
+
+use crate::Command;
 use crate::case::{Call, Case};
 use any_bridge::{AnyBridge, all_bridges};
 use io_face::{Calls, MemShelf, MemSink, NamedFile, NamedFiles};
 use lists::Memory;
-use setmap_command::run;
 use std::alloc::Global;
 use std::str;
 use test_support::Stop;
 
 /// Runs a case, and prints how it ends and what it writes.
-pub fn run_case(rt: &HostRuntime, case: &Case) -> Result<(), Stop> {
+pub(crate) fn run_case<C: Command>(rt: &HostRuntime, case: &Case) -> Result<(), Stop> {
     if case.piece == 0 {
         return Err(Stop);
     }
@@ -18,37 +23,42 @@ pub fn run_case(rt: &HostRuntime, case: &Case) -> Result<(), Stop> {
     let writes = failing(alloc, case.failing(Call::Write))?;
     let mut shelf = MemShelf::new(files_of(alloc, case)?, fetches);
     let mut output = MemSink::new(alloc, case.piece, writes);
-    let status = if case.is_bare {
-        let none: Vec<AnyBridge> = Vec::new(alloc);
-        run(alloc, &case.words, &mut shelf, &mut output, none)
-    } else {
-        run(
-            alloc,
-            &case.words,
-            &mut shelf,
-            &mut output,
-            all_bridges(alloc)?,
-        )
-    };
+    let bridges = bridges_for(alloc, case)?;
+    let status = C::run(alloc, &case.words, &mut shelf, &mut output, bridges);
     tell(rt, status.number(), output.written())
+}
+
+// A bridge of each family, or none.
+fn bridges_for(alloc: Global, case: &Case) -> Result<Vec<AnyBridge>, Memory>
+    ensures once { IfOk result (λ bridges.
+        IsTrue (occur_once (families_of (map state_of_any bridges.items)))) }
+    ensures kept { IfOk result (λ bridges.
+        All (λ s. s.kept ≡ finite.empty) (map state_of_any bridges.items)) }
+{
+    if case.is_bare {
+        Ok(Vec::new(alloc))
+    } else {
+        all_bridges(alloc)
+    }
 }
 
 // The files of the model and of the maps, unless they are missing.
 fn files_of(alloc: Global, case: &Case) -> Result<NamedFiles, Memory> {
     let mut files = Vec::new(alloc);
     if !case.is_missing {
-        files.push(NamedFile {
-            name: String::from_str(alloc, "m.json")?,
-            bytes: Vec::from_slice(alloc, &case.model)?,
-        })?;
+        files.push(file_of(alloc, "m.json", &case.model)?)?;
     }
     if !case.is_without_maps {
-        files.push(NamedFile {
-            name: String::from_str(alloc, "maps.txt")?,
-            bytes: Vec::from_slice(alloc, &case.maps)?,
-        })?;
+        files.push(file_of(alloc, "maps.txt", &case.maps)?)?;
     }
     Ok(NamedFiles::from_vec(files))
+}
+
+fn file_of(alloc: Global, name: &str, bytes: &[u8]) -> Result<NamedFile, Memory> {
+    Ok(NamedFile {
+        name: String::from_str(alloc, name)?,
+        bytes: Vec::from_slice(alloc, bytes)?,
+    })
 }
 
 // The one call of this number fails, or none.

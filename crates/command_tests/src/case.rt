@@ -1,16 +1,17 @@
-// A run that is to be made.
+//! A run that is to be made.
 use lists::Memory;
 use std::alloc::Global;
 
 /// A kind of call, one of which fails.
 #[derive(Clone, Copy)]
-pub enum Call {
+pub(crate) enum Call {
     Write,
     Fetch,
 }
 
+/// The arguments, files and faults of a run.
 #[derive(Drop)]
-pub struct Case {
+pub(crate) struct Case {
     pub words: Vec<String>,
     /// What the file `m.json` has.
     pub model: Vec<u8>,
@@ -29,12 +30,10 @@ pub struct Case {
 }
 
 impl Case {
-    pub fn new(alloc: Global) -> Result<Case, Memory> {
-        let mut words = Vec::new(alloc);
-        words.push(String::from_str(alloc, "m.json")?)?;
-        words.push(String::from_str(alloc, "maps.txt")?)?;
+    /// A case with these arguments, which are separated by spaces, and two empty files.
+    pub(crate) fn new(alloc: Global, words: &str) -> Result<Case, Memory> {
         Ok(Case {
-            words,
+            words: words_of(alloc, words)?,
             model: Vec::new(alloc),
             is_missing: false,
             maps: Vec::new(alloc),
@@ -46,11 +45,20 @@ impl Case {
     }
 
     /// The number of the call of a kind that fails, and 0 where none does.
-    pub fn failing(&self, call: Call) -> u64 {
+    pub(crate) fn failing(&self, call: Call) -> u64 {
         match (self.failing, call) {
             (Some((Call::Write, number)), Call::Write)
             | (Some((Call::Fetch, number)), Call::Fetch) => number,
             _ => 0,
         }
     }
+}
+
+/// Words that are separated by spaces.
+pub(crate) fn words_of(alloc: Global, text: &str) -> Result<Vec<String>, Memory> {
+    let mut words = Vec::new(alloc);
+    for word in text.split(' ') {
+        words.push(String::from_str(alloc, word)?)?;
+    }
+    Ok(words)
 }
