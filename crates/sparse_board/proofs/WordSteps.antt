@@ -1,11 +1,11 @@
 -- Bits of a word that is shifted, and words that are joined one after another.
-use Rattle.std.specs.Prelude.{◌≡◌, ℕ, zero, suc, ◌+◌, ◌-◌, ◌/◌, ◌%◌, ◌^◌, ◌<◌, ◌≤◌, ◌⊎◌, ◌||◌, Bool, true, false, nat_eq, List, length, max, min, bit_or, slice_index, slice_set, refl}
+use Rattle.std.specs.Prelude.{◌≡◌, ℕ, zero, suc, ◌+◌, ◌-◌, ◌*◌, ◌/◌, ◌%◌, ◌^◌, ◌<◌, ◌≤◌, ◌⊎◌, ◌||◌, Bool, IsTrue, true, false, nat_eq, List, length, max, min, bit_and, bit_or, slice_index, slice_set, refl}
 use Rattle.std.proofs.Common.{inl, inr, sym, ◌∙◌, ap, arith, subst, true≢false, w64}
-use Rattle.std.specs.Int.{bit_at, trailing_zeros}
+use Rattle.std.specs.Int.{bit_at, bit_not, trailing_zeros}
 use Rattle.std.proofs.lemmas.Bool.{cases_lt}
 use Rattle.std.proofs.lemmas.List.{get_or-set_other, get_or-set_same}
 use Rattle.std.proofs.lemmas.Nat.{shr-shr, shr_le}
-use Rattle.std.proofs.lemmas.Nat.Bits.{bit_at-lt, bit_at-trailing_zeros, bit_at-zero, bit_at_above, bit_at_or}
+use Rattle.std.proofs.lemmas.Nat.Bits.{bit_at-lt, bit_at-trailing_zeros, bit_at-zero, bit_at_above, bit_at_and, bit_at_clear_other, bit_at_clear_same, bit_at_ones, bit_at_or}
 use Rattle.simplex_laws.specs.BoundedSumLaws.{same_or_other}
 use Rattle.sparse_board.specs.Words.{AreJoined, Clears}
 
@@ -52,6 +52,52 @@ module _ (word from : ℕ) (small : word < 2 ^ 64) (some : 0 < word / 2 ^ from) 
     where
       below_lem : (k from n : ℕ) → from ≤ k → k < from + n → k - from < n
       below_lem k from n f b = omega (arith, f, b)
+
+-- ---- a bit that is cleared where that is asked for
+
+clears_here_is : (word m k : ℕ) → k < 64 → m ≡ 1
+    → bit_at (bit_and word (bit_not w64 (m * 2 ^ k % 2 ^ 64))) k ≡ 0
+clears_here_is word m k within e =
+    ap (λ x. bit_at (bit_and word (bit_not w64 (x * 2 ^ k % 2 ^ 64))) k) e
+    ∙ bit_at_clear_same w64 word k within
+
+clears_none_is : (word m k : ℕ) → m ≡ 0 → (i : ℕ) → i < 64
+    → bit_at (bit_and word (bit_not w64 (m * 2 ^ k % 2 ^ 64))) i ≡ bit_at word i
+clears_none_is word m k e i b =
+    ap (λ x. bit_at (bit_and word (bit_not w64 x)) i) (zero_lem m (2 ^ k) e)
+    ∙ bit_at_and word (bit_not w64 0) i
+    ∙ ap (min (bit_at word i)) (bit_at_ones 64 i b)
+    ∙ least_lem (bit_at word i) (bit_at-lt word i)
+  where
+    zero_lem : (m p : ℕ) → m ≡ 0 → m * p % 2 ^ 64 ≡ 0
+    zero_lem m p e = ap (λ x. x * p % 2 ^ 64) e ∙ none_lem p
+      where
+        none_lem : (p : ℕ) → 0 * p % 2 ^ 64 ≡ 0
+        none_lem p = omega arith
+
+    least_lem : (x : ℕ) → x < 2 → min x 1 ≡ x
+    least_lem x h = omega (arith, h)
+
+module _ (word m k : ℕ) (within : k < 64) (clears : Bool) (one : IsTrue clears → m ≡ 1)
+    (none : clears ≡ false → m ≡ 0) where
+  pub clears_here : IsTrue clears
+      → bit_at (bit_and word (bit_not w64 (m * 2 ^ k % 2 ^ 64))) k ≡ 0
+  clears_here t = clears_here_is word m k within (one t)
+
+  pub clears_none : clears ≡ false
+      → bit_at (bit_and word (bit_not w64 (m * 2 ^ k % 2 ^ 64))) k ≡ bit_at word k
+  clears_none e = clears_none_is word m k (none e) k within
+
+  pub clears_others : (i : ℕ) → i < 64 → ¬ (i ≡ k)
+      → bit_at (bit_and word (bit_not w64 (m * 2 ^ k % 2 ^ 64))) i ≡ bit_at word i
+  clears_others i b apart = by_test clears refl
+    where
+      by_test : (t : Bool) → clears ≡ t
+          → bit_at (bit_and word (bit_not w64 (m * 2 ^ k % 2 ^ 64))) i ≡ bit_at word i
+      by_test true e =
+          ap (λ x. bit_at (bit_and word (bit_not w64 (x * 2 ^ k % 2 ^ 64))) i) (one e)
+          ∙ bit_at_clear_other w64 word k within i b apart
+      by_test false e = clears_none_is word m k (none e) i b
 
 -- ---- bits that are cleared one after another
 

@@ -74,7 +74,16 @@ pub(crate) fn without_bit_if(word: u64, k: usize, clears: bool) -> u64
     ensures kept { clears ≡ false → bit_at result k ≡ bit_at word k }
     ensures others { (i : ℕ) → i < 64 → i ≢ k → bit_at result i ≡ bit_at word i }
 {
-    word & !((clears as u64) << k)
+    word & !(bit_if(clears) << k)
+}
+
+// 1 where it is asked for.
+#[inline]
+fn bit_if(set: bool) -> u64
+    ensures one { IsTrue set → result ≡ 1 }
+    ensures none { set ≡ false → result ≡ 0 }
+{
+    if set { 1 } else { 0 }
 }
 
 // Where the bits of a word end whose rows are below this number.
