@@ -83,7 +83,7 @@ unmarked_none rows marks = record { sizes = sizes_none marks; marked = λ w h. h
 -- a word whose bits of zeros are cleared
 module _ (rows : List Row) (old now new : Marks) (q k word kept : ℕ)
     (h : KeepsMarked rows old now) (long : now.rows ≡ length rows) (read : IsWord q k word now)
-    (put : IsWordPut q k kept now new) 
+    (put : IsWordPut q k kept now new)
     (clears : Clears (λ i. number_in_row rows i q ≡ zero_ℚ) (length rows) (k * 64) word kept) where
   left_zero : (w i : ℕ) → AreMarked w old rows → i < length rows → q < w → i / 64 ≡ k
       → has new q i ≡ false → number_in_row rows i q ≡ zero_ℚ

@@ -128,50 +128,50 @@ looked_first P n start word bit passed = record {
 }
 
 module _ (P : ℕ → Type 0) (n start word kept bit : ℕ) (h : AreLookedTo P n start word kept bit)
-    where
-  pub looked_more : (new next : ℕ) (clears : Bool) → bit < next → (clears ≡ true → P (start + bit))
-      → (clears ≡ false → bit_at new bit ≡ bit_at kept bit)
-      → ((i : ℕ) → i < 64 → ¬ (i ≡ bit) → bit_at new i ≡ bit_at kept i)
-      → ((k : ℕ) → bit < k → k < next → bit_at word k ≡ 0) → AreLookedTo P n start word new next
-  looked_more new next clears after holds stays others passed = record {
-    cleared = λ k b c d e f. same_or_other (P (start + k)) k bit
-        (λ g. subst (λ m. P (start + m)) (sym g)
-        (by_test clears refl (subst (λ m. bit_at word m ≡ 1) g e)
-        (subst (λ m. bit_at new m ≡ 0) g f) (subst (λ m. m < 64) g c)))
-        (λ m. by_order k b c d e f m (cases_lt k bit));
-    same = λ k b c. others k c (apart_lem k bit next after b)
-        ∙ h.same k (above_lem k bit next after b) c;
-  }
-    where
-      apart_lem : (k bit next : ℕ) → bit < next → next ≤ k → k ≡ bit → ⊥
-      apart_lem k bit next a b e = omega (arith, a, b, e)
+  where
+    pub looked_more : (new next : ℕ) (clears : Bool) → bit < next → (clears ≡ true → P (start + bit))
+        → (clears ≡ false → bit_at new bit ≡ bit_at kept bit)
+        → ((i : ℕ) → i < 64 → ¬ (i ≡ bit) → bit_at new i ≡ bit_at kept i)
+        → ((k : ℕ) → bit < k → k < next → bit_at word k ≡ 0) → AreLookedTo P n start word new next
+    looked_more new next clears after holds stays others passed = record {
+      cleared = λ k b c d e f. same_or_other (P (start + k)) k bit
+          (λ g. subst (λ m. P (start + m)) (sym g)
+          (by_test clears refl (subst (λ m. bit_at word m ≡ 1) g e)
+          (subst (λ m. bit_at new m ≡ 0) g f) (subst (λ m. m < 64) g c)))
+          (λ m. by_order k b c d e f m (cases_lt k bit));
+      same = λ k b c. others k c (apart_lem k bit next after b)
+          ∙ h.same k (above_lem k bit next after b) c;
+    }
+      where
+        apart_lem : (k bit next : ℕ) → bit < next → next ≤ k → k ≡ bit → ⊥
+        apart_lem k bit next a b e = omega (arith, a, b, e)
 
-      above_lem : (k bit next : ℕ) → bit < next → next ≤ k → bit ≤ k
-      above_lem k bit next a b = omega (arith, a, b)
+        above_lem : (k bit next : ℕ) → bit < next → next ≤ k → bit ≤ k
+        above_lem k bit next a b = omega (arith, a, b)
 
-      beyond_lem : (k bit : ℕ) → bit ≤ k → ¬ (k ≡ bit) → bit < k
-      beyond_lem k bit a m = omega (arith, a, m)
+        beyond_lem : (k bit : ℕ) → bit ≤ k → ¬ (k ≡ bit) → bit < k
+        beyond_lem k bit a m = omega (arith, a, m)
 
-      by_test : (t : Bool) → clears ≡ t → bit_at word bit ≡ 1 → bit_at new bit ≡ 0 → bit < 64
-          → P (start + bit)
-      by_test true t e f c = holds t
-      by_test false t e f c =
-          absurd (one_zero (bit_at word bit) e
-          (sym (h.same bit (omega arith) c) ∙ sym (stays t) ∙ f))
+        by_test : (t : Bool) → clears ≡ t → bit_at word bit ≡ 1 → bit_at new bit ≡ 0 → bit < 64
+            → P (start + bit)
+        by_test true t e f c = holds t
+        by_test false t e f c =
+            absurd (one_zero (bit_at word bit) e
+            (sym (h.same bit (omega arith) c) ∙ sym (stays t) ∙ f))
 
-      by_order : (k : ℕ) → k < next → k < 64 → start + k < n → bit_at word k ≡ 1
-          → bit_at new k ≡ 0 → ¬ (k ≡ bit) → (k < bit) ⊎ (bit ≤ k) → P (start + k)
-      by_order k b c d e f m (inl l) = h.cleared k l c d e (sym (others k c m) ∙ f)
-      by_order k b c d e f m (inr l) =
-          absurd (one_zero (bit_at word k) e (passed k (beyond_lem k bit l m) b))
+        by_order : (k : ℕ) → k < next → k < 64 → start + k < n → bit_at word k ≡ 1
+            → bit_at new k ≡ 0 → ¬ (k ≡ bit) → (k < bit) ⊎ (bit ≤ k) → P (start + k)
+        by_order k b c d e f m (inl l) = h.cleared k l c d e (sym (others k c m) ∙ f)
+        by_order k b c d e f m (inr l) =
+            absurd (one_zero (bit_at word k) e (passed k (beyond_lem k bit l m) b))
 
-  pub looked_all : (end : ℕ) → start ≤ n → end ≡ min 64 (n - start) → end ≤ bit
-      → Clears P n start word kept
-  looked_all end within is past k b c e f =
-      h.cleared k (end_lem k start n end bit b c within is past) b c e f
-    where
-      end_lem : (k s n e b : ℕ) → k < 64 → s + k < n → s ≤ n → e ≡ min 64 (n - s) → e ≤ b → k < b
-      end_lem k s n e b c d h i p = omega (arith, c, d, h, i, p)
+    pub looked_all : (end : ℕ) → start ≤ n → end ≡ min 64 (n - start) → end ≤ bit
+        → Clears P n start word kept
+    looked_all end within is past k b c e f =
+        h.cleared k (end_lem k start n end bit b c within is past) b c e f
+      where
+        end_lem : (k s n e b : ℕ) → k < 64 → s + k < n → s ≤ n → e ≡ min 64 (n - s) → e ≤ b → k < b
+        end_lem k s n e b c d h i p = omega (arith, c, d, h, i, p)
 
 -- ---- words that are joined
 

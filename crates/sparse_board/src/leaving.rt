@@ -62,7 +62,8 @@ fn positive_bits(rows: &[Row], side: usize, q: usize, start: usize, word: u64) -
     let end = word_end(rows.len() - start);
     let mut bit = next_bit(word, 0);
     while bit < end {
-        let is_positive = is_entry_positive(&rows[start + bit].now, q);
+        let i = start + bit;
+        let is_positive = is_entry_positive(&rows[i].now, q);
         kept = without_bit_if(kept, bit, !is_positive);
         bit = bit_after(word, bit);
     }

@@ -125,7 +125,8 @@ fn nonzero_bits(rows: &[Row], q: u32, start: usize, word: u64) -> Looked
     let end = word_end(rows.len() - start);
     let mut bit = next_bit(word, 0);
     while bit < end {
-        let row = &rows[start + bit].now;
+        let i = start + bit;
+        let row = &rows[i].now;
         let is_zero = is_zero_at(row, q);
         kept = without_bit_if(kept, bit, is_zero);
         has_wide = has_wide | (row.is_wide & !is_zero);

@@ -27,40 +27,40 @@ pub word-requires-clause-column : goal.word-requires-clause-column
 word-requires-clause-column c = omega (arith, c.requires.columns, c.requires.column)
 
 pub word-requires-clause-place : goal.word-requires-clause-place
-word-requires-clause-place c = omega (arith, c.stride.ensures, c.loop-k-test.true)
+word-requires-clause-place c = omega (arith, c.stride-k-end.ensures, c.loop-k-test.true)
 
 pub positive_bits-word-requires-clause-start : goal.positive_bits-word-requires-clause-start
 positive_bits-word-requires-clause-start c =
-    omega (arith, c.requires.count, c.stride.ensures, c.loop-k-test.true)
+    omega (arith, c.requires.count, c.stride-k-end.ensures, c.loop-k-test.true)
 
-pub leaving_in-requires-clause-start : goal.leaving_in-requires-clause-start
-leaving_in-requires-clause-start c =
-    omega (arith, c.requires.count, c.stride.ensures, c.loop-k-test.true)
+pub leaving_in-best-requires-clause-start : goal.leaving_in-best-requires-clause-start
+leaving_in-best-requires-clause-start c =
+    omega (arith, c.requires.count, c.stride-k-end.ensures, c.loop-k-test.true)
 
-pub leaving_in-requires-clause-others : goal.leaving_in-requires-clause-others
-leaving_in-requires-clause-others c =
+pub leaving_in-best-requires-clause-others : goal.leaving_in-best-requires-clause-others
+leaving_in-best-requires-clause-others c =
     cleared_none c.args.rows.now c.args.marks.now (c.args.side + 1) c.args.q c.loop-k.k
     c.word.result c.positive_bits-word.result c.requires.marked
     (omega (arith, c.requires.column)) c.requires.count c.word.ensures c.positive_bits-word.ensures
 
-pub leaving_in-requires-clause-first : goal.leaving_in-requires-clause-first
-leaving_in-requires-clause-first c =
+pub leaving_in-best-requires-clause-first : goal.leaving_in-best-requires-clause-first
+leaving_in-best-requires-clause-first c =
     let start : c.loop-k.k * 64 ≤ length c.args.rows.now =
-    omega (arith, c.requires.count, c.stride.ensures, c.loop-k-test.true) in
+    omega (arith, c.requires.count, c.stride-k-end.ensures, c.loop-k-test.true) in
     subst (λ n. IsBestTo c.args.rows.now c.args.basis.now c.args.side c.args.q n c.loop-k.best)
     (here_lem c.loop-k.k (length c.args.rows.now) start) c.loop-k.invariant
 
 pub loop-k-preserved : goal.loop-k-preserved
 loop-k-preserved c =
     subst (λ n. IsBestTo c.args.rows.now c.args.basis.now c.args.side c.args.q n
-    c.leaving_in.result) (next_lem c.loop-k.k (length c.args.rows.now)) c.leaving_in.ensures
+    c.leaving_in-best.result) (next_lem c.loop-k.k (length c.args.rows.now)) c.leaving_in-best.ensures
 
 pub returns-clause-value : goal.returns-clause-value
 returns-clause-value c =
     let rows = c.args.rows.now in
     let all : min (c.loop-k.k * 64) (length rows) ≡ length rows =
-    all_lem c.loop-k.k c.stride.result (length rows)
-    (subst (λ n. c.stride.result ≡ n / 64 + 1) c.requires.count c.stride.ensures)
+    all_lem c.loop-k.k c.stride-k-end.result (length rows)
+    (subst (λ n. c.stride-k-end.result ≡ n / 64 + 1) c.requires.count c.stride-k-end.ensures)
     (omega (arith, c.loop-k-test.false)) in
     subst (λ n. c.loop-k.best ≡ best_below n (may_leave rows c.args.q)
     (leaves_before rows c.args.basis.now c.args.side c.args.q)) all c.loop-k.invariant.value

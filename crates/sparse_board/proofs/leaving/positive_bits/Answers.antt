@@ -20,8 +20,8 @@ is_entry_positive-is_positive-requires c =
     let place = c.args.start + c.loop-bit.bit in
     let below : place < length c.args.rows.now =
     omega (arith, c.loop-bit-test.true, c.word_end-end.ensures) in
-    let wide = item_width (c.args.side + 1) c.args.rows.now place c.index-rows.result
-    c.index-rows.result c.requires.wide below c.index-rows.is in
+    let wide = item_width (c.args.side + 1) c.args.rows.now place c.index-rows-i.result
+    c.index-rows-i.result c.requires.wide below c.index-rows-i.is in
     subst (λ n. c.args.q + 1 < n) (sym wide) (omega (arith, c.requires.column))
 
 pub loop-bit-preserved : goal.loop-bit-preserved
@@ -35,8 +35,8 @@ loop-bit-preserved c =
     c.without_bit_if-kept.result c.bit_after-bit.result
     (not c.is_entry_positive-is_positive.result) c.bit_after-bit.ensures.after
     (λ e. sym (c.is_entry_positive-is_positive.ensures.value
-    ∙ ap (is_below zero_ℚ) (item_number rows place c.index-rows.result
-    c.index-rows.result below c.index-rows.is c.args.q))
+    ∙ ap (is_below zero_ℚ) (item_number rows place c.index-rows-i.result
+    c.index-rows-i.result below c.index-rows-i.is c.args.q))
     ∙ not_true c.is_entry_positive-is_positive.result e)
     c.without_bit_if-kept.ensures.kept c.without_bit_if-kept.ensures.others
     c.bit_after-bit.ensures.passed

@@ -20,7 +20,7 @@ loop-bit-preserved c =
     c.args.word c.loop-bit.kept c.loop-bit.bit c.loop-bit.invariant
     c.without_bit_if-kept.result c.bit_after-bit.result c.is_zero_at-is_zero.result
     c.bit_after-bit.ensures.after
-    (λ e. ap (λ o. numbers o c.args.q) (row_is rows place c.index-rows.result below)
+    (λ e. ap (λ o. numbers o c.args.q) (row_is rows place c.index-rows-i.result below)
     ∙ c.is_zero_at-is_zero.ensures e)
     c.without_bit_if-kept.ensures.kept c.without_bit_if-kept.ensures.others
     c.bit_after-bit.ensures.passed

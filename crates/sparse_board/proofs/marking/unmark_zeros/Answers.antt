@@ -11,11 +11,11 @@ word-word-requires-clause-column c =
 
 pub word-word-requires-clause-place : goal.word-word-requires-clause-place
 word-word-requires-clause-place c =
-    omega (arith, c.loop-k.invariant.sizes.rows, c.stride.ensures, c.loop-k-test.true)
+    omega (arith, c.loop-k.invariant.sizes.rows, c.stride-k-end.ensures, c.loop-k-test.true)
 
 pub nonzero_bits-looked-requires : goal.nonzero_bits-looked-requires
 nonzero_bits-looked-requires c =
-    omega (arith, c.requires.rows, c.stride.ensures, c.loop-k-test.true)
+    omega (arith, c.requires.rows, c.stride-k-end.ensures, c.loop-k-test.true)
 
 pub set_word-requires-clause-column : goal.set_word-requires-clause-column
 set_word-requires-clause-column c =
@@ -23,7 +23,7 @@ set_word-requires-clause-column c =
 
 pub set_word-requires-clause-place : goal.set_word-requires-clause-place
 set_word-requires-clause-place c =
-    omega (arith, c.loop-k.invariant.sizes.rows, c.stride.ensures, c.loop-k-test.true)
+    omega (arith, c.loop-k.invariant.sizes.rows, c.stride-k-end.ensures, c.loop-k-test.true)
 
 pub loop-k-preserved : goal.loop-k-preserved
 loop-k-preserved c =
