@@ -1,4 +1,4 @@
-use Rattle.std.proofs.Common.{◌≡◌, ◌+◌, ◌<◌, ◌≤◌, ◌∙◌, arith, length, subst, sym, ℕ}
+use Rattle.std.proofs.Common.{◌≡◌, ◌+◌, ◌<◌, ◌≤◌, ◌∙◌, None, arith, length, subst, sym, ℕ}
 use Rattle.std.specs.Prelude.{◌*◌, ◌/◌, min}
 use Rattle.simplex_form.specs.Search.{best_below}
 use Rattle.sparse_board.specs.Leaving.{IsBestTo, leaves_before, may_leave}
@@ -19,7 +19,7 @@ all_lem k s n e h = omega (arith, e, h)
 
 pub loop-k-init : goal.loop-k-init
 loop-k-init c =
-    subst (λ n. IsBestTo c.args.rows.now c.args.basis.now c.args.side c.args.q n _)
+    subst (λ n. IsBestTo c.args.rows.now c.args.basis.now c.args.side c.args.q n None)
     (none_lem (length c.args.rows.now))
     (best_none c.args.rows.now c.args.basis.now c.args.side c.args.q)
 

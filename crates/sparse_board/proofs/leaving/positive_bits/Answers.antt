@@ -2,7 +2,8 @@ use Rattle.std.proofs.Common.{◌≡◌, ◌+◌, ◌<◌, ◌∙◌, Bool, ap, 
 use Rattle.ratio_core.specs.Rational.{zero_ℚ}
 use Rattle.simplex_form.specs.Turns.{is_below}
 use Rattle.sparse_board.specs.Leaving.{may_leave}
-use Rattle.sparse_board.proofs.LeavingSteps.{item_number, item_width}
+use Rattle.sparse_board.specs.Rows.{numbers}
+use Rattle.sparse_board.proofs.RowsSteps.{row_is, row_wide}
 use Rattle.sparse_board.proofs.WordSteps.{looked_all, looked_first, looked_more}
 use Rattle.sparse_board.proofs.leaving.positive_bits.Goals as goal
 
@@ -20,9 +21,9 @@ is_entry_positive-is_positive-requires c =
     let place = c.args.start + c.loop-bit.bit in
     let below : place < length c.args.rows.now =
     omega (arith, c.loop-bit-test.true, c.word_end-end.ensures) in
-    let wide = item_width (c.args.side + 1) c.args.rows.now place c.index-rows-i.result
-    c.index-rows-i.result c.requires.wide below c.index-rows-i.is in
-    subst (λ n. c.args.q + 1 < n) (sym wide) (omega (arith, c.requires.column))
+    subst (λ n. c.args.q + 1 < n)
+    (sym (row_wide (c.args.side + 1) c.args.rows.now place c.index-rows-i.result c.requires.wide
+    below)) (omega (arith, c.requires.column))
 
 pub loop-bit-preserved : goal.loop-bit-preserved
 loop-bit-preserved c =
@@ -34,9 +35,9 @@ loop-bit-preserved c =
     c.args.word c.loop-bit.kept c.loop-bit.bit c.loop-bit.invariant
     c.without_bit_if-kept.result c.bit_after-bit.result
     (not c.is_entry_positive-is_positive.result) c.bit_after-bit.ensures.after
-    (λ e. sym (c.is_entry_positive-is_positive.ensures.value
-    ∙ ap (is_below zero_ℚ) (item_number rows place c.index-rows-i.result
-    c.index-rows-i.result below c.index-rows-i.is c.args.q))
+    (λ e. ap (λ o. is_below zero_ℚ (numbers o c.args.q))
+    (row_is rows place c.index-rows-i.result below)
+    ∙ sym c.is_entry_positive-is_positive.ensures.value
     ∙ not_true c.is_entry_positive-is_positive.result e)
     c.without_bit_if-kept.ensures.kept c.without_bit_if-kept.ensures.others
     c.bit_after-bit.ensures.passed
