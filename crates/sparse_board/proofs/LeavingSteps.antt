@@ -1,5 +1,5 @@
 -- Which row leaves: a row that isn't marked doesn't, and whole numbers tell what fractions do.
-use Rattle.std.specs.Prelude.{◌≡◌, ℕ, zero, suc, ◌+◌, ◌<◌, ◌≤◌, Bool, ◌&&◌, ◌||◌, true, false, if◌then◌else◌, IfSome, IsTrue, List, length, Option, Some, None, slice_index_or, pos, ◌<ℤ◌, refl}
+use Rattle.std.specs.Prelude.{◌≡◌, ℕ, zero, suc, ◌+◌, ◌-◌, ◌*◌, ◌/◌, ◌%◌, ◌<◌, ◌≤◌, Bool, ◌&&◌, ◌||◌, true, false, if◌then◌else◌, IfSome, IsTrue, List, length, min, nat_eq, Option, Some, None, slice_index_or, pos, ◌<ℤ◌, refl}
 use Rattle.std.proofs.Common.{sym, ◌∙◌, ap, arith, subst, is_lt, Ordering}
 use Rattle.std.specs.Ordering.{is_eq}
 use Rattle.ratio_core.specs.Rational.{Rational, rational_cmp, zero_ℚ, ◌/ℚ◌, ◌‹ℚ◌}
@@ -17,9 +17,12 @@ use Rattle.sparse_board.specs.declared.marks.Marks.{Marks}
 use Rattle.sparse_board.specs.declared.mixed_row.MixedRow.{MixedRow}
 use Rattle.sparse_board.specs.declared.row.Row.{Row}
 use Rattle.sparse_board.specs.Mixed.{number_of, width_of}
-use Rattle.sparse_board.specs.Leaving.{IsCandidate, leaves_before, may_leave}
+use Rattle.std.specs.Int.{bit_at}
+use Rattle.std.proofs.lemmas.Nat.Bits.{bit_at-lt}
+use Rattle.sparse_board.specs.Leaving.{IsBestTo, IsCandidate, leaves_before, may_leave}
 use Rattle.sparse_board.specs.Marking.{AreMarked}
-use Rattle.sparse_board.specs.Marks.{AreUnmarked}
+use Rattle.sparse_board.specs.Marks.{IsWord}
+use Rattle.sparse_board.specs.Words.{Clears}
 use Rattle.sparse_board.specs.Rows.{AreWide, number_in_row, numbers}
 use Rattle.sparse_board.proofs.RowsSteps.{row_is, row_wide}
 use Rattle.sparse_board.proofs.MixedSteps.{number_narrow}
@@ -89,12 +92,6 @@ better_none test before best i e passes =
 
 -- ---- the best of the rows below i
 
-pub record IsBestTo (rows : List Row) (basis : List ℕ) (side q i : ℕ) (best : Option ℕ) :
-    Type 0 where
-  pub within : i ≤ length rows
-  pub value : best ≡ best_below i (may_leave rows q) (leaves_before rows basis side q)
-  pub candidate : IfSome best (λ k. IsCandidate rows q k)
-
 best_past : (test : ℕ → Bool) (before : ℕ → ℕ → Bool) (i n : ℕ) → i ≤ n
     → ((k : ℕ) → i ≤ k → k < n → test k ≡ false)
     → best_below n test before ≡ best_below i test before
@@ -137,17 +134,75 @@ module _ (rows : List Row) (basis : List ℕ) (side q : ℕ) where
       by_test true c = c refl
       by_test false c = h.candidate
 
-  -- rows that aren't marked are passed over
-  pub best_unmarked : (i to w : ℕ) (best : Option ℕ) (marks : Marks)
-      → IsBestTo rows basis side q i best → i ≤ to → to ≤ length rows → q < w
-      → AreMarked w marks rows → AreUnmarked marks q i to → IsBestTo rows basis side q to best
-  best_unmarked i to w best marks h past within column marked unmarked = record {
+  -- rows that can't leave are passed over
+  pub best_skip : (i to : ℕ) (best : Option ℕ) → IsBestTo rows basis side q i best → i ≤ to
+      → to ≤ length rows → ((k : ℕ) → i ≤ k → k < to → may_leave rows q k ≡ false)
+      → IsBestTo rows basis side q to best
+  best_skip i to best h past within none = record {
     within = within;
-    value = h.value ∙ sym (best_past (may_leave rows q) (leaves_before rows basis side q) i to past
-        (λ k f t. zero_below (number_in_row rows k q)
-        (marked k (below_lem k to (length rows) t within) q column (unmarked k f t))));
+    value = h.value
+        ∙ sym (best_past (may_leave rows q) (leaves_before rows basis side q) i to past none);
     candidate = h.candidate;
   }
+
+  -- the same of those between two bits of a word that aren't set
+  pub best_bits : (start word bit next end : ℕ) (best : Option ℕ)
+      → IsBestTo rows basis side q (start + min bit end) best → bit ≤ next → start ≤ length rows
+      → end ≡ min 64 (length rows - start)
+      → ((k : ℕ) → bit ≤ k → k < next → bit_at word k ≡ 0)
+      → ((k : ℕ) → k < 64 → start + k < length rows → bit_at word k ≡ 0
+      → may_leave rows q (start + k) ≡ false)
+      → IsBestTo rows basis side q (start + min next end) best
+  best_bits start word bit next end best h past within is passed others =
+      best_skip (start + min bit end) (start + min next end) best h
+      (order_lem start bit next end past) (within_lem start next end (length rows) within is)
+      (λ k f t. subst (λ n. may_leave rows q n ≡ false) (place_lem k start bit end f)
+      (others (k - start) (small_lem k start next end (length rows) t is)
+      (below_lem k start bit next end (length rows) f t within is)
+      (passed (k - start) (above_lem k start bit next end f t) (before_lem k start bit next end f t))))
     where
-      below_lem : (k to n : ℕ) → k < to → to ≤ n → k < n
-      below_lem k to n b c = omega (arith, b, c)
+      order_lem : (s b n e : ℕ) → b ≤ n → s + min b e ≤ s + min n e
+      order_lem s b n e h = omega (arith, h)
+
+      within_lem : (s n e l : ℕ) → s ≤ l → e ≡ min 64 (l - s) → s + min n e ≤ l
+      within_lem s n e l h i = omega (arith, h, i)
+
+      place_lem : (k s b e : ℕ) → s + min b e ≤ k → s + (k - s) ≡ k
+      place_lem k s b e h = omega (arith, h)
+
+      small_lem : (k s n e l : ℕ) → k < s + min n e → e ≡ min 64 (l - s) → k - s < 64
+      small_lem k s n e l h i = omega (arith, h, i)
+
+      below_lem : (k s b n e l : ℕ) → s + min b e ≤ k → k < s + min n e → s ≤ l
+          → e ≡ min 64 (l - s) → s + (k - s) < l
+      below_lem k s b n e l f t h i = omega (arith, f, t, h, i)
+
+      above_lem : (k s b n e : ℕ) → s + min b e ≤ k → k < s + min n e → b ≤ k - s
+      above_lem k s b n e f t = omega (arith, f, t)
+
+      before_lem : (k s b n e : ℕ) → s + min b e ≤ k → k < s + min n e → k - s < n
+      before_lem k s b n e f t = omega (arith, f, t)
+
+-- the rows of a word's cleared bits can't leave: they aren't marked, or have no positive entry
+pub cleared_none : (rows : List Row) (marks : Marks) (w q k word kept : ℕ) → AreMarked w marks rows
+    → q < w → marks.rows ≡ length rows → IsWord q k word marks
+    → Clears (λ i. may_leave rows q i ≡ false) (length rows) (k * 64) word kept
+    → (b : ℕ) → b < 64 → k * 64 + b < length rows → bit_at kept b ≡ 0
+    → may_leave rows q (k * 64 + b) ≡ false
+cleared_none rows marks w q k word kept marked column long read clears b small within none =
+    by_bit (bit_at word b) refl (bit_at-lt word b)
+  where
+    row_lem : (k b : ℕ) → b < 64 → (k * 64 + b) / 64 ≡ k
+    row_lem k b h = omega (arith, h)
+
+    rest_lem : (k b : ℕ) → b < 64 → (k * 64 + b) % 64 ≡ b
+    rest_lem k b h = omega (arith, h)
+
+    by_bit : (x : ℕ) → bit_at word b ≡ x → x < 2 → may_leave rows q (k * 64 + b) ≡ false
+    by_bit zero e h =
+        zero_below (number_in_row rows (k * 64 + b) q)
+        (marked (k * 64 + b) within q column
+        (read (k * 64 + b) (subst (λ n. k * 64 + b < n) (sym long) within) (row_lem k b small)
+        ∙ ap (λ n. nat_eq (bit_at word n) 1) (rest_lem k b small) ∙ ap (λ x. nat_eq x 1) e))
+    by_bit (suc zero) e h = clears b small within e none
+    by_bit (suc (suc x)) e h = absurd (omega (arith, h))

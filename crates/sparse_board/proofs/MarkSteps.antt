@@ -9,7 +9,7 @@ use Rattle.std.proofs.lemmas.Nat.Bits.{bit_at-zero}
 use Rattle.simplex_laws.specs.BoundedSumLaws.{same_or_other}
 use Rattle.sparse_board.specs.declared.marks.Marks.{Marks}
 use Rattle.sparse_board.specs.Words.{AreJoined, bit_of}
-use Rattle.sparse_board.specs.Marks.{AreUnmarked, IsJoined, IsPut, SameSizes, has}
+use Rattle.sparse_board.specs.Marks.{AreUnmarked, IsJoined, IsPut, IsWord, IsWordPut, SameSizes, has}
 use Rattle.sparse_board.proofs.WordSteps.{joined_bit}
 
 -- ---- a mark is a bit
@@ -70,6 +70,22 @@ none_marked marks n zeros j i =
         by_end (inr b) =
             get_or_past (replicate n 0) p 0
             (subst (λ m. m ≤ p) (sym (length-replicate n 0)) b)
+
+pub word_place : (marks : Marks) (j k : ℕ) → j < marks.columns → k * 64 ≤ marks.rows
+    → j * marks.stride + k < vec_len marks.words
+word_place marks j k c b = word_within marks j k c (stride_lem k marks.rows marks.stride b marks.room)
+  where
+    stride_lem : (k r s : ℕ) → k * 64 ≤ r → s ≡ r / 64 + 1 → k < s
+    stride_lem k r s b e = omega (arith, b, e)
+
+-- ---- a word that is read
+
+pub word_read : (marks : Marks) (j k word : ℕ)
+    → word ≡ slice_index marks.words.items (j * marks.stride + k) → IsWord j k word marks
+word_read marks j k word read i b e =
+    has_is marks j i b
+    ∙ ap (λ n. nat_eq (bit_at (slice_index marks.words.items (j * marks.stride + n)) (i % 64)) 1) e
+    ∙ ap (λ w. nat_eq (bit_at w (i % 64)) 1) (sym read)
 
 -- ---- a word that is written
 
@@ -133,6 +149,53 @@ module _ (old new : Marks) (j i word : ℕ) (sizes : SameSizes old new)
 
     pub put_is : (mark : Bool) → nat_eq (bit_at word (i % 64)) 1 ≡ mark → IsPut j i mark old new
     put_is mark e = record { sizes = sizes; here = put_here ∙ e; others = others_kept }
+
+-- ---- a whole word that is written
+
+module _ (old new : Marks) (j k word : ℕ) (sizes : SameSizes old new)
+    (stride : new.stride ≡ old.stride)
+    (words : new.words.items ≡ slice_set old.words.items (j * old.stride + k) word)
+    (column : j < old.columns) (place : k * 64 ≤ old.rows) where
+  word_written : slice_index (slice_set old.words.items (j * old.stride + k) word)
+      (j * old.stride + k) ≡ word
+  word_written =
+      get_or-set_same old.words.items (j * old.stride + k) word 0
+      (item_within old (j * old.stride + k) (word_place old j k column place))
+
+  read_word : (l i : ℕ) → bit_of new.words.items new.stride l i
+      ≡ bit_of (slice_set old.words.items (j * old.stride + k) word) old.stride l i
+  read_word l i = λ z. bit_of (words z) (stride z) l i
+
+  other_word : (l i : ℕ) → i < old.rows → ¬ ((l ≡ j) × (i / 64 ≡ k))
+      → bit_of (slice_set old.words.items (j * old.stride + k) word) old.stride l i
+      ≡ bit_of old.words.items old.stride l i
+  other_word l i b apart =
+      ap (λ w. bit_at w (i % 64))
+      (get_or-set_other old.words.items (j * old.stride + k) (l * old.stride + i / 64) word 0
+      (λ e. apart (same_from_place l (i / 64) j k old.stride (low old i (omega (arith, b)))
+      (place_lem k old.rows old.stride place old.room) e)))
+    where
+      place_lem : (k r s : ℕ) → k * 64 ≤ r → s ≡ r / 64 + 1 → k < s
+      place_lem k r s b e = omega (arith, b, e)
+
+  pub word_put : IsWordPut j k word old new
+  word_put = record {
+    sizes = sizes;
+    here = λ i b e. has_is new j i b ∙ ap (λ x. nat_eq x 1) (read_word j i
+        ∙ ap (λ n. bit_at (slice_index (slice_set old.words.items (j * old.stride + k) word)
+        (j * old.stride + n)) (i % 64)) e
+        ∙ ap (λ w. bit_at w (i % 64)) word_written);
+    others = λ l i apart. by_row l i apart (cases_lt i old.rows);
+  }
+    where
+      by_row : (l i : ℕ) → ¬ ((l ≡ j) × (i / 64 ≡ k)) → (i < old.rows) ⊎ (old.rows ≤ i)
+          → has new l i ≡ has old l i
+      by_row l i apart (inl b) =
+          has_is new l i (subst (λ n. i < n) (sym sizes.rows) b)
+          ∙ ap (λ x. nat_eq x 1) (read_word l i ∙ other_word l i b apart)
+          ∙ sym (has_is old l i b)
+      by_row l i apart (inr b) =
+          has_past new l i (subst (λ n. n ≤ i) (sym sizes.rows) b) ∙ sym (has_past old l i b)
 
 -- ---- columns that are joined
 

@@ -1,8 +1,10 @@
 -- Marks that are set or taken away one after another.
-use Rattle.std.specs.Prelude.{◌≡◌, ℕ, ◌+◌, ◌<◌, ◌≤◌, Bool, true, false, ◌⊎◌, List, length, min, pos, slice_index, slice_index_or, slice_set, take, Some, refl}
+use Rattle.std.specs.Prelude.{◌≡◌, ℕ, ◌+◌, ◌*◌, ◌/◌, ◌%◌, ◌<◌, ◌≤◌, Bool, true, false, ◌⊎◌, nat_eq, List, length, min, pos, slice_index, slice_index_or, slice_set, take, Some, refl}
 use Rattle.std.proofs.Common.{sym, ◌∙◌, ap, arith, subst, inl, inr, true≢false}
 use Rattle.std.proofs.lemmas.List.{get_or-take, get_or_default, length-set, length-take}
+use Rattle.std.specs.Int.{bit_at}
 use Rattle.std.proofs.lemmas.Bool.{cases_lt, or_left, or_right}
+use Rattle.std.proofs.lemmas.Nat.Bits.{bit_at-lt}
 use Rattle.ratio_core.specs.Rational.{Rational, inverse_ℚ, reduce, zero_ℚ, ◌*ℚ◌, ◌/ℚ◌}
 use Rattle.rational_laws.specs.Field.{zero-*ℚ}
 use Rattle.rational_laws.specs.Over.{over-zero_ℚ}
@@ -17,10 +19,12 @@ use Rattle.whole_rows.specs.Rows as whole
 use Rattle.whole_rows.specs.declared.step.NarrowStep.{NarrowStep}
 use Rattle.sparse_board.specs.Numbers.{number_of, row_columns, row_values, width_of}
 use Rattle.sparse_board.specs.Rows.{AreLowered, AreWide, now_at, now_of, number_in_row, numbers}
-use Rattle.sparse_board.specs.Marks.{IsJoined, IsPut, SameSizes, has}
+use Rattle.sparse_board.specs.Marks.{IsJoined, IsPut, IsWord, IsWordPut, SameSizes, has}
 use Rattle.sparse_board.specs.Marking.{AreMarked, KeepMarks, MarksNumbers, MarksRow, MarksUnits}
+use Rattle.sparse_board.specs.Words.{Clears}
 use Rattle.tableau_core.specs.Numbers.{quotient_at}
 use Rattle.sparse_board.proofs.NumberLemmas.{number_missing, sought}
+use Rattle.sparse_board.proofs.WordSteps.{bit_none, bit_one}
 use Rattle.tableau_core.specs.ItemLaws.{written_at, written_off}
 
 -- what isn't marked afterwards wasn't before
@@ -76,27 +80,44 @@ pub record KeepsMarked (rows : List Row) (old now : Marks) : Type 0 where
 pub unmarked_none : (rows : List Row) (marks : Marks) → KeepsMarked rows marks marks
 unmarked_none rows marks = record { sizes = sizes_none marks; marked = λ w h. h }
 
-module _ (rows : List Row) (old now new : Marks) (q i : ℕ) (h : KeepsMarked rows old now)
-    (row : i < length rows) (sizes : SameSizes now new)
-    (others : (l k : ℕ) → ¬ ((l ≡ q) × (k ≡ i)) → has new l k ≡ has now l k)
-    (zero : has now q i ≡ true → has new q i ≡ false → number_in_row rows i q ≡ zero_ℚ) where
-  left_zero : (w : ℕ) → AreMarked w old rows → q < w → has new q i ≡ false
-      → number_in_row rows i q ≡ zero_ℚ
-  left_zero w marked b e = by_test (has now q i) refl
+-- a word whose bits of zeros are cleared
+module _ (rows : List Row) (old now new : Marks) (q k word kept : ℕ)
+    (h : KeepsMarked rows old now) (long : now.rows ≡ length rows) (read : IsWord q k word now)
+    (put : IsWordPut q k kept now new)
+    (clears : Clears (λ i. number_in_row rows i q ≡ zero_ℚ) (length rows) (k * 64) word kept) where
+  left_zero : (w i : ℕ) → AreMarked w old rows → i < length rows → q < w → i / 64 ≡ k
+      → has new q i ≡ false → number_in_row rows i q ≡ zero_ℚ
+  left_zero w i marked b c g e = by_test (has now q i) refl
     where
+      within : i < now.rows
+      within = subst (λ n. i < n) (sym long) b
+
+      cleared : bit_at kept (i % 64) ≡ 0
+      cleared =
+          bit_none (bit_at kept (i % 64)) (bit_at-lt kept (i % 64))
+          (sym (put.here i (subst (λ n. i < n) (sym put.sizes.rows) within) g) ∙ e)
+
+      place_lem : (i k : ℕ) → i / 64 ≡ k → k * 64 + i % 64 ≡ i
+      place_lem i k g = omega (arith, g)
+
       by_test : (t : Bool) → has now q i ≡ t → number_in_row rows i q ≡ zero_ℚ
-      by_test true f = zero f e
-      by_test false f = h.marked w marked i row q b f
+      by_test true f =
+          subst (λ n. number_in_row rows n q ≡ zero_ℚ) (place_lem i k g)
+          (clears (i % 64) (omega arith)
+          (subst (λ n. n < length rows) (sym (place_lem i k g)) b)
+          (bit_one (bit_at word (i % 64)) (bit_at-lt word (i % 64)) (sym (read i within g) ∙ f))
+          cleared)
+      by_test false f = h.marked w marked i b q c f
 
   pub unmarked_more : KeepsMarked rows old new
   unmarked_more = record {
-    sizes = sizes_more old now new h.sizes sizes;
-    marked = λ w marked k c j d e. same_or_other (number_in_row rows k j ≡ zero_ℚ) j q
-        (λ f. same_or_other (number_in_row rows k j ≡ zero_ℚ) k i
-        (λ g. (λ z. number_in_row rows (g z) (f z))
-        ∙ left_zero w marked (subst (λ n. n < w) f d) ((λ z. has new (sym f z) (sym g z)) ∙ e))
-        (λ n. h.marked w marked k c j d (sym (others j k (λ b. n b.1)) ∙ e)))
-        (λ n. h.marked w marked k c j d (sym (others j k (λ b. n b.0)) ∙ e));
+    sizes = sizes_more old now new h.sizes put.sizes;
+    marked = λ w marked i c j d e. same_or_other (number_in_row rows i j ≡ zero_ℚ) j q
+        (λ f. same_or_other (number_in_row rows i j ≡ zero_ℚ) (i / 64) k
+        (λ g. ap (number_in_row rows i) f
+        ∙ left_zero w i marked c (subst (λ n. n < w) f d) g (ap (λ n. has new n i) (sym f) ∙ e))
+        (λ n. h.marked w marked i c j d (sym (put.others j i (λ b. n b.1)) ∙ e)))
+        (λ n. h.marked w marked i c j d (sym (put.others j i (λ b. n b.0)) ∙ e));
   }
 
 -- ---- a row marked in its first k columns

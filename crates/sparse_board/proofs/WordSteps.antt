@@ -1,13 +1,13 @@
 -- Bits of a word that is shifted, and words that are joined one after another.
-use Rattle.std.specs.Prelude.{◌≡◌, ℕ, zero, suc, ◌+◌, ◌-◌, ◌/◌, ◌%◌, ◌^◌, ◌<◌, ◌≤◌, ◌⊎◌, ◌||◌, nat_eq, List, length, max, bit_or, slice_index, slice_set, refl}
-use Rattle.std.proofs.Common.{inl, inr, sym, ◌∙◌, ap, arith, w64}
-use Rattle.std.specs.Int.{bit_at, trailing_zeros}
+use Rattle.std.specs.Prelude.{◌≡◌, ℕ, zero, suc, ◌+◌, ◌-◌, ◌*◌, ◌/◌, ◌%◌, ◌^◌, ◌<◌, ◌≤◌, ◌⊎◌, ◌||◌, Bool, IsTrue, true, false, nat_eq, List, length, max, min, bit_and, bit_or, slice_index, slice_set, refl}
+use Rattle.std.proofs.Common.{inl, inr, sym, ◌∙◌, ap, arith, subst, true≢false, w64}
+use Rattle.std.specs.Int.{bit_at, bit_not, trailing_zeros}
 use Rattle.std.proofs.lemmas.Bool.{cases_lt}
 use Rattle.std.proofs.lemmas.List.{get_or-set_other, get_or-set_same}
 use Rattle.std.proofs.lemmas.Nat.{shr-shr, shr_le}
-use Rattle.std.proofs.lemmas.Nat.Bits.{bit_at-lt, bit_at-trailing_zeros, bit_at-zero, bit_at_above, bit_at_or}
+use Rattle.std.proofs.lemmas.Nat.Bits.{bit_at-lt, bit_at-trailing_zeros, bit_at-zero, bit_at_above, bit_at_and, bit_at_clear_other, bit_at_clear_same, bit_at_ones, bit_at_or}
 use Rattle.simplex_laws.specs.BoundedSumLaws.{same_or_other}
-use Rattle.sparse_board.specs.Words.{AreJoined}
+use Rattle.sparse_board.specs.Words.{AreJoined, Clears}
 
 -- ---- a word that is shifted
 
@@ -52,6 +52,126 @@ module _ (word from : ℕ) (small : word < 2 ^ 64) (some : 0 < word / 2 ^ from) 
     where
       below_lem : (k from n : ℕ) → from ≤ k → k < from + n → k - from < n
       below_lem k from n f b = omega (arith, f, b)
+
+-- ---- a bit that is cleared where that is asked for
+
+clears_here_is : (word m k : ℕ) → k < 64 → m ≡ 1
+    → bit_at (bit_and word (bit_not w64 (m * 2 ^ k % 2 ^ 64))) k ≡ 0
+clears_here_is word m k within e =
+    ap (λ x. bit_at (bit_and word (bit_not w64 (x * 2 ^ k % 2 ^ 64))) k) e
+    ∙ bit_at_clear_same w64 word k within
+
+clears_none_is : (word m k : ℕ) → m ≡ 0 → (i : ℕ) → i < 64
+    → bit_at (bit_and word (bit_not w64 (m * 2 ^ k % 2 ^ 64))) i ≡ bit_at word i
+clears_none_is word m k e i b =
+    ap (λ x. bit_at (bit_and word (bit_not w64 x)) i) (zero_lem m (2 ^ k) e)
+    ∙ bit_at_and word (bit_not w64 0) i
+    ∙ ap (min (bit_at word i)) (bit_at_ones 64 i b)
+    ∙ least_lem (bit_at word i) (bit_at-lt word i)
+  where
+    zero_lem : (m p : ℕ) → m ≡ 0 → m * p % 2 ^ 64 ≡ 0
+    zero_lem m p e = ap (λ x. x * p % 2 ^ 64) e ∙ none_lem p
+      where
+        none_lem : (p : ℕ) → 0 * p % 2 ^ 64 ≡ 0
+        none_lem p = omega arith
+
+    least_lem : (x : ℕ) → x < 2 → min x 1 ≡ x
+    least_lem x h = omega (arith, h)
+
+module _ (word m k : ℕ) (within : k < 64) (clears : Bool) (one : IsTrue clears → m ≡ 1)
+    (none : clears ≡ false → m ≡ 0) where
+  pub clears_here : IsTrue clears
+      → bit_at (bit_and word (bit_not w64 (m * 2 ^ k % 2 ^ 64))) k ≡ 0
+  clears_here t = clears_here_is word m k within (one t)
+
+  pub clears_none : clears ≡ false
+      → bit_at (bit_and word (bit_not w64 (m * 2 ^ k % 2 ^ 64))) k ≡ bit_at word k
+  clears_none e = clears_none_is word m k (none e) k within
+
+  pub clears_others : (i : ℕ) → i < 64 → ¬ (i ≡ k)
+      → bit_at (bit_and word (bit_not w64 (m * 2 ^ k % 2 ^ 64))) i ≡ bit_at word i
+  clears_others i b apart = by_test clears refl
+    where
+      by_test : (t : Bool) → clears ≡ t
+          → bit_at (bit_and word (bit_not w64 (m * 2 ^ k % 2 ^ 64))) i ≡ bit_at word i
+      by_test true e =
+          ap (λ x. bit_at (bit_and word (bit_not w64 (x * 2 ^ k % 2 ^ 64))) i) (one e)
+          ∙ bit_at_clear_other w64 word k within i b apart
+      by_test false e = clears_none_is word m k (none e) i b
+
+-- ---- bits that are cleared one after another
+
+pub bit_none : (x : ℕ) → x < 2 → nat_eq x 1 ≡ false → x ≡ 0
+bit_none zero b e = refl
+bit_none (suc zero) b e = absurd (true≢false e)
+bit_none (suc (suc x)) b e = absurd (omega (arith, b))
+
+pub bit_one : (x : ℕ) → x < 2 → nat_eq x 1 ≡ true → x ≡ 1
+bit_one zero b e = absurd (true≢false (sym e))
+bit_one (suc zero) b e = refl
+bit_one (suc (suc x)) b e = absurd (omega (arith, b))
+
+one_zero : (x : ℕ) → x ≡ 1 → x ≡ 0 → ⊥
+one_zero x e f = omega (arith, e, f)
+
+-- of the bits below `bit` only those of rows with P are cleared, and the others stay
+pub record AreLookedTo (P : ℕ → Type 0) (n start word kept bit : ℕ) : Type 0 where
+  pub cleared : (k : ℕ) → k < bit → k < 64 → start + k < n → bit_at word k ≡ 1
+      → bit_at kept k ≡ 0 → P (start + k)
+  pub same : (k : ℕ) → bit ≤ k → k < 64 → bit_at kept k ≡ bit_at word k
+
+pub looked_first : (P : ℕ → Type 0) (n start word bit : ℕ)
+    → ((k : ℕ) → 0 ≤ k → k < bit → bit_at word k ≡ 0) → AreLookedTo P n start word word bit
+looked_first P n start word bit passed = record {
+  cleared = λ k b c d e f. absurd (one_zero (bit_at word k) e (passed k (omega arith) b));
+  same = λ k b c. refl;
+}
+
+module _ (P : ℕ → Type 0) (n start word kept bit : ℕ) (h : AreLookedTo P n start word kept bit)
+  where
+    pub looked_more : (new next : ℕ) (clears : Bool) → bit < next → (clears ≡ true → P (start + bit))
+        → (clears ≡ false → bit_at new bit ≡ bit_at kept bit)
+        → ((i : ℕ) → i < 64 → ¬ (i ≡ bit) → bit_at new i ≡ bit_at kept i)
+        → ((k : ℕ) → bit < k → k < next → bit_at word k ≡ 0) → AreLookedTo P n start word new next
+    looked_more new next clears after holds stays others passed = record {
+      cleared = λ k b c d e f. same_or_other (P (start + k)) k bit
+          (λ g. subst (λ m. P (start + m)) (sym g)
+          (by_test clears refl (subst (λ m. bit_at word m ≡ 1) g e)
+          (subst (λ m. bit_at new m ≡ 0) g f) (subst (λ m. m < 64) g c)))
+          (λ m. by_order k b c d e f m (cases_lt k bit));
+      same = λ k b c. others k c (apart_lem k bit next after b)
+          ∙ h.same k (above_lem k bit next after b) c;
+    }
+      where
+        apart_lem : (k bit next : ℕ) → bit < next → next ≤ k → k ≡ bit → ⊥
+        apart_lem k bit next a b e = omega (arith, a, b, e)
+
+        above_lem : (k bit next : ℕ) → bit < next → next ≤ k → bit ≤ k
+        above_lem k bit next a b = omega (arith, a, b)
+
+        beyond_lem : (k bit : ℕ) → bit ≤ k → ¬ (k ≡ bit) → bit < k
+        beyond_lem k bit a m = omega (arith, a, m)
+
+        by_test : (t : Bool) → clears ≡ t → bit_at word bit ≡ 1 → bit_at new bit ≡ 0 → bit < 64
+            → P (start + bit)
+        by_test true t e f c = holds t
+        by_test false t e f c =
+            absurd (one_zero (bit_at word bit) e
+            (sym (h.same bit (omega arith) c) ∙ sym (stays t) ∙ f))
+
+        by_order : (k : ℕ) → k < next → k < 64 → start + k < n → bit_at word k ≡ 1
+            → bit_at new k ≡ 0 → ¬ (k ≡ bit) → (k < bit) ⊎ (bit ≤ k) → P (start + k)
+        by_order k b c d e f m (inl l) = h.cleared k l c d e (sym (others k c m) ∙ f)
+        by_order k b c d e f m (inr l) =
+            absurd (one_zero (bit_at word k) e (passed k (beyond_lem k bit l m) b))
+
+    pub looked_all : (end : ℕ) → start ≤ n → end ≡ min 64 (n - start) → end ≤ bit
+        → Clears P n start word kept
+    looked_all end within is past k b c e f =
+        h.cleared k (end_lem k start n end bit b c within is past) b c e f
+      where
+        end_lem : (k s n e b : ℕ) → k < 64 → s + k < n → s ≤ n → e ≡ min 64 (n - s) → e ≤ b → k < b
+        end_lem k s n e b c d h i p = omega (arith, c, d, h, i, p)
 
 -- ---- words that are joined
 

@@ -1,6 +1,7 @@
 -- Marks of rows in columns.
-use Rattle.std.specs.Prelude.{◌≡◌, ℕ, ◌<◌, ◌≤◌, Bool, false, ◌&&◌, ◌||◌, nat_eq, nat_lt}
+use Rattle.std.specs.Prelude.{◌≡◌, ℕ, ◌/◌, ◌%◌, ◌<◌, ◌≤◌, Bool, false, ◌&&◌, ◌||◌, nat_eq, nat_lt}
 use Rattle.sparse_board.specs.declared.marks.Marks.{Marks}
+use Rattle.std.specs.Int.{bit_at}
 use Rattle.sparse_board.specs.Words.{bit_of}
 
 -- row i is marked in column j
@@ -27,3 +28,14 @@ pub record IsJoined (from to : ℕ) (old new : Marks) : Type 0 where
 -- no row from `from` on below `to` is marked in column j
 abbrev pub AreUnmarked : Marks → ℕ → ℕ → ℕ → Type 0
 AreUnmarked marks j from to = (i : ℕ) → from ≤ i → i < to → has marks j i ≡ false
+
+-- the rows of the k-th word of column j are marked as its bits are set
+abbrev pub IsWord : ℕ → ℕ → ℕ → Marks → Type 0
+IsWord j k word marks =
+    (i : ℕ) → i < marks.rows → i / 64 ≡ k → has marks j i ≡ nat_eq (bit_at word (i % 64)) 1
+
+-- the same now, and all other marks stay
+pub record IsWordPut (j k word : ℕ) (old new : Marks) : Type 0 where
+  pub sizes : SameSizes old new
+  pub here : IsWord j k word new
+  pub others : (l i : ℕ) → ¬ ((l ≡ j) × (i / 64 ≡ k)) → has new l i ≡ has old l i

@@ -12,3 +12,8 @@ pub record AreJoined (from to n : ℕ) (old new : List ℕ) : Type 0 where
       ≡ bit_or (slice_index old (to + k)) (slice_index old (from + k))
   pub others : (p : ℕ) → ((k : ℕ) → k < n → ¬ (p ≡ to + k)) → slice_index new p
       ≡ slice_index old p
+
+-- of the rows from `start` on, below n, whose bits of a word are set, only those with P lose them
+abbrev pub Clears : (ℕ → Type 0) → ℕ → ℕ → ℕ → ℕ → Type 0
+Clears P n start word kept =
+    (k : ℕ) → k < 64 → start + k < n → bit_at word k ≡ 1 → bit_at kept k ≡ 0 → P (start + k)

@@ -1,18 +1,21 @@
 //! The row that leaves, by whole numbers where two rows have them.
-ghost use Rattle.std.specs.Prelude.{◌≡◌, ◌+◌, ◌<◌, IsTrue, IfSome, Some, false, if◌then◌else◌, length};
+ghost use Rattle.std.specs.Prelude.{◌≡◌, ◌+◌, ◌<◌, ◌≤◌, ℕ, IsTrue, IfSome, Some, false, if◌then◌else◌, length, min};
 ghost use Rattle.ratio_core.specs.Rational.{zero_ℚ, ◌/ℚ◌, ◌‹ℚ◌};
 ghost use Rattle.simplex_form.specs.Search.{best_below, better_of};
 ghost use Rattle.simplex_form.specs.Turns.{is_below};
 ghost use Rattle.tableau_core.specs.Leaving.{comes_before};
-ghost use Rattle.sparse_board.specs.Leaving.{IsCandidate, leaves_before, may_leave};
+ghost use Rattle.sparse_board.specs.Leaving.{IsBestTo, IsCandidate, leaves_before, may_leave};
 ghost use Rattle.sparse_board.specs.Mixed.{number_of, width_of};
 ghost use Rattle.sparse_board.specs.Marking.{AreMarked};
 ghost use Rattle.sparse_board.specs.Rows.{AreWide};
+ghost use Rattle.sparse_board.specs.Words.{Clears};
+ghost use Rattle.std.specs.Int.{bit_at};
 ghost use Rattle.whole_rows.specs.Rows as whole;
 
 use crate::marks::Marks;
 use crate::mixed_row::MixedRow;
 use crate::row::Row;
+use crate::words::{bit_after, next_bit, without_bit_if, word_end};
 use std::cmp::Ordering;
 use tableau_core::is_positive;
 use whole_rows::{has_positive, is_before};
@@ -39,12 +42,63 @@ pub(crate) fn leaving(
     ensures candidate { IfSome result (λ r. IsCandidate rows.now q r) }
 {
     let mut best = None;
-    let mut i = marks.next_row(q, 0);
-    while i < rows.len() {
+    for k in 0..marks.stride() {
+        let word = positive_bits(rows, side, q, k * 64, marks.word(q, k));
+        best = leaving_in(rows, basis, side, q, k * 64, word, best);
+    }
+    best
+}
+
+// Clears the bits of a word whose rows have no positive entry of column q; its first bit is of row
+// `start`. The entries lie far apart: none is waited for before the next is asked for.
+#[inline]
+fn positive_bits(rows: &[Row], side: usize, q: usize, start: usize, word: u64) -> u64
+    requires wide { AreWide (side + 1) rows.now }
+    requires column { q < side }
+    requires start { start ≤ length rows.now }
+    ensures { Clears (λ i. may_leave rows.now q i ≡ false) (length rows.now) start word result }
+{
+    let mut kept = word;
+    let end = word_end(rows.len() - start);
+    let mut bit = next_bit(word, 0);
+    while bit < end {
+        let i = start + bit;
+        let is_positive = is_entry_positive(&rows[i].now, q);
+        kept = without_bit_if(kept, bit, !is_positive);
+        bit = bit_after(word, bit);
+    }
+    kept
+}
+
+// The best of the first rows and of those of a word's bits, whose first is of row `start`.
+#[inline]
+fn leaving_in(
+    rows: &[Row],
+    basis: &[usize],
+    side: usize,
+    q: usize,
+    start: usize,
+    word: u64,
+    first: Option<usize>,
+) -> Option<usize>
+    requires wide { AreWide (side + 1) rows.now }
+    requires column { q < side }
+    requires basis { length basis.now ≡ length rows.now }
+    requires start { start ≤ length rows.now }
+    requires others { (k : ℕ) → k < 64 → start + k < length rows.now → bit_at word k ≡ 0
+        → may_leave rows.now q (start + k) ≡ false }
+    requires first { IsBestTo rows.now basis.now side q start first }
+    ensures { IsBestTo rows.now basis.now side q (min (start + 64) (length rows.now)) result }
+{
+    let mut best = first;
+    let end = word_end(rows.len() - start);
+    let mut bit = next_bit(word, 0);
+    while bit < end {
+        let i = start + bit;
         if leaves_first(rows, basis, side, q, i, best) {
             best = Some(i);
         }
-        i = marks.next_row(q, i + 1);
+        bit = bit_after(word, bit);
     }
     best
 }

@@ -1,9 +1,10 @@
 //! Which numbers of the rows may differ from 0: a row isn't looked at for another.
-ghost use Rattle.std.specs.Prelude.{◌≡◌, ◌+◌, ◌<◌, ◌^◌, ℕ, IsTrue, IfOk, false, length, true};
+ghost use Rattle.std.specs.Prelude.{◌≡◌, ◌+◌, ◌<◌, ◌≤◌, ◌^◌, ℕ, IsTrue, IfOk, false, length, true};
 ghost use Rattle.ratio_core.specs.Rational.{zero_ℚ};
 ghost use Rattle.sparse_board.specs.Mixed as mixed;
 ghost use Rattle.sparse_board.specs.Numbers.{number_of, width_of};
-ghost use Rattle.sparse_board.specs.Rows.{AreWide};
+ghost use Rattle.sparse_board.specs.Rows.{AreWide, number_in_row};
+ghost use Rattle.sparse_board.specs.Words.{Clears};
 ghost use Rattle.sparse_board.specs.Marks.{SameSizes, has};
 ghost use Rattle.sparse_board.specs.Marking.{AreMarked, KeepMarks, MarksNumbers, MarksRow, MarksUnits};
 ghost use Rattle.whole_rows.specs.Rows as whole;
@@ -13,6 +14,7 @@ use crate::mixed_row::MixedRow;
 use crate::row::Row;
 use crate::sparse_row::SparseRow;
 use crate::step::Step;
+use crate::words::{bit_after, next_bit, without_bit_if, word_end};
 use std::alloc::{AllocError, Global};
 use whole_rows::{NarrowRow, NarrowStep, is_nonzero_at};
 
@@ -95,31 +97,42 @@ pub(crate) fn unmark_zeros(rows: &[Row], q: u32, marks: &mut Marks) -> bool
     ensures marked { (w : ℕ) → AreMarked w marks.old rows.now → AreMarked w marks.new rows.now }
 {
     let mut has_wide = false;
-    let mut i = marks.next_row(q as usize, 0);
-    while i < rows.len() {
-        let stays_wide = unmark_zero(&rows[i].now, q, i, marks);
-        has_wide = has_wide | stays_wide;
-        i = marks.next_row(q as usize, i + 1);
+    for k in 0..marks.stride() {
+        let word = marks.word(q as usize, k);
+        let looked = nonzero_bits(rows, q, k * 64, word);
+        marks.set_word(q as usize, k, looked.kept);
+        has_wide = has_wide | looked.has_wide;
     }
     has_wide
 }
 
-// The same of the mark of row i.
+// The bits of a word that stay set, and whether a row of one of them is of fractions.
+#[derive(Clone, Copy, Drop)]
+struct Looked {
+    kept: u64,
+    has_wide: bool,
+}
+
+// Clears the bits of a word whose rows have no number in column q; its first bit is of row `start`.
 #[inline]
-fn unmark_zero(row: &MixedRow, q: u32, i: usize, marks: &mut Marks) -> bool
-    requires column { q < marks.old.columns }
-    requires row { i < marks.old.rows }
-    ensures sizes { SameSizes marks.old marks.new }
-    ensures others { (l k : ℕ) → ¬ ((l ≡ q) × (k ≡ i))
-        → has marks.new l k ≡ has marks.old l k }
-    ensures zero { has marks.old q i ≡ true → has marks.new q i ≡ false
-        → mixed.number_of row.now q ≡ zero_ℚ }
+fn nonzero_bits(rows: &[Row], q: u32, start: usize, word: u64) -> Looked
+    requires { start ≤ length rows.now }
+    ensures { Clears (λ i. number_in_row rows.now i q ≡ zero_ℚ) (length rows.now) start word
+        result.kept }
 {
-    if !is_zero_at(row, q) {
-        return row.is_wide;
+    let mut kept = word;
+    let mut has_wide = false;
+    let end = word_end(rows.len() - start);
+    let mut bit = next_bit(word, 0);
+    while bit < end {
+        let i = start + bit;
+        let row = &rows[i].now;
+        let is_zero = is_zero_at(row, q);
+        kept = without_bit_if(kept, bit, is_zero);
+        has_wide = has_wide | (row.is_wide & !is_zero);
+        bit = bit_after(word, bit);
     }
-    marks.unset(q as usize, i);
-    false
+    Looked { kept, has_wide }
 }
 
 // Whether the row's number of column q is 0.

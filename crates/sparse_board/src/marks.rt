@@ -1,7 +1,7 @@
 //! Marks of rows in columns.
 ghost use Rattle.std.specs.Prelude.{◌≡◌, ◌+◌, ◌*◌, ◌/◌, ◌^◌, ◌<◌, vec_len};
 
-use crate::words::{has_bit, join_words, next_bit, with_bit, without_bit, zeros_from};
+use crate::words::{has_bit, join_words, next_bit, with_bit, zeros_from};
 use std::alloc::{AllocError, Global};
 
 // The rows of a column are bits of words: 64 rows without a mark are passed over at once, and two
@@ -20,7 +20,7 @@ pub(crate) struct Marks {
 
 impl Marks {
     ghost use Rattle.std.specs.Prelude.{◌≤◌, ℕ, true, false, IfOk};
-    ghost use Rattle.sparse_board.specs.Marks.{AreUnmarked, IsJoined, IsPut, has};
+    ghost use Rattle.sparse_board.specs.Marks.{AreUnmarked, IsJoined, IsPut, IsWord, IsWordPut, has};
 
     // No marks, in this number of columns of this number of rows.
     pub(crate) fn none(alloc: Global, columns: usize, rows: usize) -> Result<Marks, AllocError>
@@ -51,6 +51,36 @@ impl Marks {
         has_bit(self.words[place], row % 64)
     }
 
+    // How many words a column has.
+    #[inline]
+    pub(crate) fn stride(&self) -> usize
+        ensures { result ≡ self.now.rows / 64 + 1 }
+    {
+        self.stride
+    }
+
+    // The k-th word of a column: its rows are those from 64 * k on.
+    #[inline]
+    pub(crate) fn word(&self, column: usize, k: usize) -> u64
+        requires column { column < self.now.columns }
+        requires place { k * 64 ≤ self.now.rows }
+        ensures { IsWord column k result self.now }
+    {
+        let place = column * self.stride + k;
+        self.words[place]
+    }
+
+    // Puts the k-th word of a column.
+    #[inline]
+    pub(crate) fn set_word(&mut self, column: usize, k: usize, word: u64)
+        requires column { column < self.old.columns }
+        requires place { k * 64 ≤ self.old.rows }
+        ensures { IsWordPut column k word self.old self.new }
+    {
+        let place = column * self.stride + k;
+        self.words[place] = word;
+    }
+
     // Marks a row in a column.
     #[inline]
     pub(crate) fn set(&mut self, column: usize, row: usize)
@@ -60,18 +90,6 @@ impl Marks {
     {
         let place = column * self.stride + row / 64;
         let word = with_bit(self.words[place], row % 64);
-        self.words[place] = word;
-    }
-
-    // Takes the mark of a row in a column away.
-    #[inline]
-    pub(crate) fn unset(&mut self, column: usize, row: usize)
-        requires column { column < self.old.columns }
-        requires row { row < self.old.rows }
-        ensures { IsPut column row false self.old self.new }
-    {
-        let place = column * self.stride + row / 64;
-        let word = without_bit(self.words[place], row % 64);
         self.words[place] = word;
     }
 

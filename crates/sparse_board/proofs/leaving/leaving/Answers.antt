@@ -1,62 +1,69 @@
-use Rattle.std.proofs.Common.{◌≡◌, ◌+◌, ◌≤◌, ◌∙◌, Some, arith, if◌then◌else◌, length, subst, sym}
+use Rattle.std.proofs.Common.{◌≡◌, ◌+◌, ◌<◌, ◌≤◌, ◌∙◌, None, arith, length, subst, sym, ℕ}
+use Rattle.std.specs.Prelude.{◌*◌, ◌/◌, min}
 use Rattle.simplex_form.specs.Search.{best_below}
-use Rattle.sparse_board.specs.Leaving.{leaves_before, may_leave}
-use Rattle.sparse_board.proofs.LeavingSteps.{IsBestTo, best_none, best_unmarked, best_with}
+use Rattle.sparse_board.specs.Leaving.{IsBestTo, leaves_before, may_leave}
+use Rattle.sparse_board.proofs.LeavingSteps.{best_none, cleared_none}
 use Rattle.sparse_board.proofs.leaving.leaving.Goals as goal
-use Rattle.sparse_board.proofs.leaving.leaving.Goals.{then-leaves_first, else-leaves_first}
 
-pub next_row-i-requires-clause-column : goal.next_row-i-requires-clause-column
-next_row-i-requires-clause-column c = omega (arith, c.requires.columns, c.requires.column)
+none_lem : (n : ℕ) → 0 ≡ min (0 * 64) n
+none_lem n = omega arith
 
-pub loop-i-init : goal.loop-i-init
-loop-i-init c =
-    best_unmarked c.args.rows.now c.args.basis.now c.args.side c.args.q 0 c.next_row-i.result
-    (c.args.side + 1) _ c.args.marks.now
-    (best_none c.args.rows.now c.args.basis.now c.args.side c.args.q) (omega arith)
-    (subst (λ n. c.next_row-i.result ≤ n) c.requires.count c.next_row-i.ensures.within)
-    (omega (arith, c.requires.column)) c.requires.marked c.next_row-i.ensures.passed
+here_lem : (k n : ℕ) → k * 64 ≤ n → min (k * 64) n ≡ k * 64
+here_lem k n h = omega (arith, h)
 
-pub next_row-i-requires-in-loop-i-clause-column :
-    goal.next_row-i-requires-in-loop-i-clause-column
-next_row-i-requires-in-loop-i-clause-column c =
-    omega (arith, c.requires.columns, c.requires.column)
+next_lem : (k n : ℕ) → min (k * 64 + 64) n ≡ min ((k + 1) * 64) n
+next_lem k n = omega arith
 
-pub next_row-i-requires-in-loop-i-clause-from : goal.next_row-i-requires-in-loop-i-clause-from
-next_row-i-requires-in-loop-i-clause-from c = omega (arith, c.requires.count, c.loop-i-test.true)
+all_lem : (k s n : ℕ) → s ≡ n / 64 + 1 → s ≤ k → min (k * 64) n ≡ n
+all_lem k s n e h = omega (arith, e, h)
 
-pub loop-i-preserved : goal.loop-i-preserved
-loop-i-preserved c =
-    let rows = c.args.rows.now in
-    let basis = c.args.basis.now in
-    let side = c.args.side in
-    let i = c.loop-i.i in
-    let to = c.next_row-i-in-loop-i.result in
-    let here : IsBestTo rows basis side c.args.q (i + 1) c.if-leaves_first.best =
-    elim c.if-leaves_first.branch [
-      | then-leaves_first k ↦
-          best_with rows basis side c.args.q i c.loop-i.best c.if-leaves_first.best
-          c.leaves_first.result c.loop-i.invariant c.loop-i-test.true c.leaves_first.ensures.value
-          c.leaves_first.ensures.candidate
-          (k.best-is ∙ (λ z. if sym k.if-leaves_first.true z then Some i else c.loop-i.best))
-      | else-leaves_first k ↦
-          best_with rows basis side c.args.q i c.loop-i.best c.if-leaves_first.best
-          c.leaves_first.result c.loop-i.invariant c.loop-i-test.true c.leaves_first.ensures.value
-          c.leaves_first.ensures.candidate
-          (k.best-is ∙ (λ z. if sym k.if-leaves_first.false z then Some i else c.loop-i.best))
-    ] in
-    best_unmarked rows basis side c.args.q (i + 1) to (side + 1) c.if-leaves_first.best
-    c.args.marks.now here c.next_row-i-in-loop-i.ensures.from
-    (subst (λ n. to ≤ n) c.requires.count c.next_row-i-in-loop-i.ensures.within)
-    (omega (arith, c.requires.column)) c.requires.marked
-    c.next_row-i-in-loop-i.ensures.passed
+pub loop-k-init : goal.loop-k-init
+loop-k-init c =
+    subst (λ n. IsBestTo c.args.rows.now c.args.basis.now c.args.side c.args.q n None)
+    (none_lem (length c.args.rows.now))
+    (best_none c.args.rows.now c.args.basis.now c.args.side c.args.q)
+
+pub word-requires-clause-column : goal.word-requires-clause-column
+word-requires-clause-column c = omega (arith, c.requires.columns, c.requires.column)
+
+pub word-requires-clause-place : goal.word-requires-clause-place
+word-requires-clause-place c = omega (arith, c.stride-k-end.ensures, c.loop-k-test.true)
+
+pub positive_bits-word-requires-clause-start : goal.positive_bits-word-requires-clause-start
+positive_bits-word-requires-clause-start c =
+    omega (arith, c.requires.count, c.stride-k-end.ensures, c.loop-k-test.true)
+
+pub leaving_in-best-requires-clause-start : goal.leaving_in-best-requires-clause-start
+leaving_in-best-requires-clause-start c =
+    omega (arith, c.requires.count, c.stride-k-end.ensures, c.loop-k-test.true)
+
+pub leaving_in-best-requires-clause-others : goal.leaving_in-best-requires-clause-others
+leaving_in-best-requires-clause-others c =
+    cleared_none c.args.rows.now c.args.marks.now (c.args.side + 1) c.args.q c.loop-k.k
+    c.word.result c.positive_bits-word.result c.requires.marked
+    (omega (arith, c.requires.column)) c.requires.count c.word.ensures c.positive_bits-word.ensures
+
+pub leaving_in-best-requires-clause-first : goal.leaving_in-best-requires-clause-first
+leaving_in-best-requires-clause-first c =
+    let start : c.loop-k.k * 64 ≤ length c.args.rows.now =
+    omega (arith, c.requires.count, c.stride-k-end.ensures, c.loop-k-test.true) in
+    subst (λ n. IsBestTo c.args.rows.now c.args.basis.now c.args.side c.args.q n c.loop-k.best)
+    (here_lem c.loop-k.k (length c.args.rows.now) start) c.loop-k.invariant
+
+pub loop-k-preserved : goal.loop-k-preserved
+loop-k-preserved c =
+    subst (λ n. IsBestTo c.args.rows.now c.args.basis.now c.args.side c.args.q n
+    c.leaving_in-best.result) (next_lem c.loop-k.k (length c.args.rows.now)) c.leaving_in-best.ensures
 
 pub returns-clause-value : goal.returns-clause-value
 returns-clause-value c =
     let rows = c.args.rows.now in
-    let all : c.loop-i.i ≡ length rows =
-    omega (arith, c.loop-i.invariant.within, c.loop-i-test.false) in
-    subst (λ n. c.loop-i.best ≡ best_below n (may_leave rows c.args.q)
-    (leaves_before rows c.args.basis.now c.args.side c.args.q)) all c.loop-i.invariant.value
+    let all : min (c.loop-k.k * 64) (length rows) ≡ length rows =
+    all_lem c.loop-k.k c.stride-k-end.result (length rows)
+    (subst (λ n. c.stride-k-end.result ≡ n / 64 + 1) c.requires.count c.stride-k-end.ensures)
+    (omega (arith, c.loop-k-test.false)) in
+    subst (λ n. c.loop-k.best ≡ best_below n (may_leave rows c.args.q)
+    (leaves_before rows c.args.basis.now c.args.side c.args.q)) all c.loop-k.invariant.value
 
 pub returns-clause-candidate : goal.returns-clause-candidate
-returns-clause-candidate c = c.loop-i.invariant.candidate
+returns-clause-candidate c = c.loop-k.invariant.candidate

@@ -1,9 +1,6 @@
-use Rattle.std.specs.Prelude.{◌-◌, length}
-use Rattle.sparse_board.proofs.LeavingSteps.{IsBestTo}
+use Rattle.std.specs.Prelude.{◌*◌, length, min}
+use Rattle.sparse_board.specs.Leaving.{IsBestTo}
 use Rattle.sparse_board.proofs.leaving.leaving.Given as goal
 
-abbrev pub invariant-loop-i : goal.invariant-loop-i
-invariant-loop-i l = IsBestTo l.rows l.basis l.side l.q l.i l.best
-
-abbrev pub decreases-loop-i : goal.decreases-loop-i
-decreases-loop-i l = length l.rows - l.i
+abbrev pub invariant-loop-k : goal.invariant-loop-k
+invariant-loop-k l = IsBestTo l.rows l.basis l.side l.q (min (l.k * 64) (length l.rows)) l.best
