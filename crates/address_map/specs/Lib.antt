@@ -1,4 +1,3 @@
-pub mod Forks
 pub mod Places
 pub mod KeptPlaces
 pub mod Noted

@@ -1,9 +1,8 @@
 -- Leaf addresses with their solver indices.
 --     Places           a finite map from addresses to indices, and how many more need no memory
 --     IsOneToOne IsFree IsAddressAt      the other direction
---     addresses        the addresses in their order;  from_on      those from one on
-use Rattle.std.specs.Prelude.{◌≡◌, ◌≢◌, ◌↔◌, ℕ, List, Option, Some, filter, not, refl}
-use Rattle.std.specs.Ordering.{is_lt}
+--     addresses        the addresses in their order
+use Rattle.std.specs.Prelude.{◌≡◌, ◌≢◌, ◌↔◌, ℕ, List, Option, Some, refl}
 use Rattle.std.specs.Coded.{Coded, code_by, coded×, coded_ℕ}
 use Rattle.std.specs.FinMap as finite
 use Rattle.std.specs.FinMap.{FinMap}
@@ -39,7 +38,3 @@ IsAddressAt indices i answer =
 -- the addresses in their order
 abbrev pub addresses : Indices → List Address
 addresses indices = finite.keys indices
-
--- those from one on, which needn't be among them
-abbrev pub from_on : Address → List Address → List Address
-from_on at ks = filter (λ k. not (is_lt (address_cmp k at))) ks

@@ -1,42 +1,38 @@
 //! The map between leaf addresses and solver indices.
-ghost use Rattle.std.specs.Prelude.{◌≡◌, ◌+◌, ◌<◌, ◌≤◌, None, IsOk, IfOk, OnOk, OnErr, drop, false, is_some, length, slice_get};
+ghost use Rattle.std.specs.Prelude.{◌≡◌, ◌+◌, ◌<◌, ◌≤◌, None, IsOk, IfOk, OnOk, OnErr, false, filter, is_some, length};
 ghost use Rattle.std.specs.FinMap as finite;
 ghost use Rattle.std.specs.Option.{option_copied};
+ghost use Rattle.item_map.specs.ItemAddresses.{is_of};
 ghost use Rattle.address_map.specs.Noted.{IsNotedAt, noted_in, with_item, without_item};
-ghost use Rattle.address_map.specs.Places.{IsAddressAt, IsFree, IsOneToOne, addresses, from_on};
+ghost use Rattle.address_map.specs.Places.{IsAddressAt, IsFree, IsOneToOne, addresses};
 
-use crate::items::Items;
 use crate::notes::{AddressSet, Notes};
-use crate::ordered::Ordered;
 use crate::places::Places;
-use crate::ranked::Fork;
 use aff_core::{Address, Aff};
+use item_map::{Entries, ItemMap, Items};
 use lists::Memory;
 use std::alloc::Global;
-use std::collections::BTreeMap;
 use std::marker::Model;
 
 /// One-to-one maps between the addresses of leaves and the indices that a solver's model gave them,
 /// for variables and for rows, and each variable's expression over leaf variables.
 ///
 /// Contracts see finite maps from addresses, and beside those of the leaves how many can still be
-/// put without memory. A look-up by index is a few probes of a table. Leaves are kept in the order
-/// of their addresses, in balanced trees: one is put, dropped and looked up by its address in
-/// logarithmic time, and so is the n-th. `vars` and `rows` give all leaves with their indices, so
-/// that none of them is looked up. Besides, it is noted which items mention a variable, and which
-/// variables are kept.
+/// put without memory. A look-up by index is a few probes of a table. All that is found by an address
+/// is kept item by item, so that a leaf is put, dropped and looked up in the time of a walk of its
+/// own item's leaves. `vars` and `rows` give all leaves with their indices, and `vars_of` and
+/// `rows_of` those of an item, so that none of them is looked up. Besides, it is noted which items
+/// mention a variable, and which variables are kept.
 #[derive(Debug, Drop)]
 pub struct AddressMap {
     vars: Places,
     rows: Places,
-    exprs: BTreeMap<Address, Aff>,
+    exprs: ItemMap<Aff>,
     notes: Notes,
-    kept: AddressSet,
-    alloc: Global,
+    kept: ItemMap<()>,
 }
 
 impl Model for AddressMap {
-    ghost use Rattle.std.specs.FinMap.{from_entries};
     ghost use Rattle.address_map.specs.AddressMap.{AddressMap, address_map_code};
 
     ghost Value = { AddressMap };
@@ -46,9 +42,9 @@ impl Model for AddressMap {
     ghost view = { λ a. record {
       vars = a.vars;
       rows = a.rows;
-      exprs = from_entries a.exprs.entries;
+      exprs = a.exprs.entries;
       noted = a.notes;
-      kept = a.kept;
+      kept = a.kept.entries;
     } };
 }
 
@@ -64,10 +60,9 @@ impl AddressMap {
         AddressMap {
             vars: Places::new(alloc),
             rows: Places::new(alloc),
-            exprs: BTreeMap::new(alloc),
+            exprs: ItemMap::new(alloc),
             notes: Notes::new(alloc),
-            kept: Ordered::new(),
-            alloc,
+            kept: ItemMap::new(alloc),
         }
     }
 
@@ -200,8 +195,10 @@ impl AddressMap {
         ensures noted { self.new.noted ≡ self.old.noted }
         ensures kept { self.new.kept ≡ self.old.kept }
     {
-        let before = self.exprs.insert(at, f)?;
-        Ok(before)
+        match self.exprs.put(at, f) {
+            Ok(before) => Ok(before),
+            Err(refused) => Err(refused.1),
+        }
     }
 
     /// Takes a variable's expression away and answers it, or `None` where it had none.
@@ -242,64 +239,31 @@ impl AddressMap {
     }
 
     /// The leaf variables in the order of their addresses, each with its index.
-    pub fn vars(&self) -> Items<'_, (Address, usize)>
+    pub fn vars(&self) -> Entries<'_, usize>
         ensures { result ≡ finite.entries self.now.vars.indices }
     {
-        self.vars.iter_from(0)
+        self.vars.iter()
     }
 
-    /// The leaf variables from a place on, such as that of `var_place`.
-    pub fn vars_from(&self, place: usize) -> Items<'_, (Address, usize)>
-        ensures { result ≡ drop place (finite.entries self.now.vars.indices) }
+    /// The leaf variables at and below the address of an item of the model, each with its index.
+    pub fn vars_of(&self, item: &Address) -> Items<'_, (Address, usize)>
+        ensures { result ≡ filter (λ e. is_of item.now e.0) (finite.entries self.now.vars.indices) }
     {
-        self.vars.iter_from(place)
+        self.vars.of_item(item)
     }
 
     /// The leaf rows in the order of their addresses, each with its index.
-    pub fn rows(&self) -> Items<'_, (Address, usize)>
+    pub fn rows(&self) -> Entries<'_, usize>
         ensures { result ≡ finite.entries self.now.rows.indices }
     {
-        self.rows.iter_from(0)
+        self.rows.iter()
     }
 
-    /// The leaf rows from a place on, such as that of `row_place`.
-    pub fn rows_from(&self, place: usize) -> Items<'_, (Address, usize)>
-        ensures { result ≡ drop place (finite.entries self.now.rows.indices) }
+    /// The leaf rows at and below the address of an item of the model, each with its index.
+    pub fn rows_of(&self, item: &Address) -> Items<'_, (Address, usize)>
+        ensures { result ≡ filter (λ e. is_of item.now e.0) (finite.entries self.now.rows.indices) }
     {
-        self.rows.iter_from(place)
-    }
-
-    /// The leaf variable at a place in the order of addresses, and `None` past the last.
-    pub fn nth_var(&self, n: usize) -> Option<Address>
-        ensures { result ≡ slice_get (addresses self.now.vars.indices) n }
-    {
-        self.vars.nth(n)
-    }
-
-    /// The leaf row at a place in the order of addresses, and `None` past the last.
-    pub fn nth_row(&self, n: usize) -> Option<Address>
-        ensures { result ≡ slice_get (addresses self.now.rows.indices) n }
-    {
-        self.rows.nth(n)
-    }
-
-    /// The place of the first leaf variable whose address isn't before this one: from there on stand
-    /// the leaves of the item at the address, and then the others that come later.
-    pub fn var_place(&self, at: &Address) -> usize
-        ensures in_range { result ≤ length (addresses self.now.vars.indices) }
-        ensures from { drop result (addresses self.now.vars.indices)
-            ≡ from_on at.now (addresses self.now.vars.indices) }
-    {
-        self.vars.place_from(at)
-    }
-
-    /// The place of the first leaf row whose address isn't before this one.
-    pub fn row_place(&self, at: &Address) -> usize
-        ensures in_range { result ≤ length (addresses self.now.rows.indices) }
-        ensures from { drop result (addresses self.now.rows.indices)
-            ≡ from_on at.now (addresses self.now.rows.indices) }
-    {
-        self.rows.place_from(at)
+        self.rows.of_item(item)
     }
 
     /// Notes that an item mentions a variable, where that isn't noted yet.
@@ -368,12 +332,10 @@ impl AddressMap {
         ensures exprs { self.new.exprs ≡ self.old.exprs }
         ensures noted { self.new.noted ≡ self.old.noted }
     {
-        if self.kept.len() == usize::MAX {
-            return Err(Memory);
+        match self.kept.put_new(var, ()) {
+            Ok(()) => Ok(()),
+            Err(refused) => Err(refused.1),
         }
-        let room = Fork::room(self.alloc, (var, ()))?;
-        self.kept.insert(var, (), room);
-        Ok(())
     }
 
     /// Takes the mark of a kept variable away; false exactly where there is none.
@@ -404,7 +366,7 @@ impl AddressMap {
         ensures exprs { self.new.exprs ≡ self.old.exprs }
         ensures noted { self.new.noted ≡ self.old.noted }
     {
-        self.kept = Ordered::new();
+        self.kept.clear();
     }
 
     /// Takes all out: leaves, expressions, notes and marks.
@@ -421,6 +383,6 @@ impl AddressMap {
         self.rows.clear();
         self.exprs.clear();
         self.notes.clear();
-        self.kept = Ordered::new();
+        self.kept.clear();
     }
 }

@@ -1,12 +1,13 @@
 //! A one-to-one map between addresses and indices.
-ghost use Rattle.std.specs.Prelude.{◌≡◌, ◌+◌, ◌<◌, ◌≤◌, None, IsOk, OnOk, OnErr, drop, length, slice_get};
+ghost use Rattle.std.specs.Prelude.{◌≡◌, ◌+◌, ◌<◌, ◌≤◌, None, IsOk, OnOk, OnErr, filter, length};
 ghost use Rattle.std.specs.FinMap as finite;
-ghost use Rattle.address_map.specs.Places.{IsAddressAt, IsFree, IsOneToOne, addresses, from_on};
+ghost use Rattle.item_map.specs.ItemAddresses.{is_of};
+ghost use Rattle.address_map.specs.Places.{IsAddressAt, IsFree, IsOneToOne, addresses};
 
-use crate::items::Items;
 use crate::reserved::Reserved;
 use aff_core::Address;
 use indexmap::IndexMap;
+use item_map::{Entries, Items};
 use lists::Memory;
 use std::alloc::Global;
 use std::marker::Model;
@@ -109,26 +110,17 @@ impl Places {
         self.ordered.len()
     }
 
-    /// The addresses from a place on, in their order, each with its index.
-    pub fn iter_from(&self, place: usize) -> Items<'_, (Address, usize)>
-        ensures { result ≡ drop place (finite.entries self.now.indices) }
+    /// The addresses in their order, each with its index.
+    pub fn iter(&self) -> Entries<'_, usize>
+        ensures { result ≡ finite.entries self.now.indices }
     {
-        self.ordered.iter_from(place)
+        self.ordered.iter()
     }
 
-    /// The address at a place in the order of addresses, and `None` past the last.
-    pub fn nth(&self, n: usize) -> Option<Address>
-        ensures { result ≡ slice_get (addresses self.now.indices) n }
+    /// The addresses at and below that of an item of the model, each with its index.
+    pub fn of_item(&self, item: &Address) -> Items<'_, (Address, usize)>
+        ensures { result ≡ filter (λ e. is_of item.now e.0) (finite.entries self.now.indices) }
     {
-        self.ordered.nth(n)
-    }
-
-    /// The place of the first address that isn't before this one.
-    pub fn place_from(&self, at: &Address) -> usize
-        ensures in_range { result ≤ length (addresses self.now.indices) }
-        ensures from { drop result (addresses self.now.indices)
-            ≡ from_on at.now (addresses self.now.indices) }
-    {
-        self.ordered.place_from(at)
+        self.ordered.of_item(item)
     }
 }

@@ -1,12 +1,11 @@
 //! Addresses in their order, each with an index, and rooms for more.
-ghost use Rattle.std.specs.Prelude.{◌≡◌, ◌+◌, ◌<◌, ◌≤◌, None, IsOk, OnOk, drop, length, slice_get, vec_len};
+ghost use Rattle.std.specs.Prelude.{◌≡◌, ◌+◌, ◌<◌, ◌≤◌, None, IsOk, OnOk, filter, length, vec_len};
 ghost use Rattle.std.specs.FinMap as finite;
-ghost use Rattle.address_map.specs.Places.{addresses, from_on};
+ghost use Rattle.item_map.specs.ItemAddresses.{is_of};
+ghost use Rattle.address_map.specs.Places.{addresses};
 
-use crate::items::Items;
-use crate::ordered::{Ordered, Room};
-use crate::ranked::Fork;
 use aff_core::{Address, Root};
+use item_map::{Entries, ItemMap, Items, Ordered, Room};
 use lists::Memory;
 use std::alloc::Global;
 use std::marker::Model;
@@ -15,7 +14,7 @@ use std::marker::Model;
 #[derive(Debug, Drop)]
 pub struct Reserved {
     alloc: Global,
-    ordered: Ordered<usize>,
+    ordered: ItemMap<usize>,
     rooms: Vec<Room<usize>>,
 }
 
@@ -37,7 +36,7 @@ impl Reserved {
     {
         Reserved {
             alloc,
-            ordered: Ordered::new(),
+            ordered: ItemMap::new(alloc),
             rooms: Vec::new(alloc),
         }
     }
@@ -48,9 +47,7 @@ impl Reserved {
         ensures same { self.new.indices ≡ self.old.indices }
         ensures spare { self.old.spare ≤ self.new.spare }
     {
-        if usize::MAX - self.ordered.len() < extra {
-            return Err(Memory);
-        }
+        self.ordered.reserve(extra)?;
         make_rooms(self.alloc, &mut self.rooms, extra)
     }
 
@@ -64,7 +61,7 @@ impl Reserved {
         let Some(room) = self.rooms.pop() else {
             unreachable!()
         };
-        self.ordered.insert(at, i, room);
+        self.ordered.insert(Ordered::filled(room, at, i));
     }
 
     /// Takes an address out, and answers its index.
@@ -81,7 +78,7 @@ impl Reserved {
         ensures emptied { self.new.indices ≡ finite.empty }
         ensures spare { self.old.spare ≤ self.new.spare }
     {
-        self.ordered = Ordered::new();
+        self.ordered.clear();
     }
 
     pub fn get(&self, at: &Address) -> Option<usize>
@@ -96,27 +93,18 @@ impl Reserved {
         self.ordered.len()
     }
 
-    /// The addresses from a place on, in their order, each with its index.
-    pub fn iter_from(&self, place: usize) -> Items<'_, (Address, usize)>
-        ensures { result ≡ drop place (finite.entries self.now.indices) }
+    /// The addresses in their order, each with its index.
+    pub fn iter(&self) -> Entries<'_, usize>
+        ensures { result ≡ finite.entries self.now.indices }
     {
-        self.ordered.iter_from(place)
+        self.ordered.iter()
     }
 
-    /// The address at a place in the order of addresses, and `None` past the last.
-    pub fn nth(&self, n: usize) -> Option<Address>
-        ensures { result ≡ slice_get (addresses self.now.indices) n }
+    /// The addresses at and below that of an item of the model, each with its index.
+    pub fn of_item(&self, item: &Address) -> Items<'_, (Address, usize)>
+        ensures { result ≡ filter (λ e. is_of item.now e.0) (finite.entries self.now.indices) }
     {
-        self.ordered.nth(n)
-    }
-
-    /// The place of the first address that isn't before this one.
-    pub fn place_from(&self, at: &Address) -> usize
-        ensures in_range { result ≤ length (addresses self.now.indices) }
-        ensures from { drop result (addresses self.now.indices)
-            ≡ from_on at.now (addresses self.now.indices) }
-    {
-        self.ordered.place_from(at)
+        self.ordered.of_item(item)
     }
 }
 
@@ -127,8 +115,10 @@ fn make_rooms(alloc: Global, rooms: &mut Vec<Room<usize>>, count: usize) -> Resu
     ensures kept { vec_len rooms.old ≤ vec_len rooms.new }
 {
     while rooms.len() < count {
-        let room = Fork::room(alloc, (Address::root(Root::Objective, 0), 0))?;
-        rooms.push(room)?;
+        match Ordered::room(alloc, Address::root(Root::Objective, 0), 0) {
+            Ok(room) => rooms.push(room)?,
+            Err(refused) => return Err(refused.1),
+        }
     }
     Ok(())
 }

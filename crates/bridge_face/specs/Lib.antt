@@ -16,5 +16,4 @@ pub mod SameRowLaws
 pub mod RowsLaws
 pub mod ObjectiveLaws
 pub mod ItemAddresses
-pub mod ItemOrderLaws
 pub mod WidthLaws

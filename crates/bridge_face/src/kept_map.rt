@@ -2,34 +2,31 @@
 ghost use Rattle.std.specs.Prelude.{◌≡◌, IfErr, IfSome, IsSome, OnErr, OnOk, find};
 ghost use Rattle.std.specs.Option.{option_copied};
 ghost use Rattle.std.specs.FinMap as finite;
-ghost use Rattle.bridge_face.specs.ItemAddresses.{is_of};
+ghost use Rattle.item_map.specs.ItemAddresses.{is_of};
 ghost use Rattle.bridge_face.specs.State.{kept_item};
 
 use crate::KeptItem;
-use crate::item_addresses::is_of;
 use aff_core::Address;
 use item_core::Item;
+use item_map::ItemMap;
 use lists::Memory;
 use std::alloc::Global;
-use std::collections::BTreeMap;
 use std::marker::Model;
-use std::mem;
 
 /// Items with their edges, by address.
 #[derive(Debug, Drop)]
 pub(crate) struct KeptMap {
-    items: BTreeMap<Address, KeptItem>,
+    items: ItemMap<KeptItem>,
 }
 
 impl Model for KeptMap {
-    ghost use Rattle.std.specs.FinMap as finite;
     ghost use Rattle.bridge_face.specs.State.{Kept, kept_code};
 
     ghost Value = { Kept };
 
     ghost coded = { kept_code };
 
-    ghost view = { λ a. finite.from_entries a.items.entries };
+    ghost view = { λ a. a.items.entries };
 }
 
 impl KeptMap {
@@ -37,7 +34,7 @@ impl KeptMap {
         ensures { result ≡ finite.empty }
     {
         KeptMap {
-            items: BTreeMap::new(alloc),
+            items: ItemMap::new(alloc),
         }
     }
 
@@ -51,10 +48,7 @@ impl KeptMap {
     pub(crate) fn first_of(&self, at: &Address) -> Option<Address>
         ensures { result ≡ find (is_of at.now) (finite.keys self.now) }
     {
-        match self.items.range(*at..).next() {
-            Some((first, _)) => is_of(at, first).then_some(*first),
-            None => None,
-        }
+        self.items.first_of(at)
     }
 
     // Puts an item at an address, or hands it back.
@@ -63,12 +57,12 @@ impl KeptMap {
         ensures err { OnErr result (self.new ≡ self.old) }
         ensures handed_back { IfErr result (λ e. e.0 ≡ kept) }
     {
-        match self.items.insert(at, kept) {
+        match self.items.put(at, kept) {
             Ok(before) => {
                 drop(before);
                 Ok(())
             }
-            Err(full) => Err((full.value.1, Memory)),
+            Err(refused) => Err(refused),
         }
     }
 
@@ -80,10 +74,11 @@ impl KeptMap {
             (λ kept. self.new ≡ finite.insert self.old item.at (kept_item item kept)) }
     {
         let at = item.at;
-        let Some(kept) = self.items.get_mut(&at) else {
+        let Some(kept) = self.items.get(&at) else {
             unreachable!()
         };
-        mem::replace(&mut kept.item, item)
+        let edge = kept.edge;
+        self.items.replace(&at, KeptItem { edge, item }).item
     }
 
     pub(crate) fn take(&mut self, at: &Address) -> Option<KeptItem>

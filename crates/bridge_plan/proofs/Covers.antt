@@ -10,7 +10,7 @@ use Rattle.aff_core.specs.Address.{Address, address_cmp, address_eq, address_eq-
 use Rattle.aff_core.specs.Function.{Function}
 use Rattle.fresh_bridging.specs.Entries.{Entry, function_in}
 use Rattle.bridge_plan.specs.Stands.{AreFunctions}
-use Rattle.bridge_plan.proofs.Found.{one_made}
+use Rattle.bridge_plan.proofs.Made.{one_made}
 use Rattle.bridge_plan.proofs.Left.{taken_item}
 
 abbrev Functions : Type 0

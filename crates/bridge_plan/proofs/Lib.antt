@@ -1,4 +1,4 @@
-mod Found
+mod Made
 pub mod Left
 mod Covers
 mod KeptLists
@@ -9,3 +9,5 @@ mod Nodes
 mod Outer
 mod NodeSteps
 mod Places
+mod NamedLaws
+mod SortedEntries

@@ -3,9 +3,11 @@
 #![tactic(auto)]
 
 mod entry;
+mod expressions;
 mod functions;
 mod plan;
 mod planning;
+mod renaming;
 mod rewriter;
 mod standing;
 

@@ -1,6 +1,5 @@
 //! What stands for the variables of groups that were bridged.
-ghost use Rattle.std.specs.Prelude.{◌≡◌, IfOk, OnOk, IsTrue, true, false, map, MatchOption};
-ghost use Rattle.std.specs.FinMap as finite;
+ghost use Rattle.std.specs.Prelude.{◌≡◌, IfOk, IsTrue, true, false, map, MatchOption};
 ghost use Rattle.std.specs.List.{list_all};
 ghost use Rattle.ratio_core.specs.Answers.{ExactWhere};
 ghost use Rattle.aff_core.specs.Arithmetic.{composed};
@@ -12,11 +11,12 @@ ghost use Rattle.fresh_bridging.specs.Entries.{objective_by, plain_or_affine, pu
 ghost use Rattle.fresh_bridging.specs.Entries.{put_in_body_fits, put_in_fits, put_into};
 ghost use Rattle.fresh_bridging.specs.Entries.{put_into_fits, vector_by};
 ghost use Rattle.fresh_bridging.specs.FitTests.{substitution_fits};
-ghost use Rattle.bridge_plan.specs.Stands.{entries_of};
 
 use crate::Entry;
-use crate::functions::{function_for, given, make_functions};
-use aff_core::{Address, Addresses, Aff, ByAddress, Exprs, Sense, VecAff};
+use crate::expressions::Expressions;
+use crate::functions::{function_for, make_functions};
+use crate::renaming::{renamed, stays};
+use aff_core::{Address, Addresses, Aff, Exprs, Sense, VecAff};
 use item_core::{Body, Expression, Item};
 use lists::{Duplicate, Memory};
 use ratio_core::NumberFault;
@@ -33,7 +33,7 @@ use user_model::UserFunc;
 #[derive(Debug, Drop)]
 pub struct Standing {
     alloc: Global,
-    expressions: ByAddress<Expression>,
+    expressions: Expressions,
     functions: Exprs,
 }
 
@@ -42,15 +42,15 @@ impl Model for Standing {
     ghost use Rattle.std.specs.Coded.{coded_list};
     ghost use Rattle.fresh_bridging.specs.Entries as bridging;
     ghost use Rattle.bridge_plan.specs.EntryCode.{entry_code};
-    ghost use Rattle.bridge_plan.specs.Stands.{AreFunctions, entries_of};
+    ghost use Rattle.bridge_plan.specs.Stands.{AreFunctions};
 
     ghost Value = { List bridging.Entry };
 
     ghost coded = { coded_list entry_code };
 
-    ghost view = { λ a. entries_of a.expressions };
+    ghost view = { λ a. a.expressions };
 
-    ghost invariant = { λ a. AreFunctions (entries_of a.expressions) a.functions };
+    ghost invariant = { λ a. AreFunctions a.expressions a.functions };
 }
 
 impl Standing {
@@ -58,7 +58,7 @@ impl Standing {
     pub fn of(alloc: Global, entries: Vec<Entry>) -> Result<Standing, Memory>
         ensures { IfOk result (λ s. expression_in s ≡ expression_in entries.items) }
     {
-        let expressions = by_component(alloc, entries)?;
+        let expressions = Expressions::of(entries)?;
         let functions = Exprs::new(alloc);
         Ok(Standing {
             alloc,
@@ -71,7 +71,7 @@ impl Standing {
     pub fn expression(&self, var: &Address) -> Result<Expression, Memory>
         ensures { IfOk result (λ e. e ≡ expression_in self.now var.now) }
     {
-        match given(&self.expressions, var) {
+        match self.expressions.get(var) {
             None => Ok(Expression::Kept { var: *var }),
             Some(Expression::Kept { var }) => Ok(Expression::Kept { var: *var }),
             Some(Expression::Bridged { func }) => Ok(Expression::Bridged { func: func.copy()? }),
@@ -83,7 +83,7 @@ impl Standing {
         ensures { MatchOption result (is_kept (expression_in self.now var.now) ≡ false)
             (λ kept. expression_in self.now var.now ≡ expressions.Kept kept) }
     {
-        match given(&self.expressions, var) {
+        match self.expressions.get(var) {
             None => Some(*var),
             Some(Expression::Kept { var }) => Some(*var),
             Some(Expression::Bridged { .. }) => None,
@@ -126,7 +126,7 @@ impl Standing {
             Body::Free { vars } => Ok(Body::Free { vars }),
             Body::Plain { var, set } => Ok(self.plain(&var, set)?),
             Body::Affine { func, set } => Ok(Body::Affine {
-                func: self.composed(&func)?,
+                func: self.composed_owned(func)?,
                 set,
             }),
             Body::PlainVec { vars, set } => Ok(self.plain_vector(vars.as_slice(), set)?),
@@ -137,7 +137,7 @@ impl Standing {
             Body::PlainObj { sense, var } => Ok(self.plain_objective(sense, &var)?),
             Body::AffineObj { sense, func } => Ok(Body::AffineObj {
                 sense,
-                func: self.composed(&func)?,
+                func: self.composed_owned(func)?,
             }),
         }
     }
@@ -247,6 +247,20 @@ impl Standing {
         Ok(VecAff::from_vec(funcs))
     }
 
+    // The function with what stands for its variables put in, which is itself where each of them
+    // stands for itself.
+    fn composed_owned(&mut self, func: Aff) -> Result<Aff, NumberFault>
+        ensures answer { ExactWhere result
+            (IsTrue (substitution_fits (function_in self.old) func))
+            (λ f. f ≡ composed (function_in self.old) func) }
+        ensures same { self.new ≡ self.old }
+    {
+        if stays(&self.expressions, &func) {
+            return Ok(func);
+        }
+        self.composed(&func)
+    }
+
     // The function with what stands for its variables put in.
     fn composed(&mut self, func: &Aff) -> Result<Aff, NumberFault>
         ensures answer { ExactWhere result
@@ -254,6 +268,9 @@ impl Standing {
             (λ f. f ≡ composed (function_in self.old) func.now) }
         ensures same { self.new ≡ self.old }
     {
+        if let Some(made) = renamed(self.alloc, &self.expressions, func)? {
+            return Ok(made);
+        }
         make_functions(self.alloc, &self.expressions, &mut self.functions, func)?;
         func.substitute(&self.functions)
     }
@@ -269,31 +286,5 @@ impl Standing {
             made.push(self.composed(func)?)?;
         }
         Ok(VecAff::from_vec(made))
-    }
-}
-
-// The expressions by component, the first where a component has several.
-fn by_component(alloc: Global, entries: Vec<Entry>) -> Result<ByAddress<Expression>, Memory>
-    ensures { IfOk result (λ m. expression_in (entries_of m) ≡ expression_in entries.items) }
-{
-    let mut entries = entries;
-    let mut expressions = ByAddress::new(alloc);
-    while let Some(entry) = entries.pop() {
-        put_entry(&mut expressions, entry)?;
-    }
-    Ok(expressions)
-}
-
-// Puts a component's expression in the place of any other of it.
-fn put_entry(expressions: &mut ByAddress<Expression>, entry: Entry) -> Result<(), Memory>
-    ensures { OnOk result (expressions.new
-        ≡ finite.insert expressions.old entry.component entry.expression) }
-{
-    match expressions.put(entry.component, entry.expression) {
-        Ok(before) => {
-            drop(before);
-            Ok(())
-        }
-        Err(_) => Err(Memory),
     }
 }

@@ -34,7 +34,7 @@ pub handed_on : {A : Type 0} (Q : Result A OptFault → Type 0) (r : Result A Op
 handed_on Q (Ok a) fault h told = absurd h
 handed_on Q (Err e) fault h told = subst (λ f. Q (Err f)) (sym h) told
 
--- what is told of a listing is told of the model and the map that were listed
+-- what holds of a listing holds of the model and the map that were listed
 module _ (listing : Listed) (map : AddressMap) (stored : Leaves) (is : listing ≡ listed map stored)
   where
     pub form_listed : (r : Result StdForm FormFault)

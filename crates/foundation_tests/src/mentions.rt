@@ -1,9 +1,9 @@
-// Which items mention a variable, which variables are kept, and where the leaves of an item begin.
+// Which items mention a variable, which variables are kept, and the leaves of an item.
 use address_map::AddressMap;
 use aff_core::{Address, Root};
 use test_support::Page;
 
-/// Notes mentions and takes them away, marks a variable as kept, and finds leaves from an address on.
+/// Notes mentions and takes them away, marks a variable as kept, and finds the leaves of an item.
 pub fn show(page: &mut Page, map: &mut AddressMap) {
     note(page, map, 0, 7);
     note(page, map, 0, 3);
@@ -43,8 +43,7 @@ fn list(page: &mut Page, map: &AddressMap, variable: u32) {
     match map.noted(&var) {
         None => page.line(format_args!("{var} in no row")),
         Some(items) => {
-            let (first, second) = (items.nth(0), items.nth(1));
-            page.line(format_args!("{var} in {} rows: {first:?}, {second:?}", items.len()));
+            page.line(format_args!("{var} in {} rows", items.len()));
             for item in items.iter() {
                 page.line(format_args!("{var} in {}", item.0));
             }
@@ -65,11 +64,14 @@ fn mark(page: &mut Page, map: &mut AddressMap) {
 
 // Rows 0 and 1 stand in the map.
 fn find_leaves(page: &mut Page, map: &AddressMap) {
-    let (variable, row) = (
-        Address::root(Root::Variable, 9),
+    let (row, variable) = (
         Address::root(Root::Row, 1),
+        Address::root(Root::Variable, 1),
     );
-    let (first, last) = (map.row_place(&variable), map.row_place(&row));
-    page.line(format_args!("rows from {variable}: at {first}, from {row}: at {last}"));
-    page.line(format_args!("variables from {variable}: at {}", map.var_place(&variable)));
+    for leaf in map.rows_of(&row) {
+        page.line(format_args!("of {row}: {} under {}", leaf.0, leaf.1));
+    }
+    for leaf in map.vars_of(&variable) {
+        page.line(format_args!("of {variable}: {}", leaf.0));
+    }
 }

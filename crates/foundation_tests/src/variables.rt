@@ -34,8 +34,7 @@ fn find(page: &mut Page, map: &AddressMap, number: u32, i: usize) {
 }
 
 fn list(page: &mut Page, map: &AddressMap) {
-    let (first, second) = (map.nth_var(0), map.nth_var(1));
-    page.line(format_args!("{} variables: {first:?}, {second:?}", map.var_count()));
+    page.line(format_args!("{} variables", map.var_count()));
     for entry in map.vars() {
         page.line(format_args!("{} under {}", entry.0, entry.1));
     }

@@ -1,1 +1,1 @@
-mod RangeLaws
+mod ListLaws

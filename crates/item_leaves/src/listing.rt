@@ -1,11 +1,10 @@
-//! Runs of the map's order.
+//! The leaves of an item, one after the other.
 ghost use Rattle.std.specs.Prelude.{◌≡◌, ◌++◌, OnOk, map};
 ghost use Rattle.address_map.specs.Places.{addresses};
-ghost use Rattle.item_leaves.specs.ItemLeaves.{AreFrom, those_of};
+ghost use Rattle.item_leaves.specs.ItemLeaves.{those_of};
 
 use address_map::{AddressMap, Items};
 use aff_core::Address;
-use bridge_face::is_of;
 use lists::{Memory, Sequence};
 
 /// Lists the leaf rows at and below the address of a user's item, in the order of their addresses.
@@ -17,7 +16,7 @@ pub fn list_rows(
     ensures { OnOk result (list.new
         ≡ list.old ++ those_of item.now (addresses map.now.rows.indices)) }
 {
-    list_first(map.rows_from(map.row_place(item)), item, list)
+    list_all(map.rows_of(item), list)
 }
 
 /// Lists the leaf variables at and below the address of a user's item, in the order of their
@@ -30,23 +29,14 @@ pub fn list_variables(
     ensures { OnOk result (list.new
         ≡ list.old ++ those_of item.now (addresses map.now.vars.indices)) }
 {
-    list_first(map.vars_from(map.var_place(item)), item, list)
+    list_all(map.vars_of(item), list)
 }
 
-// Lists the addresses of the item's leaves, which are the first of these.
-fn list_first(
-    leaves: Items<'_, (Address, usize)>,
-    item: &Address,
-    list: &mut Sequence<Address>,
-) -> Result<(), Memory>
-    requires { AreFrom item.now (map (λ e. e.0) leaves) }
-    ensures { OnOk result (list.new
-        ≡ list.old ++ those_of item.now (map (λ e. e.0) leaves.entry)) }
+// Lists the addresses of these leaves.
+fn list_all(leaves: Items<'_, (Address, usize)>, list: &mut Sequence<Address>) -> Result<(), Memory>
+    ensures { OnOk result (list.new ≡ list.old ++ map (λ e. e.0) leaves.entry) }
 {
     for leaf in leaves {
-        if !is_of(item, &leaf.0) {
-            return Ok(());
-        }
         if let Err(refused) = list.push(leaf.0) {
             return Err(refused.1);
         }

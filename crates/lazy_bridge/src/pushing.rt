@@ -35,6 +35,10 @@ use touched_items::{
     Differing, Found, changed_variables, compare_listed, find_items, list_undos, own_variables,
 };
 
+// Most edits make no more leaves and no more nodes. Room for so many takes less than a kilobyte each:
+// for larger blocks `malloc` first gathers what was freed.
+const USUAL: usize = 3;
+
 // What is planned of all that an edit touches.
 #[derive(Drop)]
 pub(crate) struct Planned {
@@ -118,7 +122,7 @@ pub(crate) fn plan_touched<'a, B: Bridge>(
         ≤ reading.old.reads + length planned.found.items) }
 {
     check_found_groups(bridges, &differing.after.groups)?;
-    let mut plan = Plan::new(alloc);
+    let mut plan = Plan::with_capacity(alloc, USUAL)?;
     let entries = match plan_found_groups(alloc, bridges, &mut plan, &differing.after.groups) {
         Ok(entries) => entries,
         Err(fault) => {

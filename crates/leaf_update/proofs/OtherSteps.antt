@@ -1,84 +1,88 @@
--- Addresses gathered in a map, and those that are not in it, one after another.
-use Rattle.std.specs.Prelude.{◌≡◌, ◌≤◌, ◌+◌, ◌||◌, ◌⊎◌, ℕ, Bool, true, false, cond, not, List, [], ◌∷◌, ◌++◌, is_some, Some, drop, flat_map, length, refl}
-use Rattle.std.specs.FinMap as finite
-use Rattle.std.specs.FinMap.{FinMap}
-use Rattle.std.proofs.Common.{inl, inr, append_assoc, sym, ◌∙◌, ap}
-use Rattle.std.proofs.lemmas.List.{append-nil, drop_all, map-append}
-use Rattle.std.proofs.lemmas.List.Folds.{list_any-append}
-use Rattle.aff_core.specs.Address.{Address, address_cmp, address_eq, address_total}
+-- Addresses gathered from leaves, and those that are not among them, one after another.
+use Rattle.std.specs.Prelude.{◌≡◌, ◌<◌, ◌⊎◌, ℕ, nat_lt, Bool, true, false, cond, not, List, [], ◌∷◌, ◌++◌, Contains, Result, Ok, Err, flat_map, length, refl}
+use Rattle.std.specs.Cmp.{tied_itself}
+use Rattle.std.specs.List.Sorted.{IsBinarySearchResult, IsPartitionPoint, IsPermutation, IsSearchInRange, IsSorted}
+use Rattle.std.specs.Result.{is_ok}
+use Rattle.std.specs.declared.cmp.Ordering.{Ordering}
+use Rattle.std.specs.declared.cmp.Ordering.TheVariants.{Less, Equal, Greater}
+use Rattle.std.proofs.Common.{inl, inr, append_assoc, arith, get_or, sym, ◌∙◌, ap}
+use Rattle.std.proofs.lemmas.Bool.{false_from_ne_true, ltb-false, ltb-true}
+use Rattle.std.proofs.lemmas.Bool.Decides.{same_from_decides}
+use Rattle.std.proofs.lemmas.List.{append-nil, map-append}
+use Rattle.std.proofs.lemmas.List.Sorted.{Contains-permutation, IsPermutation-sym, searchable_from_sorted}
+use Rattle.aff_core.specs.Address.{Address, address_cmp, address_total, exact_addresses}
 use Rattle.fresh_bridging.specs.Leaves.{leaf_variable, leaf_variables}
 use Rattle.item_core.specs.declared.item.Body.TheVariants.{Free, Group}
 use Rattle.item_core.specs.declared.item.Item.{Item}
-use Rattle.leaf_update.specs.Others.{HasMore, among, others}
+use Rattle.leaf_update.specs.LeavesLaws.{among_contained, contains_among}
+use Rattle.leaf_update.specs.Others.{among, others}
 use Rattle.leaf_update.specs.Puts.{variables_as}
 use Rattle.leaf_update.specs.Splice.{keys_of}
 use Rattle.set_core.specs.declared.set.Set.{Set}
 use Rattle.solver_store.specs.declared.leaf.LeafVar.{LeafVar}
 use Rattle.solver_store.specs.declared.leaf.LeafVar.TheVariants as leaf
 
--- ---- keys that a map gets
+-- ---- the keys of items, one after another
 
-pub one_more : (m n : FinMap address_cmp Bool) (at : Address) → n ≡ finite.insert m at true
-    → HasMore (at ∷ []) m n
-one_more m n at e q =
-    ap (λ o. is_some (finite.get o q)) e
-    ∙ ap is_some (finite.get-insert address_total m at true q) ∙ by (address_eq q at)
-  where
-    by : (b : Bool)
-        → is_some (cond b (Some true) (finite.get m q)) ≡ ((b || false) || is_some (finite.get m q))
-    by true = refl
-    by false = refl
-
--- what is left gives, from now, what all give from the start
-abbrev pub GivesStill : List Address → FinMap address_cmp Bool → List Address
-    → FinMap address_cmp Bool → Type 0
-GivesStill all start left now =
-    (q : Address)
-    → (among left q || is_some (finite.get now q)) ≡ (among all q || is_some (finite.get start q))
-
-pub gives_more : (all left ks rest : List Address) (start now new : FinMap address_cmp Bool)
-    → left ≡ ks ++ rest → HasMore ks now new → GivesStill all start left now
-    → GivesStill all start rest new
-gives_more all left ks rest start now new parts more so_far q =
-    ap (λ b. among rest q || b) (more q)
-    ∙ turned (among rest q) (among ks q) (is_some (finite.get now q))
-    ∙ ap (λ b. b || is_some (finite.get now q))
-    (sym (list_any-append (address_eq q) ks rest) ∙ ap (λ ls. among ls q) (sym parts))
-    ∙ so_far q
-  where
-    turned : (c b s : Bool) → (c || (b || s)) ≡ ((b || c) || s)
-    turned true true s = refl
-    turned true false s = refl
-    turned false true s = refl
-    turned false false s = refl
-
-pub gives_all : (all left : List Address) (start now : FinMap address_cmp Bool) → left ≡ []
-    → GivesStill all start left now → HasMore all start now
-gives_all all left start now none so_far q =
-    ap (λ ls. among ls q || is_some (finite.get now q)) (sym none) ∙ so_far q
-
--- where each item has some
 pub next_keys : {X : Type 0} (f : Item → List (Address × X)) (left rest : List Item) (i : Item)
-    → left ≡ i ∷ rest
-    → keys_of (flat_map f left) ≡ keys_of (f i) ++ keys_of (flat_map f rest)
-next_keys f left rest i e =
-    ap (λ is. keys_of (flat_map f is)) e ∙ map-append (λ e. e.0) (f i) (flat_map f rest)
+    (old new all : List Address) → left ≡ i ∷ rest → new ≡ old ++ keys_of (f i)
+    → old ++ keys_of (flat_map f left) ≡ all → new ++ keys_of (flat_map f rest) ≡ all
+next_keys f left rest i old new all next pushed so_far =
+    ap (λ ks. ks ++ keys_of (flat_map f rest)) pushed
+    ∙ append_assoc old (keys_of (f i)) (keys_of (flat_map f rest))
+    ∙ ap (λ ks. old ++ ks) (sym (map-append (λ e. e.0) (f i) (flat_map f rest)))
+    ∙ ap (λ is. old ++ keys_of (flat_map f is)) (sym next)
+    ∙ so_far
+
+pub all_keys : {X : Type 0} (f : Item → List (Address × X)) (left : List Item)
+    (made all : List Address) → left ≡ [] → made ++ keys_of (flat_map f left) ≡ all → made ≡ all
+all_keys f left made all none so_far =
+    sym (append-nil made) ∙ ap (λ is. made ++ keys_of (flat_map f is)) (sym none) ∙ so_far
 
 pub their_keys : (var : LeafVar) (vars : List Address) → keys_of (variables_as var vars) ≡ vars
 their_keys var [] = refl
 their_keys var (v ∷ vars) = ap (λ vs. v ∷ vs) (their_keys var vars)
 
--- ---- those that are not in it
+-- ---- addresses in their order
 
-pub none_before : (keys : List Address) (put : FinMap address_cmp Bool)
-    → HasMore keys finite.empty put → (q : Address) → is_some (finite.get put q) ≡ among keys q
-none_before keys put more q =
-    more q ∙ ap (λ o. among keys q || is_some o) (finite.get-empty address_cmp q)
-    ∙ nothing (among keys q)
+-- keys in another order are looked for alike
+pub same_among : (keys sorted : List Address) → IsPermutation keys sorted
+    → among sorted ≡ among keys
+same_among keys sorted moved = λ i at. alike at i
   where
-    nothing : (b : Bool) → (b || false) ≡ b
-    nothing true = refl
-    nothing false = refl
+    alike : (at : Address) → among sorted at ≡ among keys at
+    alike at =
+        same_from_decides (among sorted at) (among keys at)
+        ((λ t. contains_among at sorted t), (λ h. among_contained at sorted h)) (
+          (λ t. Contains-permutation keys sorted at moved (contains_among at keys t)),
+          (λ h. among_contained at keys
+              (Contains-permutation sorted keys at (IsPermutation-sym keys sorted moved) h)),
+        )
+
+pub searched : (us : List Address) (at : Address) (r : Result ℕ ℕ) → IsSorted address_cmp us
+    → IsSearchInRange r (length us) → IsBinarySearchResult (λ u. address_cmp u at) us r
+    → is_ok r ≡ among us at
+searched us at (Ok i) up range equal =
+    sym (among_contained at us (i, range, exact_addresses (get_or us i at) at (equal at)))
+searched us at (Err i) up range parted =
+    sym (false_from_ne_true (among us at) (λ t. absent (contains_among at us t)))
+  where
+    parts : IsPartitionPoint (λ u. address_cmp u at ≡ Less) (λ u. address_cmp u at ≡ Greater) us i
+    parts = parted (searchable_from_sorted address_total (λ u. u) us at up)
+
+    apart : (r : Ordering) (u : Address) → address_cmp u at ≡ r → ¬ (r ≡ Equal) → ¬ (u ≡ at)
+    apart r u is n e = n (sym is ∙ ap (λ w. address_cmp w at) e ∙ tied_itself address_total at)
+
+    by_side : (k : ℕ) → k < length us → get_or us k at ≡ at → (b : Bool) → nat_lt k i ≡ b → ⊥
+    by_side k lt is true t =
+        apart Less (get_or us k at) (parts.0 k at (omega arith) (ltb-true k i t)) (λ e. cc) is
+    by_side k lt is false t =
+        apart Greater (get_or us k at) (parts.1 k at (ltb-false k i t) lt) (λ e. cc) is
+
+    absent : ¬ (Contains us at)
+    absent (k, lt, is) = by_side k lt is (nat_lt k i) refl
+
+-- ---- those that are not among them
 
 -- what is next is pushed where it isn't found
 pub other_left : (keys left rest : List Address) (at : Address) (found : Bool)
@@ -98,19 +102,6 @@ other_left keys left rest at found old new all next is there absent so_far =
         ap (λ ks. ks ++ others keys rest) (a refl)
         ∙ append_assoc old (at ∷ []) (others keys rest)
         ∙ ap (λ b. old ++ cond (not b) (at ∷ others keys rest) (others keys rest)) s
-
-pub other_next : (keys all : List Address) (n : ℕ) (at : Address) (found : Bool)
-    (old new : List Address) → drop n all ≡ at ∷ drop (n + 1) all → found ≡ among keys at
-    → (found ≡ true → new ≡ old) → (found ≡ false → new ≡ old ++ at ∷ [])
-    → old ++ others keys (drop n all) ≡ others keys all
-    → new ++ others keys (drop (n + 1) all) ≡ others keys all
-other_next keys all n at found old new =
-    other_left keys (drop n all) (drop (n + 1) all) at found old new (others keys all)
-
-pub none_past : (keys all gone : List Address) (n : ℕ) → length all ≤ n
-    → gone ++ others keys (drop n all) ≡ others keys all → gone ≡ others keys all
-none_past keys all gone n end so_far =
-    sym (ap (λ ks. gone ++ others keys ks) (drop_all n all end) ∙ append-nil gone) ∙ so_far
 
 -- ---- what a leaf has
 

@@ -1,13 +1,11 @@
 -- The leaves of a solver's model at other addresses than some leaves are put at: those that go where
 -- these are to be the whole model.
-use Rattle.std.specs.Prelude.{◌≡◌, ◌||◌, Bool, not, is_some, List, [], ◌∷◌, filter, flat_map}
-use Rattle.std.specs.FinMap as finite
-use Rattle.std.specs.FinMap.{FinMap}
+use Rattle.std.specs.Prelude.{Bool, not, List, [], ◌∷◌, filter, flat_map}
 use Rattle.std.specs.List.{list_any}
 use Rattle.std.specs.Option.{option_map_or}
 use Rattle.address_map.specs.AddressMap.{AddressMap}
 use Rattle.address_map.specs.Places.{addresses}
-use Rattle.aff_core.specs.Address.{Address, address_cmp, address_eq}
+use Rattle.aff_core.specs.Address.{Address, address_eq}
 use Rattle.fresh_bridging.specs.Leaves.{leaf_objectives, leaf_rows, leaf_variables}
 use Rattle.item_core.specs.declared.item.Item.{Item}
 use Rattle.leaf_update.specs.Splice.{Gone, keys_of}
@@ -39,9 +37,3 @@ others_in map leaves at put = record {
   rows = others (keys_of (flat_map leaf_rows put)) (addresses map.rows.indices);
   objective = others (keys_of (flat_map leaf_objectives put)) (objective_addresses leaves at);
 }
-
--- a map has the keys as well
-abbrev pub HasMore : List Address → FinMap address_cmp Bool → FinMap address_cmp Bool → Type 0
-HasMore keys old new =
-    (q : Address)
-    → is_some (finite.get new q) ≡ (among keys q || is_some (finite.get old q))

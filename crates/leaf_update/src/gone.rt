@@ -1,14 +1,13 @@
 //! Of old leaves, those that are removed where others are put.
-ghost use Rattle.std.specs.Prelude.{◌≡◌, ◌++◌, ◌∷◌, [], IfOk, List, OnOk, false, flat_map, true};
-ghost use Rattle.std.specs.FinMap as finite;
-ghost use Rattle.aff_core.specs.Address.{Address};
+ghost use Rattle.std.specs.Prelude.{◌≡◌, IfOk, flat_map};
 ghost use Rattle.fresh_bridging.specs.Leaves.{leaf_objectives, leaf_rows, leaf_variables};
-ghost use Rattle.leaf_update.specs.Others.{HasMore, among, others, others_among};
+ghost use Rattle.leaf_update.specs.Others.{others, others_among};
 ghost use Rattle.leaf_update.specs.Splice.{gone_in, keys_of};
 
 use crate::change::GoneLeaves;
-use crate::others::{push_other, puts_objective, rows_put, variables_put};
-use aff_core::{Address, ByAddress};
+use crate::others::{puts_objective, rows_put, variables_put};
+use crate::sorted::SortedAddresses;
+use aff_core::Address;
 use item_core::Item;
 use lists::Memory;
 use std::alloc::Global;
@@ -46,37 +45,26 @@ fn rows_among(alloc: Global, all: &[Address], leaves: &[Item]) -> Result<Vec<Add
     not_put(alloc, &put, all)
 }
 
-fn not_put(alloc: Global, put: &ByAddress<bool>, all: &[Address]) -> Result<Vec<Address>, Memory>
-    ensures { IfOk result (λ gone. (keys : List Address) → HasMore keys finite.empty put.now
-        → gone.items ≡ others keys all.now) }
+// Those of the addresses at which nothing is put.
+fn not_put(alloc: Global, put: &SortedAddresses, all: &[Address]) -> Result<Vec<Address>, Memory>
+    ensures { IfOk result (λ gone. gone.items ≡ others put.now all.now) }
 {
-    let mut gone = Vec::new(alloc);
-    for at in all {
-        push_other(&mut gone, put, *at)?;
-    }
-    Ok(gone)
+    Ok(
+        all.iter()
+            .copied()
+            .filter(|at| !put.contains(at))
+            .collect(alloc)?,
+    )
 }
 
 fn objectives_among(alloc: Global, all: &[Address], leaves: &[Item]) -> Result<Vec<Address>, Memory>
     ensures { IfOk result (λ gone. gone.items
         ≡ others (keys_of (flat_map leaf_objectives leaves.now)) all.now) }
 {
-    let mut gone = Vec::new(alloc);
-    for at in all {
-        push_unput(&mut gone, leaves, *at)?;
-    }
-    Ok(gone)
-}
-
-// Pushes an address at which no objective is put.
-fn push_unput(gone: &mut Vec<Address>, leaves: &[Item], at: Address) -> Result<(), Memory>
-    ensures there { among (keys_of (flat_map leaf_objectives leaves.now)) at ≡ true
-        → OnOk result (gone.new.items ≡ gone.old.items) }
-    ensures absent { among (keys_of (flat_map leaf_objectives leaves.now)) at ≡ false
-        → OnOk result (gone.new.items ≡ gone.old.items ++ at ∷ []) }
-{
-    if !puts_objective(&at, leaves) {
-        gone.push(at)?;
-    }
-    Ok(())
+    Ok(
+        all.iter()
+            .copied()
+            .filter(|at| !puts_objective(at, leaves))
+            .collect(alloc)?,
+    )
 }

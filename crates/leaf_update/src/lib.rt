@@ -9,6 +9,7 @@ mod objective;
 mod others;
 mod rows;
 mod same;
+mod sorted;
 mod variables;
 
 pub use address_map::AddressMap;

@@ -1,19 +1,18 @@
 //! The leaves of a solver's model put as a whole: those at other addresses are removed.
-ghost use Rattle.std.specs.Prelude.{◌≡◌, ◌++◌, ◌∷◌, [], IfOk, OnOk, false, flat_map, is_some, true};
-ghost use Rattle.std.specs.FinMap as finite;
+ghost use Rattle.std.specs.Prelude.{◌≡◌, ◌++◌, ◌∷◌, [], IfOk, OnOk, false, flat_map, true};
 ghost use Rattle.address_map.specs.Places.{addresses};
-ghost use Rattle.aff_core.specs.Address.{Address};
 ghost use Rattle.fresh_bridging.specs.Leaves.{leaf_model_of, leaf_objectives, leaf_rows, leaf_variables};
 ghost use Rattle.leaf_update.specs.Leaves.{AreLeaves};
 ghost use Rattle.leaf_update.specs.Named.{NamesEach};
-ghost use Rattle.leaf_update.specs.Others.{HasMore, among, objective_addresses, others, others_in};
+ghost use Rattle.leaf_update.specs.Others.{among, objective_addresses, others, others_in};
 ghost use Rattle.leaf_update.specs.Splice.{IsChangedTo, gone_in, keys_of};
 
 use crate::change::{GoneLeaves, change_leaves};
 use crate::objective::is_objective;
 use crate::rows::is_other;
+use crate::sorted::SortedAddresses;
 use address_map::AddressMap;
-use aff_core::{Address, ByAddress};
+use aff_core::Address;
 use item_core::{Body, Item};
 use lists::Memory;
 use solver_store::SolverModel;
@@ -119,78 +118,54 @@ pub(crate) fn puts_objective(at: &Address, leaves: &[Item]) -> bool
 }
 
 // Pushes an address at which nothing is put.
-pub(crate) fn push_other(
-    gone: &mut Vec<Address>,
-    put: &ByAddress<bool>,
-    at: Address,
-) -> Result<(), Memory>
-    ensures there { is_some (finite.get put.now at) ≡ true
-        → OnOk result (gone.new.items ≡ gone.old.items) }
-    ensures absent { is_some (finite.get put.now at) ≡ false
+fn push_other(gone: &mut Vec<Address>, put: &SortedAddresses, at: Address) -> Result<(), Memory>
+    ensures there { among put.now at ≡ true → OnOk result (gone.new.items ≡ gone.old.items) }
+    ensures absent { among put.now at ≡ false
         → OnOk result (gone.new.items ≡ gone.old.items ++ at ∷ []) }
 {
-    if put.get(&at).is_none() {
+    if !put.contains(&at) {
         gone.push(at)?;
     }
     Ok(())
 }
 
 // The addresses of the variables among leaves.
-pub(crate) fn variables_put(alloc: Global, leaves: &[Item]) -> Result<ByAddress<bool>, Memory>
+pub(crate) fn variables_put(alloc: Global, leaves: &[Item]) -> Result<SortedAddresses, Memory>
     ensures { IfOk result (λ put.
-        HasMore (keys_of (flat_map leaf_variables leaves.now)) finite.empty put) }
+        among put ≡ among (keys_of (flat_map leaf_variables leaves.now))) }
 {
-    let mut put = ByAddress::new(alloc);
+    let mut put = Vec::new(alloc);
     for leaf in leaves {
         add_variables(&mut put, leaf)?;
     }
-    Ok(put)
+    Ok(SortedAddresses::of(put))
 }
 
-fn add_variables(put: &mut ByAddress<bool>, leaf: &Item) -> Result<(), Memory>
-    ensures { OnOk result (HasMore (keys_of (leaf_variables leaf.now)) put.old put.new) }
+fn add_variables(put: &mut Vec<Address>, leaf: &Item) -> Result<(), Memory>
+    ensures { OnOk result (put.new.items ≡ put.old.items ++ keys_of (leaf_variables leaf.now)) }
 {
-    match &leaf.body {
-        Body::Group { vars, .. } | Body::Free { vars } => add_each(put, vars.as_slice()),
-        _ => Ok(()),
-    }
-}
-
-fn add_each(put: &mut ByAddress<bool>, vars: &[Address]) -> Result<(), Memory>
-    ensures { OnOk result (HasMore vars.now put.old put.new) }
-{
-    for at in vars {
-        add(put, *at)?;
+    if let Body::Group { vars, .. } | Body::Free { vars } = &leaf.body {
+        put.extend_from_slice(vars.as_slice())?;
     }
     Ok(())
 }
 
 // The addresses of the rows among leaves.
-pub(crate) fn rows_put(alloc: Global, leaves: &[Item]) -> Result<ByAddress<bool>, Memory>
-    ensures { IfOk result (λ put.
-        HasMore (keys_of (flat_map leaf_rows leaves.now)) finite.empty put) }
+pub(crate) fn rows_put(alloc: Global, leaves: &[Item]) -> Result<SortedAddresses, Memory>
+    ensures { IfOk result (λ put. among put ≡ among (keys_of (flat_map leaf_rows leaves.now))) }
 {
-    let mut put = ByAddress::new(alloc);
+    let mut put = Vec::new(alloc);
     for leaf in leaves {
         add_row(&mut put, leaf)?;
     }
-    Ok(put)
+    Ok(SortedAddresses::of(put))
 }
 
-fn add_row(put: &mut ByAddress<bool>, leaf: &Item) -> Result<(), Memory>
-    ensures { OnOk result (HasMore (keys_of (leaf_rows leaf.now)) put.old put.new) }
+fn add_row(put: &mut Vec<Address>, leaf: &Item) -> Result<(), Memory>
+    ensures { OnOk result (put.new.items ≡ put.old.items ++ keys_of (leaf_rows leaf.now)) }
 {
-    if is_other(leaf) {
-        return Ok(());
+    if !is_other(leaf) {
+        put.push(leaf.at)?;
     }
-    add(put, leaf.at)
-}
-
-fn add(put: &mut ByAddress<bool>, at: Address) -> Result<(), Memory>
-    ensures { OnOk result (HasMore (at ∷ []) put.old put.new) }
-{
-    match put.put(at, true) {
-        Ok(_) => Ok(()),
-        Err((_, memory)) => Err(memory),
-    }
+    Ok(())
 }

@@ -1,5 +1,5 @@
 -- Rows of whole numbers or of fractions: what of them fits, and what is lowered.
-use Rattle.std.specs.Prelude.{◌≡◌, ℕ, ◌^◌, ◌<◌, Bool, true, false, ◌&&◌, not, MatchBool, if◌then◌else◌, refl}
+use Rattle.std.specs.Prelude.{◌≡◌, ℕ, ◌+◌, ◌^◌, ◌<◌, ◌≤◌, Bool, true, false, ◌&&◌, not, MatchBool, if◌then◌else◌, ℤ, pos, refl}
 use Rattle.std.proofs.Common.{sym, ◌∙◌, ap, arith, subst, true≢false}
 use Rattle.ratio_core.specs.Rational.{Fits, Rational, fits, zero_ℚ, ◌*ℚ◌, ◌-ℚ◌, ◌/ℚ◌}
 use Rattle.simplex_form.specs.Fit.{lowered_fits}
@@ -7,6 +7,8 @@ use Rattle.simplex_laws.specs.SearchLaws.{all_below_all, all_below_same}
 use Rattle.tableau_core.specs.LoweringLaws.{lowered-zero, lowered_fits-zero, zero-step}
 use Rattle.tableau_core.specs.Numbers.{differences_fit, quotients_fit}
 use Rattle.whole_rows.proofs.DivisionSteps.{numerator_small}
+use Rattle.whole_rows.proofs.OnceSteps.{lowered_none}
+use Rattle.whole_rows.specs.declared.narrow_row.NarrowRow.{NarrowRow}
 use Rattle.whole_rows.specs.FitLaws.{Fits_over}
 use Rattle.whole_rows.specs.NarrowFit.{narrow_quotients_fit}
 use Rattle.whole_rows.specs.RowLaws.{row_fits, row_narrow}
@@ -14,8 +16,8 @@ use Rattle.whole_rows.specs.Rows as whole
 use Rattle.sparse_board.specs.declared.mixed_row.MixedRow.{MixedRow}
 use Rattle.sparse_board.specs.declared.row.Row.{Row}
 use Rattle.sparse_board.specs.declared.step.Step.{Step}
-use Rattle.sparse_board.specs.Lowering.{HasRoom, IsLoweredBeside, IsPrepared}
-use Rattle.sparse_board.specs.Mixed.{IsLowered, number_of, units_of, width_of}
+use Rattle.sparse_board.specs.Lowering.{HasRoom, IsFinished, IsLoweredBeside, IsPrepared, IsReady}
+use Rattle.sparse_board.specs.Mixed.{IsLeft, IsLowered, number_left, number_of, units_of, width_of}
 use Rattle.sparse_board.specs.Numbers as sparse
 use Rattle.sparse_board.proofs.NumberLemmas.{number_fits}
 
@@ -145,17 +147,6 @@ beside_prepared q step row e h =
 
 -- ---- a row that is put in place
 
-pub settled_in_place : (q : ℕ) (step : Step) (row new : MixedRow) → in_place row step ≡ true
-    → width_of new ≡ width_of row
-    → ((j : ℕ) → j < width_of row → number_of new j
-    ≡ number_of row j -ℚ number_of row q *ℚ whole.number_of step.narrow.row j)
-    → IsLowered (number_of row q) (units_of step) row new
-settled_in_place q step row new e wide low = record {
-  width = wide;
-  numbers = λ j b. low j b ∙ ap (λ u. number_of row j -ℚ number_of row q *ℚ u)
-      (sym (units_narrow step (place_step row step e) j));
-}
-
 pub settled_beside : (q : ℕ) (step : Step) (row : Row) (new : MixedRow)
     → in_place row.now step ≡ false → row.changes ≡ true → IsPrepared q step row
     → width_of new ≡ width_of row.now
@@ -178,6 +169,81 @@ settled_still q step row e f prepared =
     zero_mixed_stays row.now (number_of row.now q) (units_of step)
     (subst (λ b. MatchBool b (IsLoweredBeside (number_of row.now q) (units_of step) row.now
     row.next) (number_of row.now q ≡ zero_ℚ)) f (beside_prepared q step row e prepared))
+
+-- ---- a row that is put in place in two steps
+
+pub left_narrow : (step : NarrowRow) (row : MixedRow) (by : ℤ) → row.is_wide ≡ false → (j : ℕ)
+    → number_left step row by j ≡ whole.lowered_by step row.narrow by j
+left_narrow step row by e j = λ i.
+    if e i then sparse.number_of row.wide j else whole.lowered_by step row.narrow by j
+
+-- nothing is left
+pub left_none : (step : NarrowRow) (row : MixedRow) (by : ℤ) → by ≡ pos 0 → (j : ℕ)
+    → number_left step row by j ≡ number_of row j
+left_none step row by e j = by_kind row.is_wide
+  where
+    by_kind : (b : Bool)
+        → (if b then sparse.number_of row.wide j else whole.lowered_by step row.narrow by j)
+        ≡ (if b then sparse.number_of row.wide j else whole.number_of row.narrow j)
+    by_kind true = refl
+    by_kind false = lowered_none step row.narrow by e j
+
+pub ready_numbers : (q : ℕ) (step : NarrowRow) (row next : MixedRow) (by : ℤ)
+    → row.is_wide ≡ false → next.is_wide ≡ false → whole.IsReady q step row.narrow next.narrow by
+    → (j : ℕ) → j < width_of row → number_left step next by j
+    ≡ number_of row j -ℚ number_of row q *ℚ whole.number_of step j
+ready_numbers q step row next by e f ready j b =
+    left_narrow step next by f j ∙ ready.numbers j (room_lem j _ _ b row.room)
+    ∙ (λ i. sym (number_narrow row e j) i -ℚ sym (number_narrow row e q) i
+    *ℚ whole.number_of step j)
+  where
+    room_lem : (j w n : ℕ) → j < w → w ≤ n + 1 → j < n + 1
+    room_lem j w n b h = omega (arith, b, h)
+
+pub ready_in_place : (q : ℕ) (step : Step) (row next : Row) → in_place row.now step ≡ true
+    → width_of next.now ≡ width_of row.now → IsLeft step.narrow.row next.now next.left
+    → ((j : ℕ) → j < width_of row.now → number_left step.narrow.row next.now next.left j
+    ≡ number_of row.now j -ℚ number_of row.now q *ℚ whole.number_of step.narrow.row j)
+    → IsReady q step row next
+ready_in_place q step row next e wide left low = record {
+  width = wide;
+  left = left;
+  numbers = λ j b. low j b ∙ ap (λ u. number_of row.now j -ℚ number_of row.now q *ℚ u)
+      (sym (units_narrow step (place_step row.now step e) j));
+}
+
+pub ready_beside : (q : ℕ) (step : Step) (row next : Row) → next.left ≡ pos 0
+    → IsLowered (number_of row.now q) (units_of step) row.now next.now → IsReady q step row next
+ready_beside q step row next e low = record {
+  width = low.width;
+  left = λ n. absurd (n e);
+  numbers = λ j b. left_none step.narrow.row next.now next.left e j ∙ low.numbers j b;
+}
+
+pub finished_none : (step : Step) (row : Row) → row.left ≡ pos 0 → IsFinished step row row
+finished_none step row e = record {
+  width = refl;
+  numbers = λ j b. sym (left_none step.narrow.row row.now row.left e j);
+}
+
+pub finished_by : (step : Step) (row next : Row) → row.now.is_wide ≡ false
+    → width_of next.now ≡ width_of row.now
+    → ((j : ℕ) → number_of next.now j
+    ≡ whole.lowered_by step.narrow.row row.now.narrow row.left j)
+    → IsFinished step row next
+finished_by step row next e wide low = record {
+  width = wide;
+  numbers = λ j b. low j ∙ sym (left_narrow step.narrow.row row.now row.left e j);
+}
+
+pub finished_lowered : (q : ℕ) (step : Step) (row middle next : Row) → IsReady q step row middle
+    → IsFinished step middle next
+    → IsLowered (number_of row.now q) (units_of step) row.now next.now
+finished_lowered q step row middle next ready finished = record {
+  width = finished.width ∙ ready.width;
+  numbers = λ j b. finished.numbers j (subst (λ n. j < n) (sym ready.width) b)
+      ∙ ready.numbers j b;
+}
 
 -- ---- a row of whole numbers that is divided
 

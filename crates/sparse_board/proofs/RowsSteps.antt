@@ -15,13 +15,12 @@ use Rattle.sparse_board.specs.declared.marks.Marks.{Marks}
 use Rattle.sparse_board.specs.declared.row.Row.{Row}
 use Rattle.sparse_board.specs.declared.mixed_row.MixedRow.{MixedRow}
 use Rattle.sparse_board.specs.declared.step.Step.{Step}
-use Rattle.sparse_board.specs.Mixed as mixed
-use Rattle.sparse_board.specs.Mixed.{number_of, units_of, width_of}
+use Rattle.sparse_board.specs.Mixed.{IsLeft, number_of, units_of, width_of}
 use Rattle.tableau_core.specs.Numbers.{differences_fit}
-use Rattle.sparse_board.specs.Lowering.{IsPrepared}
-use Rattle.sparse_board.specs.Rows.{AreWide, IsPreparedAt, now_at, now_of, number_in_row, numbers, rows_fit, width_at}
+use Rattle.sparse_board.specs.Lowering.{IsFinished, IsPrepared, IsReady}
+use Rattle.sparse_board.specs.Rows.{AreLowered, AreWide, IsLeftAt, IsPreparedAt, OnRows, now_at, now_of, number_in_row, numbers, rows_fit, width_at}
 use Rattle.sparse_board.specs.Marks.{AreUnmarked, has}
-use Rattle.sparse_board.specs.Marking.{AreMarked, ArePrepared}
+use Rattle.sparse_board.specs.Marking.{AreChanged, AreLeft, AreMarked, ArePrepared}
 use Rattle.sparse_board.proofs.MixedSteps.{mixed_fits}
 
 -- the rows below i are worked out, and all stand
@@ -40,15 +39,16 @@ abbrev pub IsLoweredNow : ℕ → (ℕ → Rational) → Option MixedRow → Opt
 IsLoweredNow q units old new =
     (j : ℕ) → j < width_at old → numbers new j ≡ numbers old j -ℚ numbers old q *ℚ units j
 
--- the rows below i are put in place
-pub record AreSettledTo (r q : ℕ) (step : Step) (before rows : List Row) (i : ℕ) : Type 0 where
+-- the rows below i are changed, but for r and those that aren't marked in column q
+pub record AreChangedTo (P : Row → Row → Type 0) (r q : ℕ) (marks : Marks)
+    (before rows : List Row) (i : ℕ) : Type 0 where
   pub within : i ≤ length before
   pub long : length rows ≡ length before
   pub later : (k : ℕ) → i ≤ k → slice_get rows k ≡ slice_get before k
-  pub pivot_stays : now_at rows r ≡ now_at before r
-  pub widths : (k : ℕ) → width_at (now_at rows k) ≡ width_at (now_at before k)
-  pub lowered : (k : ℕ) → k < i → ¬ (k ≡ r)
-      → IsLoweredNow q (units_of step) (now_at before k) (now_at rows k)
+  pub pivot : slice_get rows r ≡ slice_get before r
+  pub others : (k : ℕ) → k < i → has marks q k ≡ false → slice_get rows k ≡ slice_get before k
+  pub changed : (k : ℕ) → k < i → ¬ (k ≡ r) → has marks q k ≡ true
+      → OnRows P (slice_get before k) (slice_get rows k)
 
 -- ---- a row that is read
 
@@ -92,15 +92,15 @@ prepared-none w r q step marks before = record {
   prepared = λ k b. absurd (omega (arith, b));
 }
 
-pub settled-none : (r q : ℕ) (step : Step) (before : List Row)
-    → AreSettledTo r q step before before 0
-settled-none r q step before = record {
+pub changed-none : (P : Row → Row → Type 0) (r q : ℕ) (marks : Marks) (before : List Row)
+    → AreChangedTo P r q marks before before 0
+changed-none P r q marks before = record {
   within = omega arith;
   long = refl;
   later = λ k b. refl;
-  pivot_stays = refl;
-  widths = λ k. refl;
-  lowered = λ k b. absurd (omega (arith, b));
+  pivot = refl;
+  others = λ k b. absurd (omega (arith, b));
+  changed = λ k b. absurd (omega (arith, b));
 }
 
 module _ (w r q : ℕ) (step : Step) (marks : Marks) (before rows : List Row) (i : ℕ) where
@@ -205,86 +205,185 @@ module _ (w r q : ℕ) (step : Step) (marks : Marks) (before rows : List Row) (i
       all_below_failed (length before) i row_fits b
       (ap₂ ◌||◌ (ne_eqb i r n) (fits_here d false h wide b fits))
 
--- ---- the rows put in place
+-- ---- the rows that are changed
 
-module _ (r q : ℕ) (step : Step) (before rows : List Row) (i : ℕ) where
-  row_before : (d : Row) → AreSettledTo r q step before rows i → i < length before
+module _ (P : Row → Row → Type 0) (r q : ℕ) (marks : Marks) (before rows : List Row) (i : ℕ) where
+  -- the row that is read stands as it was
+  pub row_before : (d : Row) → AreChangedTo P r q marks before rows i → i < length before
       → Some (slice_index_or rows i d) ≡ slice_get before i
   row_before d h b =
       sym (read_at rows i d (subst (λ n. i < n) (sym h.long) b)) ∙ h.later i (omega arith)
 
-  -- the row that is read was worked out
-  pub prepared_read : (d : Row) (marks : Marks) → AreSettledTo r q step before rows i
-      → i < length before → ¬ (i ≡ r) → has marks q i ≡ true → ArePrepared r q step marks before
-      → IsPrepared q step (slice_index_or rows i d)
-  prepared_read d marks h b other here p =
-      subst (IsPreparedAt q step) (sym (row_before d h b)) (p i b other here)
-
-  pub settled-more : (d new : Row) → AreSettledTo r q step before rows i → i < length before
-      → ¬ (i ≡ r)
-      → mixed.IsLowered (number_of (slice_index_or rows i d).now q) (units_of step)
-      (slice_index_or rows i d).now new.now
-      → AreSettledTo r q step before (slice_set rows i new) (i + 1)
-  settled-more d new h b other low =
+  pub changed-more : (d new : Row) → AreChangedTo P r q marks before rows i → i < length before
+      → ¬ (i ≡ r) → has marks q i ≡ true → P (slice_index_or rows i d) new
+      → AreChangedTo P r q marks before (slice_set rows i new) (i + 1)
+  changed-more d new h b other here made =
       let at : i < length rows = subst (λ n. i < n) (sym h.long) b in
-      let old : Some (slice_index_or rows i d) ≡ slice_get before i = row_before d h b in
       record {
         within = omega (arith, b);
         long = length-set rows i new ∙ h.long;
         later = λ k c. written_off rows i k new (λ e. above_lem k i c e)
             ∙ h.later k (omega (arith, c));
-        pivot_stays = ap now_of (written_off rows i r new (λ e. other (sym e))) ∙ h.pivot_stays;
-        widths = each_written (λ k o. width_at (now_of o) ≡ width_at (now_at before k)) rows i new
-            at (low.width ∙ ap (λ o. width_at (now_of o)) old) (λ k m. h.widths k);
-        lowered =
-            each_written (λ k o. k < i + 1 → ¬ (k ≡ r) → IsLoweredNow q (units_of step)
-            (now_at before k) (now_of o)) rows i new at
-            (λ _ _. subst (λ o. IsLoweredNow q (units_of step) (now_of o) (Some new.now)) old
-            low.numbers)
-            (λ k f c m. h.lowered k (omega (arith, c, f)) m);
+        pivot = written_off rows i r new (λ e. other (sym e)) ∙ h.pivot;
+        others = λ k c e.
+            same_or_other (slice_get (slice_set rows i new) k ≡ slice_get before k) k i
+            (λ f. absurd (true≢false (sym here ∙ subst (λ x. has marks q x ≡ false) f e)))
+            (λ f. written_off rows i k new f ∙ h.others k (omega (arith, c, f)) e);
+        changed =
+            each_written (λ k o. k < i + 1 → ¬ (k ≡ r) → has marks q k ≡ true
+            → OnRows P (slice_get before k) o) rows i new at
+            (λ _ _ _. subst (λ o. OnRows P o (Some new)) (row_before d h b) made)
+            (λ k f c m t. h.changed k (omega (arith, c, f)) m t);
       }
     where
       above_lem : (k i : ℕ) → i + 1 ≤ k → k ≡ i → ⊥
       above_lem k i c e = absurd (omega (arith, c, e))
 
   -- the pivot's row is passed over
-  pub settled-pivot : AreSettledTo r q step before rows i → i < length before → i ≡ r
-      → AreSettledTo r q step before rows (i + 1)
-  settled-pivot h b p = record {
+  pub changed-pivot : AreChangedTo P r q marks before rows i → i < length before → i ≡ r
+      → AreChangedTo P r q marks before rows (i + 1)
+  changed-pivot h b p = record {
     within = omega (arith, b);
     long = h.long;
     later = λ k c. h.later k (omega (arith, c));
-    pivot_stays = h.pivot_stays;
-    widths = h.widths;
-    lowered = λ k c m. same_or_other (IsLoweredNow q (units_of step) (now_at before k)
-        (now_at rows k)) k i
+    pivot = h.pivot;
+    others = λ k c e. same_or_other (slice_get rows k ≡ slice_get before k) k i
+        (λ f. h.later k (omega (arith, f)))
+        (λ f. h.others k (omega (arith, c, f)) e);
+    changed = λ k c m t. same_or_other (OnRows P (slice_get before k) (slice_get rows k)) k i
         (λ f. absurd (m (f ∙ p)))
-        (λ f. h.lowered k (omega (arith, c, f)) m);
+        (λ f. h.changed k (omega (arith, c, f)) m t);
   }
 
   -- rows that aren't marked are passed over
-  pub settled-past : (w to : ℕ) (marks : Marks) → AreSettledTo r q step before rows i → i ≤ to
-      → to ≤ length before → q < w → AreMarked w marks before → AreUnmarked marks q i to
-      → AreSettledTo r q step before rows to
-  settled-past w to marks h past within column marked unmarked = record {
+  pub changed-past : (to : ℕ) → AreChangedTo P r q marks before rows i → i ≤ to
+      → to ≤ length before → AreUnmarked marks q i to → AreChangedTo P r q marks before rows to
+  changed-past to h past within unmarked = record {
     within = within;
     long = h.long;
     later = λ k c. h.later k (above_lem i to k past c);
-    pivot_stays = h.pivot_stays;
-    widths = h.widths;
-    lowered = λ k c m. lowered_at k c m (cases_lt k i);
+    pivot = h.pivot;
+    others = λ k c e. others_at k c e (cases_lt k i);
+    changed = λ k c m t. changed_at k c m t (cases_lt k i);
   }
     where
       above_lem : (i to k : ℕ) → i ≤ to → to ≤ k → i ≤ k
       above_lem i to k b c = omega (arith, b, c)
 
-      below_lem : (k to n : ℕ) → k < to → to ≤ n → k < n
-      below_lem k to n b c = omega (arith, b, c)
+      others_at : (k : ℕ) → k < to → has marks q k ≡ false → (k < i) ⊎ (i ≤ k)
+          → slice_get rows k ≡ slice_get before k
+      others_at k c e (inl l) = h.others k l e
+      others_at k c e (inr l) = h.later k l
 
-      lowered_at : (k : ℕ) → k < to → ¬ (k ≡ r) → (k < i) ⊎ (i ≤ k)
-          → IsLoweredNow q (units_of step) (now_at before k) (now_at rows k)
-      lowered_at k c m (inl l) = h.lowered k l m
-      lowered_at k c m (inr l) =
-          subst (IsLoweredNow q (units_of step) (now_at before k)) (sym (ap now_of (h.later k l)))
-          (zero_stays q (now_at before k) (units_of step)
-          (marked k (below_lem k to (length before) c within) q column (unmarked k l c)))
+      changed_at : (k : ℕ) → k < to → ¬ (k ≡ r) → has marks q k ≡ true → (k < i) ⊎ (i ≤ k)
+          → OnRows P (slice_get before k) (slice_get rows k)
+      changed_at k c m t (inl l) = h.changed k l m t
+      changed_at k c m t (inr l) = absurd (true≢false (sym t ∙ unmarked k l c))
+
+  pub changed-all : AreChangedTo P r q marks before rows i → length before ≤ i
+      → AreChanged P r q marks before rows
+  changed-all h all = record {
+    changed = λ k b n t. h.changed k (below_lem k (length before) i b all) n t;
+    pivot = h.pivot;
+    others = λ k e. others_at k e (cases_lt k i);
+    later = λ k b. h.later k (above_lem i (length before) k h.within b);
+  }
+    where
+      below_lem : (k n i : ℕ) → k < n → n ≤ i → k < i
+      below_lem k n i b c = omega (arith, b, c)
+
+      above_lem : (i n k : ℕ) → i ≤ n → n ≤ k → i ≤ k
+      above_lem i n k b c = omega (arith, b, c)
+
+      others_at : (k : ℕ) → has marks q k ≡ false → (k < i) ⊎ (i ≤ k)
+          → slice_get rows k ≡ slice_get before k
+      others_at k e (inl l) = h.others k l e
+      others_at k e (inr l) = h.later k l
+
+-- the row that is read was worked out
+pub prepared_read : (P : Row → Row → Type 0) (r q : ℕ) (step : Step) (marks : Marks)
+    (before rows : List Row) (i : ℕ) (d : Row) → AreChangedTo P r q marks before rows i
+    → i < length before → ¬ (i ≡ r) → has marks q i ≡ true → ArePrepared r q step marks before
+    → IsPrepared q step (slice_index_or rows i d)
+prepared_read P r q step marks before rows i d h b other here p =
+    subst (IsPreparedAt q step) (sym (row_before P r q marks before rows i d h b)) (p i b other here)
+
+-- there is something left of the row that is read
+pub left_read : (P : Row → Row → Type 0) (r q : ℕ) (step : Step) (marks : Marks)
+    (before rows : List Row) (i : ℕ) (d : Row) → AreChangedTo P r q marks before rows i
+    → i < length before → ¬ (i ≡ r) → has marks q i ≡ true → AreLeft r q step marks before
+    → IsLeft step.narrow.row (slice_index_or rows i d).now (slice_index_or rows i d).left
+left_read P r q step marks before rows i d h b other here p =
+    subst (IsLeftAt step) (sym (row_before P r q marks before rows i d h b)) (p i b other here)
+
+-- ---- both passes
+
+ready_left : (q : ℕ) (step : Step) (o p : Option Row) → OnRows (IsReady q step) o p
+    → IsLeftAt step p
+ready_left q step None p h = absurd h
+ready_left q step (Some row) None h = absurd h
+ready_left q step (Some row) (Some next) h = h.left
+
+both_wide : (q : ℕ) (step : Step) (o m p : Option Row) → OnRows (IsReady q step) o m
+    → OnRows (IsFinished step) m p → width_at (now_of p) ≡ width_at (now_of o)
+both_wide q step None m p h k = absurd h
+both_wide q step (Some row) None p h k = absurd h
+both_wide q step (Some row) (Some middle) None h k = absurd k
+both_wide q step (Some row) (Some middle) (Some next) h k = k.width ∙ h.width
+
+both_lowered : (q : ℕ) (step : Step) (o m p : Option Row) → OnRows (IsReady q step) o m
+    → OnRows (IsFinished step) m p → IsLoweredNow q (units_of step) (now_of o) (now_of p)
+both_lowered q step None m p h k = absurd h
+both_lowered q step (Some row) None p h k = absurd h
+both_lowered q step (Some row) (Some middle) None h k = absurd k
+both_lowered q step (Some row) (Some middle) (Some next) h k = λ j b.
+    k.numbers j (subst (λ n. j < n) (sym h.width) b) ∙ h.numbers j b
+
+module _ (w r q : ℕ) (step : Step) (marks : Marks) (before middle : List Row)
+    (long : length middle ≡ length before)
+    (first : AreChanged (IsReady q step) r q marks before middle) where
+  pub ready-left : AreLeft r q step marks middle
+  ready-left i b n t =
+      ready_left q step (slice_get before i) (slice_get middle i)
+      (first.changed i (subst (λ m. i < m) long b) n t)
+
+  module _ (after : List Row) (second : AreChanged (IsFinished step) r q marks middle after) where
+    pub both-pivot : now_at after r ≡ now_at before r
+    both-pivot = ap now_of (second.pivot ∙ first.pivot)
+
+    pub both-widths : (i : ℕ) → width_at (now_at after i) ≡ width_at (now_at before i)
+    both-widths i = by_end (cases_lt i (length before))
+      where
+        by_mark : (b : Bool) → has marks q i ≡ b → i < length before → ¬ (i ≡ r)
+            → width_at (now_at after i) ≡ width_at (now_at before i)
+        by_mark true t b n =
+            both_wide q step (slice_get before i) (slice_get middle i) (slice_get after i)
+            (first.changed i b n t)
+            (second.changed i (subst (λ m. i < m) (sym long) b) n t)
+        by_mark false t b n =
+            ap (λ o. width_at (now_of o)) (second.others i t ∙ first.others i t)
+
+        by_end : (i < length before) ⊎ (length before ≤ i)
+            → width_at (now_at after i) ≡ width_at (now_at before i)
+        by_end (inl b) =
+            same_or_other (width_at (now_at after i) ≡ width_at (now_at before i)) i r
+            (λ e. subst (λ k. width_at (now_at after k) ≡ width_at (now_at before k)) (sym e)
+            (ap width_at both-pivot))
+            (λ n. by_mark (has marks q i) refl b n)
+        by_end (inr b) =
+            ap (λ o. width_at (now_of o))
+            (second.later i (subst (λ m. m ≤ i) (sym long) b) ∙ first.later i b)
+
+    pub both-lowered : q < w → AreMarked w marks before → AreLowered r q (units_of step) before after
+    both-lowered column marked i b n = by_mark (has marks q i) refl
+      where
+        by_mark : (t : Bool) → has marks q i ≡ t
+            → IsLoweredNow q (units_of step) (now_at before i) (now_at after i)
+        by_mark true t =
+            both_lowered q step (slice_get before i) (slice_get middle i) (slice_get after i)
+            (first.changed i b n t)
+            (second.changed i (subst (λ m. i < m) (sym long) b) n t)
+        by_mark false t =
+            subst (IsLoweredNow q (units_of step) (now_at before i))
+            (sym (ap now_of (second.others i t ∙ first.others i t)))
+            (zero_stays q (now_at before i) (units_of step) (marked i b q column t))

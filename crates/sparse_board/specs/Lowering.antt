@@ -40,3 +40,17 @@ IsPrepared q step row =
     (MatchBool row.changes
     (IsLoweredBeside (mixed.number_of row.now q) (mixed.units_of step) row.now row.next)
     (mixed.number_of row.now q ≡ zero_ℚ))
+
+-- the row is lowered by its number of column q times the step, but for a multiple of the step
+pub record IsReady (q : ℕ) (step : Step) (row next : Row) : Type 0 where
+  pub width : mixed.width_of next.now ≡ mixed.width_of row.now
+  pub left : mixed.IsLeft step.narrow.row next.now next.left
+  pub numbers : (j : ℕ) → j < mixed.width_of row.now →
+      mixed.number_left step.narrow.row next.now next.left j
+      ≡ mixed.number_of row.now j -ℚ mixed.number_of row.now q *ℚ mixed.units_of step j
+
+-- the row is lowered by the multiple of the step that was left
+pub record IsFinished (step : Step) (row next : Row) : Type 0 where
+  pub width : mixed.width_of next.now ≡ mixed.width_of row.now
+  pub numbers : (j : ℕ) → j < mixed.width_of row.now →
+      mixed.number_of next.now j ≡ mixed.number_left step.narrow.row row.now row.left j

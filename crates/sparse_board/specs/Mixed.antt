@@ -1,9 +1,10 @@
 -- What a row of whole numbers or of fractions stands for.
-use Rattle.std.specs.Prelude.{◌≡◌, ℕ, ◌*◌, ◌/◌, ◌^◌, ◌<◌, ◌≤◌, true, List, length, if◌then◌else◌, unsigned_abs}
+use Rattle.std.specs.Prelude.{◌≡◌, ℕ, ◌*◌, ◌/◌, ◌^◌, ◌<◌, ◌≤◌, true, false, List, length, if◌then◌else◌, ℤ, pos, unsigned_abs}
 use Rattle.std.specs.Int.{◌∣◌}
 use Rattle.ratio_core.specs.Rational.{Rational, ◌*ℚ◌, ◌-ℚ◌}
 use Rattle.tableau_core.specs.Row.{cell}
 use Rattle.whole_rows.specs.Rows as whole
+use Rattle.whole_rows.specs.declared.narrow_row.NarrowRow.{NarrowRow}
 use Rattle.sparse_board.specs.declared.mixed_row.MixedRow.{MixedRow}
 use Rattle.sparse_board.specs.declared.step.Step.{Step}
 use Rattle.sparse_board.specs.declared.narrowing.Shape.{Shape}
@@ -26,6 +27,17 @@ pub record IsSame (row next : MixedRow) : Type 0 where
 pub record IsLowered (by : Rational) (units : ℕ → Rational) (row next : MixedRow) : Type 0 where
   pub width : width_of next ≡ width_of row
   pub numbers : (j : ℕ) → j < width_of row → number_of next j ≡ number_of row j -ℚ by *ℚ units j
+
+-- the number of column j of a row that is still to be lowered by a multiple of the step's numerators,
+-- if it is of whole numbers
+abbrev pub number_left : NarrowRow → MixedRow → ℤ → ℕ → Rational
+number_left step row by j =
+    if row.is_wide then sparse.number_of row.wide j else whole.lowered_by step row.narrow by j
+
+-- a row of fractions isn't to be lowered so, and one of whole numbers can be
+abbrev pub IsLeft : NarrowRow → MixedRow → ℤ → Type 0
+IsLeft step row by =
+    ¬ (by ≡ pos 0) → (row.is_wide ≡ false) × whole.CanLower step row.narrow by
 
 -- the numbers of a step
 abbrev pub units_of : Step → ℕ → Rational

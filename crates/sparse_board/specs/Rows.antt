@@ -5,7 +5,7 @@ use Rattle.simplex_form.specs.Search.{all_below}
 use Rattle.sparse_board.specs.declared.row.Row.{Row}
 use Rattle.sparse_board.specs.declared.mixed_row.MixedRow.{MixedRow}
 use Rattle.sparse_board.specs.declared.step.Step.{Step}
-use Rattle.sparse_board.specs.Mixed.{number_of, width_of}
+use Rattle.sparse_board.specs.Mixed.{IsLeft, number_of, width_of}
 use Rattle.tableau_core.specs.Numbers.{Numbers, differences_fit}
 use Rattle.sparse_board.specs.Lowering.{IsPrepared}
 
@@ -63,3 +63,13 @@ AreLowered r q units before after =
 
 abbrev pub SameWidths : List Row → List Row → Type 0
 SameWidths old new = (i : ℕ) → width_at (now_at new i) ≡ width_at (now_at old i)
+
+-- both are rows, of which this holds
+abbrev pub OnRows : (Row → Row → Type 0) → Option Row → Option Row → Type 0
+OnRows P None next = ⊥
+OnRows P (Some row) None = ⊥
+OnRows P (Some row) (Some next) = P row next
+
+abbrev pub IsLeftAt : Step → Option Row → Type 0
+IsLeftAt step None = Unit {0}
+IsLeftAt step (Some row) = IsLeft step.narrow.row row.now row.left

@@ -29,8 +29,8 @@ pub(crate) struct MixedRow {
 impl MixedRow {
     ghost use Rattle.std.specs.Prelude.{ℕ, false, IfOk};
     ghost use Rattle.ratio_core.specs.Rational.{◌*ℚ◌, ◌-ℚ◌};
-    ghost use Rattle.whole_rows.specs.Rows.{can_stay};
-    ghost use Rattle.sparse_board.specs.Mixed.{IsSame, number_of, units_of, width_of};
+    ghost use Rattle.whole_rows.specs.Rows.{CanLower, can_stay, lowered_by};
+    ghost use Rattle.sparse_board.specs.Mixed.{IsLeft, IsSame, number_left, number_of, units_of, width_of};
 
     // A row of these fractions, with whole numbers for this number of columns.
     pub(crate) fn new(
@@ -116,10 +116,45 @@ impl MixedRow {
         }
     }
 
+    // Brings a row of whole numbers over the denominator of the one that it is lowered to by its
+    // number of column q times the step, and tells by what multiple of the step it is to be lowered
+    // then. Where it doesn't stay narrow so, it is lowered at once, and nothing is left.
+    #[inline(always)]
+    pub(crate) fn ready(&mut self, step: &NarrowStep, q: usize, room: &mut SparseRow) -> i64
+        requires narrow { self.old.is_wide ≡ false }
+        requires most { sparse.width_of room.old ≤ width_of self.old }
+        requires room { can_stay q step.now.row self.old.narrow ≡ false
+            → sparse.width_of room.old ≡ width_of self.old }
+        ensures width { width_of self.new ≡ width_of self.old }
+        ensures most { sparse.width_of room.new ≤ width_of self.old }
+        ensures left { IsLeft step.now.row self.new result }
+        ensures numbers { (j : ℕ) → j < width_of self.old
+            → number_left step.now.row self.new result j
+            ≡ number_of self.old j -ℚ number_of self.old q *ℚ whole.number_of step.now.row j }
+    {
+        if let Some(by) = self.narrow.ready(step, q) {
+            return by;
+        }
+        self.lower(step, q, room);
+        0
+    }
+
+    // Lowers a row of whole numbers by a multiple of the step's numerators.
+    #[inline(always)]
+    pub(crate) fn lower_by(&mut self, by: i64, step: &NarrowStep)
+        requires narrow { self.old.is_wide ≡ false }
+        requires left { CanLower step.now.row self.old.narrow by }
+        ensures width { width_of self.new ≡ width_of self.old }
+        ensures numbers { (j : ℕ) → number_of self.new j
+            ≡ lowered_by step.now.row self.old.narrow by j }
+    {
+        self.narrow.lower_by(by, step);
+    }
+
     // Lowers a row of whole numbers by its number of column q times the step. It can't fail: where
     // the row doesn't stay narrow, each of its fractions fits, and there is room for them.
-    #[inline(always)]
-    pub(crate) fn lower(&mut self, step: &NarrowStep, q: usize, room: &mut SparseRow)
+    #[inline(never)]
+    fn lower(&mut self, step: &NarrowStep, q: usize, room: &mut SparseRow)
         requires narrow { self.old.is_wide ≡ false }
         requires most { sparse.width_of room.old ≤ width_of self.old }
         requires room { can_stay q step.now.row self.old.narrow ≡ false

@@ -17,13 +17,15 @@ pub(crate) struct Row {
     pub(crate) next: SparseRow,
     // whether a pivot that was worked out changes it
     changes: bool,
+    // by what multiple of the pivot's new row it is still to be lowered
+    left: i64,
     ghost most: { sparse.width_of next ≤ width_of now },
 }
 
 impl Row {
     ghost use Rattle.tableau_core.specs.Numbers.{differences_fit};
-    ghost use Rattle.sparse_board.specs.Mixed.{IsLowered};
-    ghost use Rattle.sparse_board.specs.Lowering.{HasRoom, IsPrepared};
+    ghost use Rattle.sparse_board.specs.Mixed.{IsLeft, IsLowered};
+    ghost use Rattle.sparse_board.specs.Lowering.{HasRoom, IsFinished, IsPrepared, IsReady};
     ghost use Rattle.sparse_board.specs.Testing.{IsTest};
 
     // A row of these fractions, with whole numbers for this number of columns.
@@ -47,6 +49,7 @@ impl Row {
             now,
             next: SparseRow::closed(alloc),
             changes: false,
+            left: 0,
         })
     }
 
@@ -103,16 +106,40 @@ impl Row {
     }
 
     // Puts in place what was worked out.
-    #[inline(always)]
     pub(crate) fn settle(&mut self, q: u32, step: &Step)
         requires { IsPrepared q step.now self.old }
         ensures { IsLowered (number_of self.old.now q) (units_of step.now) self.old.now self.new.now }
     {
+        self.ready(q, step);
+        self.finish(step);
+    }
+
+    // The same, but for a multiple of the step by which a row of whole numbers is to be lowered then.
+    #[inline(always)]
+    pub(crate) fn ready(&mut self, q: u32, step: &Step)
+        requires { IsPrepared q step.now self.old }
+        ensures { IsReady q step.now self.old self.new }
+    {
         if is_in_place(&self.now, step) {
-            self.now.lower(&step.narrow, q as usize, &mut self.next);
-        } else if self.changes {
+            self.left = self.now.ready(&step.narrow, q as usize, &mut self.next);
+            return;
+        }
+        self.left = 0;
+        if self.changes {
             self.now.take(&mut self.next);
         }
+    }
+
+    // Lowers the row by the multiple of the step that is left.
+    #[inline(always)]
+    pub(crate) fn finish(&mut self, step: &Step)
+        requires { IsLeft step.now.narrow.row self.old.now self.old.left }
+        ensures { IsFinished step.now self.old self.new }
+    {
+        if self.left == 0 {
+            return;
+        }
+        self.now.lower_by(self.left, &step.narrow);
     }
 
     // Takes the numbers of a step of as many columns.

@@ -2,7 +2,8 @@
 ghost use Rattle.std.specs.Prelude.{◌≡◌, ◌<◌, length, OnOk};
 ghost use Rattle.sparse_board.specs.Mixed.{IsBoth, units_of};
 ghost use Rattle.sparse_board.specs.Rows.{AreLowered, AreWide, SameNow, SameWidths, now_at, rows_fit};
-ghost use Rattle.sparse_board.specs.Marking.{AreMarked, ArePrepared};
+ghost use Rattle.sparse_board.specs.Marking.{AreChanged, AreLeft, AreMarked, ArePrepared};
+ghost use Rattle.sparse_board.specs.Lowering.{IsFinished, IsReady};
 ghost use Rattle.sparse_board.specs.Testing.{IsTest};
 
 use crate::marks::Marks;
@@ -41,7 +42,8 @@ pub(crate) fn prepare_rows(
     Ok(())
 }
 
-// Puts each row other than r in place.
+// Puts each row other than r in place: in two passes, since the numbers of a row mostly lie far from
+// those of the next. While they are lowered nothing is asked of a row that comes later.
 #[inline(never)]
 pub(crate) fn settle_rows(rows: &mut [Row], r: usize, q: u32, step: &Step, marks: &Marks)
     requires wide { AreWide step.now.width rows.old }
@@ -54,11 +56,39 @@ pub(crate) fn settle_rows(rows: &mut [Row], r: usize, q: u32, step: &Step, marks
     ensures stays { now_at rows.new r ≡ now_at rows.old r }
     ensures lowered { AreLowered r q (units_of step.now) rows.old rows.new }
 {
+    ready_rows(rows, r, q, step, marks);
+    finish_rows(rows, r, q, step, marks);
+}
+
+// The same but for a multiple of the step by which each row is to be lowered then.
+fn ready_rows(rows: &mut [Row], r: usize, q: u32, step: &Step, marks: &Marks)
+    requires column { q < marks.now.columns }
+    requires count { marks.now.rows ≡ length rows.old }
+    requires ready { ArePrepared r q step.now marks.now rows.old }
+    ensures { AreChanged (IsReady q step.now) r q marks.now rows.old rows.new }
+{
     let mut i = marks.next_row(q as usize, 0);
     while i < rows.len() {
         if i != r {
             let row = &mut rows[i];
-            row.settle(q, step);
+            row.ready(q, step);
+        }
+        i = marks.next_row(q as usize, i + 1);
+    }
+}
+
+// Lowers each row other than r by the multiple of the step that is left.
+fn finish_rows(rows: &mut [Row], r: usize, q: u32, step: &Step, marks: &Marks)
+    requires column { q < marks.now.columns }
+    requires count { marks.now.rows ≡ length rows.old }
+    requires left { AreLeft r q step.now marks.now rows.old }
+    ensures { AreChanged (IsFinished step.now) r q marks.now rows.old rows.new }
+{
+    let mut i = marks.next_row(q as usize, 0);
+    while i < rows.len() {
+        if i != r {
+            let row = &mut rows[i];
+            row.finish(step);
         }
         i = marks.next_row(q as usize, i + 1);
     }

@@ -1,20 +1,22 @@
 -- Loops that list, filter, count and read.
-use Rattle.std.specs.Prelude.{◌≡◌, ◌≤◌, ◌<◌, ◌+◌, ◌++◌, ◌||◌, ℕ, suc, Bool, true, false, cond, if◌then◌else◌, List, [], ◌∷◌, MatchBool, Option, Some, None, count_by, filter, flat_map, get_or, length, map, sum_by, take, unwrap_or, refl}
+use Rattle.std.specs.Prelude.{◌≡◌, ◌≤◌, ◌<◌, ◌+◌, ◌++◌, ◌||◌, ℕ, suc, Bool, true, false, cond, if◌then◌else◌, List, [], ◌∷◌, Option, Some, None, count_by, filter, flat_map, get_or, length, map, take, unwrap_or, refl}
 use Rattle.std.specs.Borrow.{Bor}
-use Rattle.std.specs.BTreeSet as set
-use Rattle.std.specs.BTreeSet.{BTreeSet}
+use Rattle.std.specs.Cmp.{eq_by_cmp_equiv}
 use Rattle.std.specs.FinMap as finite
 use Rattle.std.specs.List.{filter_map, list_any}
+use Rattle.std.specs.List.Retain.{DiffersFromLast, IsFiltered}
+use Rattle.std.specs.List.Sorted.{IsPermutation, IsSorted}
 use Rattle.std.specs.Option.{option_to_list}
-use Rattle.std.specs.Set.{is_member}
 use Rattle.std.proofs.Common.{arith, sym, ap, subst, ◌∙◌, append_assoc, append-nil}
 use Rattle.std.proofs.lemmas.Grind.{flat_map-append}
 use Rattle.std.proofs.lemmas.List.{map-append, take_more}
 use Rattle.std.proofs.lemmas.List.Elements.{filter-append, filter_map-append}
+use Rattle.std.proofs.lemmas.List.Filters.{dedup_is}
+use Rattle.std.proofs.lemmas.List.Kept.{Contains-dedup, Contains-from_dedup, IsStrictlySortedBy-dedup}
+use Rattle.std.proofs.lemmas.List.Sorted.{Contains-permutation, IsPermutation-sym}
 use Rattle.std.proofs.lemmas.List.Sums.{sum_by-append}
-use Rattle.std.proofs.lemmas.Map.Made.{is_member-Decides}
 use Rattle.address_map.specs.Noted.{AddressSet, Noted, noted_items}
-use Rattle.aff_core.specs.Address.{Address, address_cmp, address_eq, address_eq-Decides, root_address}
+use Rattle.aff_core.specs.Address.{Address, address_cmp, address_eq, address_eq-Decides, address_total, root_address}
 use Rattle.aff_core.specs.declared.root.Root.TheVariants as root
 use Rattle.map_laws.specs.MadeLaws.{entries_empty}
 use Rattle.numbered_list.specs.declared.change.Change.{Change}
@@ -61,18 +63,19 @@ one_listed left rest e old new all next so_far pushed =
     ∙ ap (λ es. old ++ map (λ e. e.0) es) (sym next)
     ∙ so_far
 
--- ---- a set in its order
+-- ---- sorted, and each once
 
-pub ordered_same : (listed : List Address) (s : BTreeSet Address) (items : List Address)
-    → set.IsFromIterResult address_cmp listed s → items ≡ s.keys → AreInOrder listed items
-ordered_same listed s items made is =
-    subst (AreInOrder listed) (sym is) (record {
-      rising = made.1;
+pub ordered_once : (listed sorted once : List Address) → IsPermutation listed sorted
+    → IsSorted address_cmp sorted → IsFiltered (DiffersFromLast address_eq) [] sorted once
+    → AreInOrder listed once
+ordered_once listed sorted once moved rise kept =
+    subst (AreInOrder listed) (sym (dedup_is address_eq sorted once kept)) (record {
+      rising = IsStrictlySortedBy-dedup address_total (λ x y. refl) sorted rise;
       same = λ at. (
-        λ c. (is_member-Decides address_eq-Decides listed at).0
-            (sym (made.0 at) ∙ (is_member-Decides address_eq-Decides s.keys at).1 c),
-        λ c. (is_member-Decides address_eq-Decides s.keys at).0
-            (made.0 at ∙ (is_member-Decides address_eq-Decides listed at).1 c),
+        λ h. Contains-permutation sorted listed at (IsPermutation-sym listed sorted moved)
+            (Contains-from_dedup address_eq sorted at h),
+        λ h. Contains-dedup (eq_by_cmp_equiv address_total) (λ x y. (address_eq-Decides x y).0)
+            sorted at (Contains-permutation listed sorted at moved h),
       );
     })
 

@@ -1,5 +1,5 @@
 -- What comparisons tell of sets and of lists of variables.
-use Rattle.std.specs.Prelude.{◌≡◌, ◌≢◌, ◌↔◌, ◌==◌, ◌&&◌, ℕ, Bool, true, false, IsTrue, MatchBool, List, [], ◌∷◌, length, map, refl}
+use Rattle.std.specs.Prelude.{◌≡◌, ◌≢◌, ◌↔◌, ◌==◌, ◌&&◌, Bool, true, false, IsTrue, MatchBool, List, [], ◌∷◌, length, map, refl}
 use Rattle.std.specs.List.{list_all, zip}
 use Rattle.std.proofs.Common.{arith, sym, ap, ap₂, subst, ◌∙◌, true≢false}
 use Rattle.std.proofs.lemmas.Bool.Decides.{Decides-eqb}

@@ -1,6 +1,5 @@
 -- The first change of each number, by a map from numbers that is filled from the last change on.
 use Rattle.std.specs.Prelude.{◌≡◌, ◌≤◌, ◌<◌, ◌+◌, ◌==◌, ◌++◌, ℕ, Bool, true, false, cond, List, [], ◌∷◌, All, Option, Some, None, length, map, refl}
-use Rattle.std.specs.Bool.{Decides}
 use Rattle.std.specs.Borrow.{Bor}
 use Rattle.std.specs.BTreeMap.{BTreeMap, IsOrdered, Updates, btree_map_len, get, is_at, values}
 use Rattle.std.specs.Cmp.{Equal-is, nat_cmp_total, ranked, tied_itself}

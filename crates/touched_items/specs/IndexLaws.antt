@@ -1,6 +1,6 @@
 -- Mentions as a map notes them are the index that the search asks for.
 --     other_names      the row at an address, or the objective, names a variable
-use Rattle.std.specs.Prelude.{◌≡◌, ◌≢◌, ◌⊎◌, ◌↔◌, ◌&&◌, ◌||◌, ◌++◌, zero, suc, Bool, true, false, cond, List, [], ◌∷◌, Contains, Option, Some, None, find as first_passing, flat_map, is_some, map, refl}
+use Rattle.std.specs.Prelude.{◌≡◌, ◌⊎◌, ◌↔◌, ◌&&◌, ◌||◌, ◌++◌, zero, suc, Bool, true, false, cond, List, [], ◌∷◌, Contains, Option, Some, None, find as first_passing, flat_map, is_some, map, refl}
 use Rattle.std.specs.FinMap as finite
 use Rattle.std.specs.List.{list_any}
 use Rattle.std.specs.Option.{option_map, option_or}

@@ -14,7 +14,6 @@ use aff_core::{Address, Root};
 use lists::Memory;
 use model_store::CountedView;
 use std::alloc::Global;
-use std::collections::BTreeSet;
 use user_model::{Group, Objective, Row};
 
 /// The items that a search finds. The groups among them are those that differ.
@@ -49,7 +48,7 @@ pub fn find_items<'a>(
         reading.new.reads ≤ reading.old.reads + length found.addresses.items) }
 {
     let listed = list_found(alloc, map, differing, changed)?;
-    let addresses = in_order(alloc, &listed)?;
+    let addresses = in_order(listed);
     let rows = read_rows(alloc, reading, &addresses)?;
     let objective = read_objective(reading, &addresses);
     Ok(Found {
@@ -130,11 +129,12 @@ fn list_set(items: &AddressSet, list: &mut Vec<Address>) -> Result<(), Memory>
 }
 
 // The addresses in their order, each once.
-fn in_order(alloc: Global, listed: &[Address]) -> Result<Vec<Address>, Memory>
-    ensures { IfOk result (λ list. AreInOrder listed.now list.items) }
+fn in_order(mut listed: Vec<Address>) -> Vec<Address>
+    ensures { AreInOrder listed.items result.items }
 {
-    let all: BTreeSet<Address> = listed.iter().copied().collect(alloc)?;
-    Ok(all.iter().copied().collect(alloc)?)
+    listed.sort_unstable();
+    listed.dedup();
+    listed
 }
 
 // The rows at these addresses, each read once.

@@ -283,6 +283,21 @@ pub covers_zeros : (blocks : List Bool) (numbers : List ℤ)
     → ((j : ℕ) → slice_index_or numbers j (pos 0) ≡ pos 0) → Covers blocks numbers
 covers_zeros blocks numbers h = record { unmarked = λ j e. h j }
 
+-- numbers that are multiplied
+pub covers_scaled : (over : ℤ) (blocks new : List Bool) (numbers made : List ℤ)
+    → KeepsMarks blocks new → Covers blocks numbers → AreScaled over (length numbers) numbers made
+    → Covers new made
+covers_scaled over blocks new numbers made kept covers scaled = record {
+  unmarked = λ j e. by_end j e (cases_lt j (length numbers));
+}
+  where
+    by_end : (j : ℕ) → slice_index_or new (j / 8) false ≡ false
+        → (j < length numbers) ⊎ (length numbers ≤ j) → slice_index_or made j (pos 0) ≡ pos 0
+    by_end j e (inl b) =
+        scaled.scaled j b ∙ ap (λ z. z *ℤ over) (covers.unmarked j (kept (j / 8) e))
+        ∙ zero_times over
+    by_end j e (inr h) = scaled.others j h ∙ covers.unmarked j (kept (j / 8) e)
+
 -- numbers that are lowered
 pub covers_lowered : (over : ℕ) (by : ℤ) (blocks new : List Bool) (numbers step made : List ℤ)
     → KeepsMarks blocks new → Covers blocks numbers → Covers new step

@@ -7,23 +7,24 @@ use Rattle.std.proofs.lemmas.List.{get_or_default, get_or_past}
 use Rattle.ratio_core.specs.Gcd.{gcd}
 use Rattle.ratio_core.specs.Rational.{reduce, zero_ℚ}
 use Rattle.rational_laws.specs.Over.{over-zero_ℚ}
-use Rattle.whole_rows.specs.Blocks.{Covers, KeepsMarks, blocks_of}
+use Rattle.whole_rows.specs.Blocks.{AreScaled, Covers, KeepsMarks, blocks_of}
 use Rattle.whole_rows.specs.declared.narrow_row.NarrowRow.{NarrowRow}
-use Rattle.whole_rows.specs.Numerators.{AreDivided, AreLowered, AreMade, AreShrunk, numerator}
+use Rattle.whole_rows.specs.Numerators.{AreDivided, AreMade, AreShrunk, numerator}
 use Rattle.whole_rows.specs.Rows.{can_stay, number_of, numerator_of, width_of}
-use Rattle.whole_rows.proofs.BlockSteps.{covers_divided, covers_lowered, covers_shrunk}
+use Rattle.whole_rows.proofs.BlockSteps.{covers_divided, covers_scaled, covers_shrunk}
+
+pub scaled_covers : (row : NarrowRow) (over : ℤ) (N N' items : List ℤ) (B B' blocks : List Bool)
+    → N ≡ row.numbers.items → items ≡ N' → B ≡ row.blocks.items → blocks ≡ B' → KeepsMarks B B'
+    → AreScaled over (length N) N N' → Covers blocks items
+scaled_covers row over N N' items B B' blocks N_is items_are B_is blocks_are kept scaled =
+    subst₂ Covers (sym blocks_are) (sym items_are)
+    (covers_scaled over B B' N N' kept (subst₂ Covers (sym B_is) (sym N_is) row.covers) scaled)
 
 module _ (row : NarrowRow) (N n N' items : List ℤ) (B B' blocks : List Bool)
     (N_is : N ≡ row.numbers.items) (items_are : items ≡ N') (B_is : B ≡ row.blocks.items)
     (blocks_are : blocks ≡ B') (kept : KeepsMarks B B') (step_covers : Covers B' n) where
   row_covers : Covers B N
   row_covers = subst₂ Covers (sym B_is) (sym N_is) row.covers
-
-  pub lowered_covers : (over : ℕ) (by : ℤ) → AreLowered over by n (length N) N N'
-      → Covers blocks items
-  lowered_covers over by lowered =
-      subst₂ Covers (sym blocks_are) (sym items_are)
-      (covers_lowered over by B B' N n N' kept row_covers step_covers lowered)
 
   pub shrunk_covers : (over : ℕ) (by : ℤ) (common : ℕ) → 0 < common
       → AreShrunk over by n common (length N) N N' → Covers blocks items

@@ -1,8 +1,8 @@
 pub mod BitLaws
 pub mod BlockSteps
-pub mod LoweringSteps
 pub mod RowSteps
 pub mod PlanSteps
+pub mod OnceSteps
 pub mod DividingSteps
 pub mod DivisionSteps
 pub mod RatioSteps

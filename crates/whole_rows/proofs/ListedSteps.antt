@@ -347,36 +347,7 @@ lists_zeros columns numbers h = record {
   others = λ j b none. h j;
 }
 
--- numbers that are multiplied and then lowered once
-pub scaled_lowered : (over : ℕ) (by : ℤ) (step old middle new : List ℤ)
-    → AreScaled (pos over) (length old) old middle → AreLowered 1 by step (length middle) middle new
-    → AreLowered over by step (length old) old new
-scaled_lowered over by step old middle new scaled lowered = record {
-  long = lowered.long ∙ scaled.long;
-  lowered = λ j b. lowered.lowered j (subst (λ n. j < n) (sym scaled.long) b)
-      ∙ sym (lowered_once_is (slice_index_or middle j (pos 0)) by (slice_index_or step j (pos 0)))
-      ∙ ap (λ x. lowered_once x by (slice_index_or step j (pos 0))) (scaled.scaled j b);
-  others = λ j h. lowered.others j (subst (λ n. n ≤ j) (sym scaled.long) h) ∙ scaled.others j h;
-}
-
--- the multiple still fits, and what is taken off it
-pub scaled_fits : (over : ℕ) (by : ℤ) (step old middle : List ℤ) → LoweringFits over by step old
-    → AreScaled (pos over) (length old) old middle → LoweringFits 1 by step middle
-scaled_fits over by step old middle fits scaled j b =
-    let within : j < length old = subst (λ n. j < n) scaled.long b in
-    sum_lem _ _ _ _ (ap unsigned_abs (scaled.scaled j within)
-    ∙ unsigned_abs-mul (slice_index_or old j (pos 0)) (pos over)) (fits j within)
-  where
-    sum_lem : (m x o y : ℕ) → m ≡ x * o → x * o + y < 2 ^ 63 → m * 1 + y < 2 ^ 63
-    sum_lem m x o y e h = omega (arith, e, h)
-
-pub scaled_small : (over : ℕ) (by : ℤ) (step old : List ℤ) → LoweringFits over by step old
-    → (j : ℕ) → j < length old → unsigned_abs (slice_index_or old j (pos 0)) * over < 2 ^ 63
-scaled_small over by step old fits j b = part_lem _ _ (fits j b)
-  where
-    part_lem : (x y : ℕ) → x + y < 2 ^ 63 → x < 2 ^ 63
-    part_lem x y h = omega (arith, h)
-
+-- numbers that are multiplied by 1
 pub unscaled : (over : ℕ) (old : List ℤ) → over ≡ 1 → AreScaled (pos over) (length old) old old
 unscaled over old e = record {
   long = refl;

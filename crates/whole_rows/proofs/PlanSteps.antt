@@ -1,87 +1,139 @@
--- What a plan gives: its numerators fit, and they stand for the row that is lowered. The numbers
--- and lists are given as the code has them, with equations that say what they are.
-use Rattle.std.specs.Prelude.{◌≡◌, ℕ, ◌+◌, ◌*◌, ◌^◌, ◌<◌, List, length, slice_index_or, ℤ, pos, unsigned_abs, refl}
-use Rattle.std.proofs.Common.{sym, ◌∙◌, ap, ap₂, mul-pos, subst, subst₂}
+-- What a plan gives: the row that is brought over its denominator, and what is left to be done. The
+-- numbers and lists are given as the code has them, with equations that say what they are.
+use Rattle.std.specs.Prelude.{◌≡◌, ℕ, ◌+◌, ◌*◌, ◌^◌, ◌<◌, ◌≤◌, ◌⊎◌, List, length, slice_index_or, ℤ, pos, ◌*ℤ◌, unsigned_abs, refl}
+use Rattle.std.proofs.Common.{inl, inr, sym, ◌∙◌, ap, ap₂, arith, mul-le-mul_right, mul-pos, subst}
+use Rattle.std.proofs.lemmas.Bool.{cases_lt}
+use Rattle.std.proofs.lemmas.Int.{unsigned_abs-mul}
+use Rattle.std.proofs.lemmas.List.{get_or_default, get_or_past}
 use Rattle.ratio_core.specs.Gcd.{gcd, part_pos}
 use Rattle.ratio_core.specs.Rational.{reduce}
 use Rattle.whole_rows.specs.declared.narrow_row.NarrowRow.{NarrowRow}
 use Rattle.whole_rows.specs.declared.plan.LoweringPlan.{LoweringPlan}
-use Rattle.whole_rows.specs.Numerators.{AreLowered, AreWithin, LoweringFits}
-use Rattle.whole_rows.specs.Over.{lowered_num}
-use Rattle.whole_rows.specs.Rows.{IsLowered, IsPlan, number_of, numerator_of, width_of}
+use Rattle.whole_rows.specs.Blocks.{AreScaled, Covers}
+use Rattle.whole_rows.specs.Listed.{lowered_once}
+use Rattle.whole_rows.specs.Numerators.{AreWithin, numerator}
+use Rattle.whole_rows.specs.Rows.{IsLowered, IsPlan, IsReady, number_of, numerator_of, width_of}
 use Rattle.rational_laws.specs.Over.{over-zero_ℚ}
 use Rattle.tableau_core.specs.LoweringLaws.{lowered-zero, zero-step}
-use Rattle.whole_rows.proofs.RowSteps.{list_fits, lowered_within, number_lowered, side_fits, size_int_div}
+use Rattle.whole_rows.proofs.RowSteps.{number_over, part_fits, size_int_div}
+
+below_lem : (x s o w m : ℕ) → x ≤ s → s * o + w ≡ m → m < 2 ^ 63 → x * o < 2 ^ 63
+below_lem x s o w m h e k =
+    let more : x * o ≤ s * o = mul-le-mul_right o h in
+    omega (arith, more, e, k)
+
+at_most_lem : (y x s o w m : ℕ) → y ≡ x * o → x ≤ s → s * o + w ≡ m → y ≤ m
+at_most_lem y x s o w m i h e =
+    let more : x * o ≤ s * o = mul-le-mul_right o h in
+    omega (arith, i, more, e)
+
+sum_lem : (y p w r m n : ℕ) → y ≡ p → p + w ≤ r → r ≡ m → n ≡ m → y + w ≤ n
+sum_lem y p w r m n e h f g = omega (arith, e, h, f, g)
 
 module _ (q : ℕ) (step row : NarrowRow) (plan : LoweringPlan) (planned : IsPlan q step row plan)
     (long : width_of step ≡ width_of row) where
-  bound_is : row.bound * plan.over + unsigned_abs plan.by * step.bound ≡ plan.bound
-  bound_is =
+  room_is : (by : ℤ) → by ≡ plan.by
+      → row.bound * plan.over + unsigned_abs by * step.bound ≡ plan.bound
+  room_is by by_is =
       ap₂ (λ x y. row.bound * x + y * step.bound) planned.over
-      (ap unsigned_abs planned.by ∙ size_int_div (numerator_of row q) _) ∙ sym planned.bound
+      (ap unsigned_abs (by_is ∙ planned.by) ∙ size_int_div (numerator_of row q) _)
+      ∙ sym planned.bound
 
   pub planned_above : 0 < plan.den
   planned_above =
       subst (λ x. 0 < x) (sym planned.den)
       (mul-pos row.above (part_pos (unsigned_abs (numerator_of row q)) step.den step.above))
 
-  module _ (by : ℤ) (by_is : by ≡ plan.by) where
-    room_is : row.bound * plan.over + unsigned_abs by * step.bound ≡ plan.bound
-    room_is =
-        ap (λ x. row.bound * plan.over + unsigned_abs x * step.bound) by_is ∙ bound_is
+  over_small : (x : ℕ) → x ≤ row.bound → x * plan.over < 2 ^ 63
+  over_small x h =
+      below_lem x row.bound plan.over (unsigned_abs plan.by * step.bound) plan.bound h
+      (room_is plan.by refl) planned.small_bound
 
-    room : row.bound * plan.over + unsigned_abs by * step.bound < 2 ^ 63
-    room = subst (λ x. x < 2 ^ 63) (sym room_is) planned.small_bound
+  pub planned_small : (N : List ℤ) → N ≡ row.numbers.items → (j : ℕ) → j < length N
+      → unsigned_abs (slice_index_or N j (pos 0)) * plan.over < 2 ^ 63
+  planned_small N N_is =
+      subst (λ l. (j : ℕ) → j < length l
+      → unsigned_abs (slice_index_or l j (pos 0)) * plan.over < 2 ^ 63) (sym N_is)
+      (λ j b. over_small (unsigned_abs (slice_index_or row.numbers.items j (pos 0)))
+      (subst (λ z. unsigned_abs z ≤ row.bound)
+      (get_or_default row.numbers.items j row.side (pos 0) b) (row.within.sizes j)))
 
-    pub planned_fits : (N n : List ℤ) → N ≡ row.numbers.items → n ≡ step.numbers.items
-        → LoweringFits plan.over by n N
-    planned_fits N n N_is n_is =
-        subst₂ (λ x y. LoweringFits plan.over by x y) (sym n_is) (sym N_is)
-        (list_fits row.numbers.items step.numbers.items row.side step.side row.bound step.bound
-        plan.over by row.within step.within long room)
+  pub planned_side : (s : ℤ) → s ≡ row.side → unsigned_abs s * plan.over < 2 ^ 63
+  planned_side s s_is =
+      over_small (unsigned_abs s)
+      (subst (λ z. unsigned_abs z ≤ row.bound)
+      (get_or_past row.numbers.items (width_of row) row.side (omega arith) ∙ sym s_is)
+      (row.within.sizes (width_of row)))
 
-    pub planned_side : (s u : ℤ) → s ≡ row.side → u ≡ step.side
-        → unsigned_abs s * plan.over + unsigned_abs by * unsigned_abs u < 2 ^ 63
-    planned_side s u s_is u_is =
-        subst₂ (λ x y. unsigned_abs x * plan.over + unsigned_abs by * unsigned_abs y < 2 ^ 63)
-        (sym s_is) (sym u_is)
-        (side_fits row.numbers.items step.numbers.items row.side step.side row.bound step.bound
-        plan.over by row.within step.within long room)
+  module _ (N N' items : List ℤ) (s side : ℤ) (N_is : N ≡ row.numbers.items) (s_is : s ≡ row.side)
+      (scaled : AreScaled (pos plan.over) (length N) N N') (items_are : items ≡ N')
+      (side_is : side ≡ s *ℤ pos plan.over) where
+    scaled_items : AreScaled (pos plan.over) (width_of row) row.numbers.items items
+    scaled_items =
+        subst (AreScaled (pos plan.over) (width_of row) row.numbers.items) (sym items_are)
+        (subst (λ l. AreScaled (pos plan.over) (length l) l N') N_is scaled)
 
-    module _ (N n N' items : List ℤ) (s u side : ℤ) (N_is : N ≡ row.numbers.items)
-        (n_is : n ≡ step.numbers.items) (s_is : s ≡ row.side) (u_is : u ≡ step.side)
-        (lowered : AreLowered plan.over by n (length N) N N') (items_are : items ≡ N')
-        (side_is : side ≡ lowered_num s plan.over by u) where
-      lowered_items : AreLowered plan.over by step.numbers.items (length row.numbers.items)
-          row.numbers.items items
-      lowered_items =
-          subst (AreLowered plan.over by step.numbers.items (length row.numbers.items)
-          row.numbers.items) (sym items_are)
-          (subst₂ (λ x y. AreLowered plan.over by x (length y) y N') n_is N_is lowered)
+    numerator_scaled : (j : ℕ) → numerator items side j ≡ numerator_of row j *ℤ pos plan.over
+    numerator_scaled j = by_end (cases_lt j (width_of row))
+      where
+        by_end : (j < width_of row) ⊎ (width_of row ≤ j)
+            → numerator items side j ≡ numerator_of row j *ℤ pos plan.over
+        by_end (inl b) =
+            get_or_default items j side (pos 0) (subst (λ n. j < n) (sym scaled_items.long) b)
+            ∙ scaled_items.scaled j b
+            ∙ ap (λ z. z *ℤ pos plan.over)
+            (sym (get_or_default row.numbers.items j row.side (pos 0) b))
+        by_end (inr h) =
+            get_or_past items j side (subst (λ n. n ≤ j) (sym scaled_items.long) h) ∙ side_is
+            ∙ ap (λ z. z *ℤ pos plan.over)
+            (s_is ∙ sym (get_or_past row.numbers.items j row.side h))
 
-      lowered_side : side ≡ lowered_num row.side plan.over by step.side
-      lowered_side = side_is ∙ ap₂ (λ x y. lowered_num x plan.over by y) s_is u_is
+    size_scaled : (j : ℕ) → unsigned_abs (numerator items side j)
+        ≡ unsigned_abs (numerator_of row j) * plan.over
+    size_scaled j =
+        ap unsigned_abs (numerator_scaled j)
+        ∙ unsigned_abs-mul (numerator_of row j) (pos plan.over)
 
-      pub planned_within : AreWithin plan.bound items side
-      planned_within =
-          subst (λ x. AreWithin x items side) room_is
-          (lowered_within row.numbers.items step.numbers.items row.side step.side row.bound
-          step.bound plan.over by row.within step.within long items side lowered_items
-          lowered_side)
+    pub scaled_within : AreWithin plan.bound items side
+    scaled_within = record {
+      sizes = λ j. at_most_lem (unsigned_abs (numerator items side j))
+          (unsigned_abs (numerator_of row j)) row.bound plan.over
+          (unsigned_abs plan.by * step.bound) plan.bound (size_scaled j) (row.within.sizes j)
+          (room_is plan.by refl);
+    }
 
-      pub planned_lowered : (next : NarrowRow) → next.numbers.items ≡ items → next.side ≡ side
-          → next.den ≡ plan.den → IsLowered q step row next
-      planned_lowered next next_items next_side next_den = record {
-        width = ap length next_items ∙ lowered_items.long;
-        numbers = λ j b.
-            ap₂ reduce (ap₂ (λ x y. slice_index_or x j y) next_items next_side)
-            (next_den ∙ planned.den ∙ ap (λ x. row.den * x) (sym planned.over))
-            ∙ number_lowered row.numbers.items step.numbers.items row.side step.side row.bound
-            step.bound plan.over by row.within step.within long items side lowered_items
-            lowered_side (numerator_of row q) row.den step.den
-            (gcd (unsigned_abs (numerator_of row q)) step.den) row.above step.above refl
-            planned.over (by_is ∙ planned.by) j;
-      }
+    pub planned_ready : (next : NarrowRow) (by : ℤ) → next.numbers.items ≡ items
+        → next.side ≡ side → next.den ≡ plan.den → next.bound ≡ plan.bound
+        → Covers next.blocks.items step.numbers.items → by ≡ plan.by → IsReady q step row next by
+    planned_ready next by next_items next_side next_den next_bound covers by_is = record {
+      width = width_lem;
+      left = record {
+        width = long ∙ sym width_lem;
+        within = λ j. sum_lem (unsigned_abs (numerator_of next j))
+            (unsigned_abs (numerator_of row j) * plan.over)
+            (unsigned_abs by * unsigned_abs (numerator_of step j))
+            (row.bound * plan.over + unsigned_abs by * step.bound) plan.bound next.bound
+            (ap unsigned_abs (same_lem j) ∙ size_scaled j)
+            (part_fits (unsigned_abs (numerator_of row j)) (unsigned_abs (numerator_of step j))
+            row.bound step.bound plan.over (unsigned_abs by) (row.within.sizes j)
+            (step.within.sizes j))
+            (room_is by by_is) next_bound;
+        covers = covers;
+      };
+      numbers = λ j b.
+          ap₂ reduce (ap (λ z. lowered_once z by (numerator_of step j))
+          (same_lem j ∙ numerator_scaled j))
+          (next_den ∙ planned.den ∙ ap (λ x. row.den * x) (sym planned.over))
+          ∙ number_over (numerator_of row j) (numerator_of step j) (numerator_of row q) by row.den
+          step.den (gcd (unsigned_abs (numerator_of row q)) step.den) plan.over row.above
+          step.above refl planned.over (by_is ∙ planned.by);
+    }
+      where
+        width_lem : width_of next ≡ width_of row
+        width_lem = ap length next_items ∙ scaled_items.long
+
+        same_lem : (j : ℕ) → numerator_of next j ≡ numerator items side j
+        same_lem j = ap₂ (λ x y. slice_index_or x j y) next_items next_side
 
 -- a row whose number of the column is 0 stays
 pub zero_lowered : (q : ℕ) (step row : NarrowRow) → numerator_of row q ≡ pos 0

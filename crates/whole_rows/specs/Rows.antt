@@ -6,6 +6,8 @@ use Rattle.whole_rows.specs.declared.narrow_row.NarrowRow.{NarrowRow}
 use Rattle.std.specs.Int.{◌∣◌}
 use Rattle.whole_rows.specs.declared.plan.Division.{Division}
 use Rattle.whole_rows.specs.declared.plan.LoweringPlan.{LoweringPlan}
+use Rattle.whole_rows.specs.Blocks.{Covers}
+use Rattle.whole_rows.specs.Listed.{lowered_once}
 use Rattle.whole_rows.specs.Numerators.{numerator, over_left, size_left}
 
 abbrev pub width_of : NarrowRow → ℕ
@@ -23,6 +25,25 @@ pub record IsLowered (q : ℕ) (step row next : NarrowRow) : Type 0 where
   pub width : width_of next ≡ width_of row
   pub numbers : (j : ℕ) → j < width_of row + 1 →
       number_of next j ≡ number_of row j -ℚ number_of row q *ℚ number_of step j
+
+-- the number of column j, lowered by a multiple of the step's numerator over the row's denominator
+abbrev pub lowered_by : NarrowRow → NarrowRow → ℤ → ℕ → Rational
+lowered_by step row by j =
+    reduce (lowered_once (numerator_of row j) by (numerator_of step j)) row.den
+
+-- the row's bound and its marks allow for numerators that are lowered so
+pub record CanLower (step row : NarrowRow) (by : ℤ) : Type 0 where
+  pub width : width_of step ≡ width_of row
+  pub within : (j : ℕ) → unsigned_abs (numerator_of row j)
+      + unsigned_abs by * unsigned_abs (numerator_of step j) ≤ row.bound
+  pub covers : Covers row.blocks.items step.numbers.items
+
+-- each number is lowered by a multiple of the step's, but for a multiple of the numerators
+pub record IsReady (q : ℕ) (step row next : NarrowRow) (by : ℤ) : Type 0 where
+  pub width : width_of next ≡ width_of row
+  pub left : CanLower step next by
+  pub numbers : (j : ℕ) → j < width_of row + 1 →
+      lowered_by step next by j ≡ number_of row j -ℚ number_of row q *ℚ number_of step j
 
 -- each number is divided by that of column q
 pub record IsDivided (q : ℕ) (row next : NarrowRow) : Type 0 where

@@ -1,7 +1,6 @@
 //! Whole numbers of 64 bits.
-ghost use Rattle.std.specs.Prelude.{◌≡◌, ◌+◌, ◌*◌, ◌/◌, ◌<◌, ◌≤◌, ◌^◌, MatchOption, int_div, pos, unsigned_abs};
+ghost use Rattle.std.specs.Prelude.{◌≡◌, ◌+◌, ◌*◌, ◌/◌, ◌<◌, ◌≤◌, ◌^◌, ◌*ℤ◌, MatchOption, int_div, pos, unsigned_abs};
 ghost use Rattle.ratio_core.specs.Gcd.{gcd};
-ghost use Rattle.whole_rows.specs.Over.{lowered_num};
 
 // Numerators, denominators and bounds are below it.
 const END: u128 = 9223372036854775808;
@@ -52,14 +51,14 @@ pub(crate) fn part(size: u64, by: u64) -> u64
     size / by
 }
 
-// A numerator lowered, where both parts stay below 2^63 together.
+// A numerator multiplied, where it stays below 2^63.
 #[inline]
-pub(crate) fn lowered(number: i64, over: u64, by: i64, unit: i64) -> i64
+pub(crate) fn multiplied(number: i64, over: u64) -> i64
     requires over { over < 2 ^ 63 }
-    requires fits { unsigned_abs number * over + unsigned_abs by * unsigned_abs unit < 2 ^ 63 }
-    ensures { result ≡ lowered_num number over by unit }
+    requires fits { unsigned_abs number * over < 2 ^ 63 }
+    ensures { result ≡ number *ℤ pos over }
 {
-    number * over as i64 - by * unit
+    number * over as i64
 }
 
 // The bound of numerators that are lowered, where it stays below 2^63.

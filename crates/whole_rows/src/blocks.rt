@@ -91,8 +91,25 @@ fn join_blocks(blocks: &mut [bool], others: &[bool])
     }
 }
 
-// Multiplies the numbers, of which those that aren't 0 stand in marked blocks.
-pub(crate) fn scale_marked(numbers: &mut [i64], blocks: &[bool], over: i64)
+// Multiplies the numbers, of which those that aren't 0 stand in marked blocks. Mostly it is by 1.
+#[inline]
+pub(crate) fn scale_numbers(numbers: &mut [i64], blocks: &[bool], over: u64)
+    requires covers { Covers blocks.now numbers.old }
+    requires blocks { length blocks.now ≡ blocks_of (length numbers.old) }
+    requires over { over < 2 ^ 63 }
+    requires fits { (j : ℕ) → j < length numbers.old
+        → unsigned_abs (slice_index_or numbers.old j (pos 0)) * over < 2 ^ 63 }
+    ensures { AreScaled (pos over) (length numbers.old) numbers.old numbers.new }
+{
+    if over == 1 {
+        return;
+    }
+    scale_marked(numbers, blocks, over as i64);
+}
+
+// The same block by block.
+#[inline(never)]
+fn scale_marked(numbers: &mut [i64], blocks: &[bool], over: i64)
     requires covers { Covers blocks.now numbers.old }
     requires blocks { length blocks.now ≡ blocks_of (length numbers.old) }
     requires fits { (j : ℕ) → j < length numbers.old

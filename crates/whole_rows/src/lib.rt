@@ -7,7 +7,6 @@ mod clearing;
 mod common;
 mod dividing;
 mod listed;
-mod lowering;
 mod narrow_row;
 mod plan;
 mod quotients;

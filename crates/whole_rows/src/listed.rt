@@ -51,8 +51,9 @@ pub(crate) fn lower_listed(numbers: &mut [i64], by: i64, step: &[i64], columns: 
     }
 }
 
+// A numerator lowered, where both parts stay below 2^63 together.
 #[inline]
-fn less(number: i64, by: i64, unit: i64) -> i64
+pub(crate) fn less(number: i64, by: i64, unit: i64) -> i64
     requires { unsigned_abs number + unsigned_abs by * unsigned_abs unit < 2 ^ 63 }
     ensures { result ≡ lowered_once number by unit }
 {

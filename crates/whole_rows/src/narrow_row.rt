@@ -3,11 +3,11 @@ ghost use Rattle.std.specs.Prelude.{◌≡◌, ◌+◌, ◌/◌, ◌<◌, ◌≤
 ghost use Rattle.whole_rows.specs.Blocks.{Covers, blocks_of};
 ghost use Rattle.whole_rows.specs.Numerators.{AreWithin};
 
-use crate::arithmetic::{common_divisor, exact, lowered, next_bound, next_den, part};
-use crate::blocks::{BLOCK, block_count, mark_blocks, next_marked, remark_blocks};
+use crate::arithmetic::{common_divisor, exact, multiplied, next_bound, next_den, part};
+use crate::blocks::{BLOCK, block_count, mark_blocks, next_marked, remark_blocks, scale_numbers};
 use crate::clearing::{clear_numbers, copy_marked};
 use crate::dividing::{divide_numbers, measured, quotient, with_sign};
-use crate::lowering::lower_numbers;
+use crate::listed::{less, lower_listed};
 use crate::plan::{Division, LongPlan, LoweringPlan};
 use crate::quotients::inverse_of;
 use crate::shrinking::{shrink_numbers, shrunk, shrunk_measure};
@@ -42,7 +42,7 @@ impl NarrowRow {
     ghost use Rattle.ratio_core.specs.Rational.{zero_ℚ};
     ghost use Rattle.whole_rows.specs.Listed.{Lists};
     ghost use Rattle.whole_rows.specs.Shrinking.{IsLongPlan};
-    ghost use Rattle.whole_rows.specs.Rows.{IsDivided, IsDivision, IsLowered, IsPlan, can_stay, number_of, numerator_of, stays_narrow, width_of};
+    ghost use Rattle.whole_rows.specs.Rows.{CanLower, IsDivided, IsDivision, IsLowered, IsPlan, IsReady, can_stay, lowered_by, number_of, numerator_of, stays_narrow, width_of};
 
     /// Zeros in this number of columns.
     pub fn zeros(alloc: Global, width: usize) -> Result<NarrowRow, AllocError>
@@ -136,11 +136,43 @@ impl NarrowRow {
         if self.numbers[q] == 0 {
             return true;
         }
-        let columns = &step.columns[..step.used];
-        if self.lower_short(&step.row, columns, q) {
+        if self.lower_short(step, q) {
             return true;
         }
-        self.lower_long(&step.row, columns, q)
+        self.lower_long(&step.row, &step.columns[..step.used], q)
+    }
+
+    /// Brings the row over the denominator of the one that it is lowered to by its number of column
+    /// q times the step, and tells by what multiple of the step's numerators it is to be lowered
+    /// then. Nothing changes where the bound and the denominator don't stay below 2^63, or the two
+    /// have other columns.
+    #[inline(always)]
+    pub fn ready(&mut self, step: &NarrowStep, q: usize) -> Option<i64>
+        ensures ready { IfSome result (IsReady q step.now.row self.old self.new) }
+        ensures kept { is_some result ≡ false → self.new ≡ self.old }
+        ensures tight { is_some result ≡ false → can_stay q step.now.row self.old ≡ false }
+    {
+        let width = self.numbers.len();
+        if q >= width || step.row.numbers.len() != width {
+            return None;
+        }
+        self.bring_over(&step.row, &step.columns[..step.used], q)
+    }
+
+    /// Lowers the row by a multiple of the step's numerators.
+    #[inline(always)]
+    pub fn lower_by(&mut self, by: i64, step: &NarrowStep)
+        requires { CanLower step.now.row self.old by }
+        ensures width { width_of self.new ≡ width_of self.old }
+        ensures numbers { (j : ℕ) → number_of self.new j ≡ lowered_by step.now.row self.old by j }
+    {
+        lower_listed(
+            &mut self.numbers,
+            by,
+            &step.row.numbers,
+            &step.columns[..step.used],
+        );
+        self.side = less(self.side, by, step.row.side);
     }
 
     /// Whether the row may not stay narrow when it is lowered by its number of column q times the
@@ -168,30 +200,40 @@ impl NarrowRow {
     // Lowers the row by its number of column q times the step, where the bound and the denominator
     // stay below 2^63. Else nothing changes.
     #[inline(always)]
-    fn lower_short(&mut self, step: &NarrowRow, columns: &[u32], q: usize) -> bool
+    fn lower_short(&mut self, step: &NarrowStep, q: usize) -> bool
+        requires column { q < width_of self.old }
+        requires width { width_of step.now.row ≡ width_of self.old }
+        ensures narrow { result ≡ stays_narrow q step.now.row self.old }
+        ensures lowered { IsTrue result → IsLowered q step.now.row self.old self.new }
+        ensures kept { result ≡ false → self.new ≡ self.old }
+    {
+        let Some(by) = self.bring_over(&step.row, &step.columns[..step.used], q) else {
+            return false;
+        };
+        self.lower_by(by, step);
+        true
+    }
+
+    // Brings the row over the denominator of the one that it is lowered to, and marks where it may
+    // differ from 0 then. Tells by what multiple of the step's numerators it is to be lowered.
+    #[inline(always)]
+    fn bring_over(&mut self, step: &NarrowRow, columns: &[u32], q: usize) -> Option<i64>
         requires column { q < width_of self.old }
         requires width { width_of step.now ≡ width_of self.old }
         requires lists { Lists columns.now step.now.numbers.items }
-        ensures narrow { result ≡ stays_narrow q step.now self.old }
-        ensures lowered { IsTrue result → IsLowered q step.now self.old self.new }
-        ensures kept { result ≡ false → self.new ≡ self.old }
+        ensures narrow { is_some result ≡ stays_narrow q step.now self.old }
+        ensures ready { IfSome result (IsReady q step.now self.old self.new) }
+        ensures kept { is_some result ≡ false → self.new ≡ self.old }
     {
         let Some(plan) = self.plan(step, q) else {
-            return false;
+            return None;
         };
-        lower_numbers(
-            &mut self.numbers,
-            &self.blocks,
-            plan.over,
-            plan.by,
-            &step.numbers,
-            columns,
-        );
+        scale_numbers(&mut self.numbers, &self.blocks, plan.over);
         mark_blocks(&mut self.blocks, step, columns);
-        self.side = lowered(self.side, plan.over, plan.by, step.side);
+        self.side = multiplied(self.side, plan.over);
         self.den = plan.den;
         self.bound = plan.bound;
-        true
+        Some(plan.by)
     }
 
     // The same in 128 bits, where the row stays narrow once it is divided by what divides it.
@@ -249,6 +291,7 @@ impl NarrowRow {
     }
 
     // What the row is to be multiplied and lowered by, where it stays narrow.
+    #[inline(always)]
     fn plan(&self, step: &NarrowRow, q: usize) -> Option<LoweringPlan>
         requires column { q < width_of self.now }
         ensures room { is_some result ≡ stays_narrow q step.now self.now }

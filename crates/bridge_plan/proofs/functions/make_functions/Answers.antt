@@ -2,14 +2,13 @@ use Rattle.std.proofs.Common.{subst, ◌∙◌}
 use Rattle.std.specs.Prelude.{All, IsTrue}
 use Rattle.std.specs.FinMap as finite
 use Rattle.std.proofs.lemmas.List.{take_all}
-use Rattle.bridge_plan.specs.Stands.{entries_of}
 use Rattle.bridge_plan.proofs.Covers.{one_covered, one_there}
 use Rattle.bridge_plan.proofs.functions.make_functions.Goals.{then-is_none+in_ok-function+in-Ok, else-is_none}
 use Rattle.bridge_plan.proofs.functions.make_functions.Goals as goal
 
 pub loop-var-preserved : goal.loop-var-preserved
 loop-var-preserved c =
-    let es = entries_of c.args.expressions.now in
+    let es = c.args.expressions.now in
     let ts = c.terms-var-items.result.now in
     let l = c.loop-var in
     let t = c.loop-var-item.result in

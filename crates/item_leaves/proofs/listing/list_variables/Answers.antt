@@ -1,29 +1,13 @@
-use Rattle.std.specs.Prelude.{◌≡◌, ◌++◌, OnOk, map, ℕ}
-use Rattle.std.proofs.Common.{ap, subst, sym, ◌∙◌}
-use Rattle.std.proofs.lemmas.List.{drop-map}
+use Rattle.std.specs.Prelude.{◌≡◌, ◌++◌, OnOk}
+use Rattle.std.proofs.Common.{ap, subst, ◌∙◌}
 use Rattle.std.specs.FinMap as finite
-use Rattle.address_map.specs.Places.{addresses}
-use Rattle.aff_core.specs.Address.{Address}
-use Rattle.item_leaves.specs.ItemLeaves.{AreFrom, those_of}
-use Rattle.item_leaves.proofs.RangeLaws.{are_from, begins}
+use Rattle.item_map.specs.ItemAddresses.{is_of}
+use Rattle.item_leaves.proofs.ListLaws.{keys, keys_those}
 use Rattle.item_leaves.proofs.listing.list_variables.Goals as goal
-
-pub list_first-requires : goal.list_first-requires
-list_first-requires c =
-    let m = c.args.map.now.vars.indices in
-    let place = c.var_place.result in
-    subst (AreFrom c.args.item.now)
-    (drop-map (λ (e : Address × ℕ). e.0) place (finite.entries m)
-    ∙ sym (ap (map (λ (e : Address × ℕ). e.0)) c.vars_from.ensures))
-    (are_from m c.args.item.now place c.var_place.ensures.from)
 
 pub returns : goal.returns
 returns c =
-    let item = c.args.item.now in
-    let m = c.args.map.now.vars.indices in
-    subst (λ l. OnOk c.list_first.result (c.list_first.new.list ≡ c.args.list.now ++ l))
-    (ap (those_of item) (ap (map (λ (e : Address × ℕ). e.0)) c.vars_from.ensures
-    ∙ sym (drop-map (λ (e : Address × ℕ). e.0) c.var_place.result (finite.entries m))
-    ∙ c.var_place.ensures.from)
-    ∙ begins item (addresses m))
-    c.list_first.ensures
+    subst (λ l. OnOk c.list_all.result (c.list_all.new.list ≡ c.args.list.now ++ l))
+    (ap keys c.vars_of.ensures
+    ∙ keys_those (is_of c.args.item.now) (finite.entries c.args.map.now.vars.indices))
+    c.list_all.ensures

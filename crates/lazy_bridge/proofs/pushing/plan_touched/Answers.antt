@@ -64,15 +64,15 @@ plan_found-requires g c = (
       c.plan_found_groups.ensures.means refl c.requires.1,
   (groups_planned c.requires.0 c.args.bridges.now c.args.map.now c.args.reading.now.model
       c.args.differing.now
-      c.requires.1 c.new-plan.result c.plan_found_groups.new.plan c.in-Ok.entries.items
-      c.in_ok-standing.standing c.new-plan.ensures.leaves c.new-plan.ensures.nodes
+      c.requires.1 c.in_ok-plan.plan c.plan_found_groups.new.plan c.in-Ok.entries.items
+      c.in_ok-standing.standing c.in_ok-plan.ensures.leaves c.in_ok-plan.ensures.nodes
       (none_seen (means_of c.args.bridges.now).choice
       c.deref.result.now c.args.differing.now.after.groups.items c.deref.ensures.value
       c.in_ok-check_found_groups.ensures)
       (fit_seen (means_of c.args.bridges.now).choice c.deref-2.result.now c.args.differing.now.after.groups.items
       c.deref-2.ensures.value c.in-Ok.ensures.answer.0)
       (adds_seen (means_of c.args.bridges.now).choice c.deref-2.result.now c.args.differing.now.after.groups.items
-      c.deref-2.ensures.value c.new-plan.result c.plan_found_groups.new.plan c.in-Ok.entries.items
+      c.deref-2.ensures.value c.in_ok-plan.plan c.plan_found_groups.new.plan c.in-Ok.entries.items
       c.in-Ok.ensures.answer.1) c.in_ok-standing.ensures),
 )
 
@@ -86,15 +86,15 @@ returns-in_err-found-clause-made g c = λ e of.
     c.plan_found_groups.ensures.means refl of)
     (groups_planned e c.args.bridges.now c.args.map.now c.args.reading.now.model
     c.args.differing.now
-    of c.new-plan.result c.plan_found_groups.new.plan c.in-Ok.entries.items
-    c.in_ok-standing.standing c.new-plan.ensures.leaves c.new-plan.ensures.nodes
+    of c.in_ok-plan.plan c.plan_found_groups.new.plan c.in-Ok.entries.items
+    c.in_ok-standing.standing c.in_ok-plan.ensures.leaves c.in_ok-plan.ensures.nodes
     (none_seen (means_of c.args.bridges.now).choice
     c.deref.result.now c.args.differing.now.after.groups.items c.deref.ensures.value
     c.in_ok-check_found_groups.ensures)
     (fit_seen (means_of c.args.bridges.now).choice c.deref-2.result.now c.args.differing.now.after.groups.items
     c.deref-2.ensures.value c.in-Ok.ensures.answer.0)
     (adds_seen (means_of c.args.bridges.now).choice c.deref-2.result.now c.args.differing.now.after.groups.items
-    c.deref-2.ensures.value c.new-plan.result c.plan_found_groups.new.plan c.in-Ok.entries.items
+    c.deref-2.ensures.value c.in_ok-plan.plan c.plan_found_groups.new.plan c.in-Ok.entries.items
     c.in-Ok.ensures.answer.1) c.in_ok-standing.ensures))
 
 pub returns-clause-made : goal.returns-clause-made
@@ -105,13 +105,13 @@ returns-clause-made g c = λ e of.
     c.plan_found_groups.ensures.means refl of)
     (groups_planned e c.args.bridges.now c.args.map.now c.args.reading.now.model
     c.args.differing.now
-    of c.new-plan.result c.plan_found_groups.new.plan c.in-Ok.entries.items
-    c.in_ok-standing.standing c.new-plan.ensures.leaves c.new-plan.ensures.nodes
+    of c.in_ok-plan.plan c.plan_found_groups.new.plan c.in-Ok.entries.items
+    c.in_ok-standing.standing c.in_ok-plan.ensures.leaves c.in_ok-plan.ensures.nodes
     (none_seen (means_of c.args.bridges.now).choice
     c.deref.result.now c.args.differing.now.after.groups.items c.deref.ensures.value
     c.in_ok-check_found_groups.ensures)
     (fit_seen (means_of c.args.bridges.now).choice c.deref-2.result.now c.args.differing.now.after.groups.items
     c.deref-2.ensures.value c.in-Ok.ensures.answer.0)
     (adds_seen (means_of c.args.bridges.now).choice c.deref-2.result.now c.args.differing.now.after.groups.items
-    c.deref-2.ensures.value c.new-plan.result c.plan_found_groups.new.plan c.in-Ok.entries.items
+    c.deref-2.ensures.value c.in_ok-plan.plan c.plan_found_groups.new.plan c.in-Ok.entries.items
     c.in-Ok.ensures.answer.1) c.in_ok-standing.ensures)

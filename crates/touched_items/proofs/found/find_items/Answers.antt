@@ -7,11 +7,11 @@ use Rattle.touched_items.proofs.found.find_items.Goals as goal
 
 pub returns-clause-reads : goal.returns-clause-reads
 returns-clause-reads c =
-    let ats = c.in_ok-addresses.addresses.items in
+    let ats = c.in_order-addresses.result.items in
     let rows = subst (λ xs. c.read_rows.new.reading.reads
-    ≤ c.args.reading.now.reads + count_by is_row xs) c.deref-2.ensures.value
+    ≤ c.args.reading.now.reads + count_by is_row xs) c.deref.ensures.value
     c.read_rows.ensures.reads in
     let objective = subst (λ xs. c.read_objective-objective.new.reading.reads
-    ≤ c.read_rows.new.reading.reads + cond (list_any is_objective xs) 1 0) c.deref-3.ensures.value
+    ≤ c.read_rows.new.reading.reads + cond (list_any is_objective xs) 1 0) c.deref-2.ensures.value
     c.read_objective-objective.ensures.reads in
     omega (arith, rows, objective, reads_counted ats)

@@ -5,14 +5,13 @@ use Rattle.std.proofs.lemmas.List.Elements.{All-weaker}
 use Rattle.aff_core.specs.Arithmetic.{expression_at}
 use Rattle.aff_core.specs.Function.{terms_of}
 use Rattle.fresh_bridging.specs.Entries.{function_in}
-use Rattle.bridge_plan.specs.Stands.{entries_of}
 use Rattle.bridge_plan.proofs.Agreeing.{exact_alike}
-use Rattle.bridge_plan.proofs.Found.{made_for}
+use Rattle.bridge_plan.proofs.Made.{made_for}
 use Rattle.bridge_plan.proofs.standing.Standing.composed.Goals as goal
 
 pub returns-clause-answer : goal.returns-clause-answer
 returns-clause-answer c =
-    let es = entries_of c.self.inside.expressions in
+    let es = c.self.inside.expressions in
     let m = c.make_functions.new.functions in
     let f = c.args.func.now in
     exact_alike (expression_at m) (function_in c.args.self.now) f c.substitute.result

@@ -1,0 +1,9 @@
+mod AroundLaws
+mod GapLaws
+mod ItemLaws
+mod RiseLaws
+mod OwnLaws
+mod ChangeLaws
+mod RootLaws
+mod LeftLaws
+mod EndLaws

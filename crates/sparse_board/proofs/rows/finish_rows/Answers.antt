@@ -1,0 +1,78 @@
+use Rattle.std.proofs.Common.{◌+◌, ◌<◌, ◌≤◌, arith, length, subst, sym}
+use Rattle.sparse_board.specs.Lowering.{IsFinished}
+use Rattle.sparse_board.proofs.RowsSteps.{AreChangedTo, changed-all, changed-more, changed-none, changed-past, changed-pivot, left_read}
+use Rattle.sparse_board.proofs.rows.finish_rows.Goals as goal
+use Rattle.sparse_board.proofs.rows.finish_rows.Goals.{then-i-r, else-i-r}
+
+pub loop-i-init : goal.loop-i-init
+loop-i-init c =
+    let step = c.args.step.now in
+    let before = c.args.rows.now in
+    let to = c.next_row-i.result in
+    record {
+      changed = changed-past (IsFinished step) c.args.r c.args.q c.args.marks.now before before 0 to
+          (changed-none (IsFinished step) c.args.r c.args.q c.args.marks.now before) (omega arith)
+          (subst (λ n. to ≤ n) c.requires.count c.next_row-i.ensures.within)
+          c.next_row-i.ensures.passed;
+      here = λ b. c.next_row-i.ensures.marked (subst (λ n. to < n) (sym c.requires.count) b);
+    }
+
+pub finish-requires : goal.finish-requires
+finish-requires c =
+    let step = c.args.step.now in
+    let below : c.loop-i.i < length c.args.rows.now =
+    subst (λ n. c.loop-i.i < n) c.loop-i.invariant.changed.long c.loop-i-test.true in
+    left_read (IsFinished step) c.args.r c.args.q step c.args.marks.now c.args.rows.now c.loop-i.rows c.loop-i.i
+    c.index-rows-i.result c.loop-i.invariant.changed below c.if-i-r.true
+    (c.loop-i.invariant.here below) c.requires.left
+
+pub next_row-i-requires-in-loop-i-clause-from : goal.next_row-i-requires-in-loop-i-clause-from
+next_row-i-requires-in-loop-i-clause-from c =
+    omega (arith, c.requires.count, c.loop-i.invariant.changed.long, c.loop-i-test.true)
+
+pub loop-i-smaller : goal.loop-i-smaller
+loop-i-smaller c =
+    omega (
+      arith,
+      c.loop-i.invariant.changed.long,
+      c.loop-i-test.true,
+      c.next_row-i-in-loop-i.ensures.from,
+    )
+
+pub loop-i-preserved : goal.loop-i-preserved
+loop-i-preserved c =
+    let step = c.args.step.now in
+    let marks = c.args.marks.now in
+    let before = c.args.rows.now in
+    let i = c.loop-i.i in
+    let to = c.next_row-i-in-loop-i.result in
+    let below : i < length before =
+    subst (λ n. i < n) c.loop-i.invariant.changed.long c.loop-i-test.true in
+    let here : AreChangedTo (IsFinished step) c.args.r c.args.q marks before c.if-i-r.rows (i + 1) =
+    elim c.if-i-r.branch [
+      | then-i-r k ↦
+          subst (λ rows. AreChangedTo (IsFinished step) c.args.r c.args.q marks before rows (i + 1))
+          (sym k.rows-is)
+          (changed-more (IsFinished step) c.args.r c.args.q marks before c.loop-i.rows i
+          k.index-rows-i.result k.finish.new.self c.loop-i.invariant.changed below k.if-i-r.true
+          (c.loop-i.invariant.here below) k.finish.ensures)
+      | else-i-r k ↦
+          subst (λ rows. AreChangedTo (IsFinished step) c.args.r c.args.q marks before rows (i + 1))
+          (sym k.rows-is)
+          (changed-pivot (IsFinished step) c.args.r c.args.q marks before c.loop-i.rows i
+          c.loop-i.invariant.changed below k.if-i-r.false)
+    ] in
+    record {
+      changed = changed-past (IsFinished step) c.args.r c.args.q marks before c.if-i-r.rows (i + 1) to here
+          c.next_row-i-in-loop-i.ensures.from
+          (subst (λ n. to ≤ n) c.requires.count c.next_row-i-in-loop-i.ensures.within)
+          c.next_row-i-in-loop-i.ensures.passed;
+      here = λ b. c.next_row-i-in-loop-i.ensures.marked
+          (subst (λ n. to < n) (sym c.requires.count) b);
+    }
+
+pub returns : goal.returns
+returns c =
+    changed-all (IsFinished c.args.step.now) c.args.r c.args.q c.args.marks.now c.args.rows.now c.loop-i.rows
+    c.loop-i.i c.loop-i.invariant.changed
+    (omega (arith, c.loop-i.invariant.changed.long, c.loop-i-test.false))

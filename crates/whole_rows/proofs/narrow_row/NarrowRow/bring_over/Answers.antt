@@ -1,0 +1,75 @@
+use Rattle.std.proofs.Common.{◌∙◌, FitsSigned, ap, length, pos, refl, rules, subst, sym, w64}
+use Rattle.std.proofs.lemmas.Int.{to_z-of_z}
+use Rattle.std.proofs.lemmas.List.{with_items_is}
+use Rattle.whole_rows.specs.Blocks.{Covers}
+use Rattle.whole_rows.proofs.CoverSteps.{long_kept, scaled_covers}
+use Rattle.whole_rows.proofs.PlanSteps.{planned_above, planned_ready, planned_side, planned_small, scaled_within}
+use Rattle.whole_rows.proofs.narrow_row.NarrowRow.bring_over.Goals as goal
+
+pub scale_numbers-requires-clause-fits : goal.scale_numbers-requires-clause-fits
+scale_numbers-requires-clause-fits c =
+    planned_small c.args.q c.args.step.now c.args.self.now c.in-Some.plan c.in-Some.ensures.plan
+    c.requires.width _ c.deref_mut.ensures.value
+
+pub multiplied-self-requires-clause-fits : goal.multiplied-self-requires-clause-fits
+multiplied-self-requires-clause-fits c =
+    let side_fits : FitsSigned w64 c.args.self.now.side = search rules in
+    planned_side c.args.q c.args.step.now c.args.self.now c.in-Some.plan c.in-Some.ensures.plan
+    c.requires.width _ (to_z-of_z w64 c.args.self.now.side side_fits)
+
+pub invariant_of-self-clause-above : goal.invariant_of-self-clause-above
+invariant_of-self-clause-above c =
+    planned_above c.args.q c.args.step.now c.args.self.now c.in-Some.plan c.in-Some.ensures.plan
+    c.requires.width
+
+pub invariant_of-self-clause-within : goal.invariant_of-self-clause-within
+invariant_of-self-clause-within c =
+    let row = c.args.self.now in
+    let side_fits : FitsSigned w64 row.side = search rules in
+    let result_fits : FitsSigned w64 c.multiplied-self.result = search rules in
+    scaled_within c.args.q c.args.step.now row c.in-Some.plan c.in-Some.ensures.plan
+    c.requires.width c.deref_mut.result.now c.scale_numbers.new.numbers _ _ _
+    c.deref_mut.ensures.value (to_z-of_z w64 row.side side_fits) c.scale_numbers.ensures
+    (with_items_is row.numbers c.scale_numbers.new.numbers
+    (c.scale_numbers.auto.numbers ∙ c.deref_mut.ensures.len))
+    (to_z-of_z w64 c.multiplied-self.result result_fits ∙ c.multiplied-self.ensures)
+
+pub invariant_of-self-clause-covers : goal.invariant_of-self-clause-covers
+invariant_of-self-clause-covers c =
+    let row = c.args.self.now in
+    scaled_covers row (pos c.in-Some.plan.over) c.deref_mut.result.now c.scale_numbers.new.numbers
+    _ c.deref_mut-2.result.now c.mark_blocks.new.blocks _ c.deref_mut.ensures.value
+    (with_items_is row.numbers c.scale_numbers.new.numbers
+    (c.scale_numbers.auto.numbers ∙ c.deref_mut.ensures.len))
+    c.deref_mut-2.ensures.value
+    (with_items_is row.blocks c.mark_blocks.new.blocks
+    (c.mark_blocks.auto.blocks ∙ c.deref_mut-2.ensures.len))
+    c.mark_blocks.ensures.kept c.scale_numbers.ensures
+
+pub invariant_of-self-clause-blocks_long : goal.invariant_of-self-clause-blocks_long
+invariant_of-self-clause-blocks_long c =
+    let row = c.args.self.now in
+    long_kept row _ _ (ap length (with_items_is row.blocks c.mark_blocks.new.blocks
+    (c.mark_blocks.auto.blocks ∙ c.deref_mut-2.ensures.len))
+    ∙ c.mark_blocks.auto.blocks ∙ ap length c.deref_mut-2.ensures.value)
+    (ap length (with_items_is row.numbers c.scale_numbers.new.numbers
+    (c.scale_numbers.auto.numbers ∙ c.deref_mut.ensures.len))
+    ∙ c.scale_numbers.auto.numbers ∙ ap length c.deref_mut.ensures.value)
+
+pub returns-clause-ready : goal.returns-clause-ready
+returns-clause-ready c =
+    let row = c.args.self.now in
+    let by_fits : FitsSigned w64 c.in-Some.plan.by = search rules in
+    let side_fits : FitsSigned w64 row.side = search rules in
+    let result_fits : FitsSigned w64 c.multiplied-self.result = search rules in
+    planned_ready c.args.q c.args.step.now row c.in-Some.plan c.in-Some.ensures.plan
+    c.requires.width c.deref_mut.result.now c.scale_numbers.new.numbers _ _ _
+    c.deref_mut.ensures.value (to_z-of_z w64 row.side side_fits) c.scale_numbers.ensures
+    (with_items_is row.numbers c.scale_numbers.new.numbers
+    (c.scale_numbers.auto.numbers ∙ c.deref_mut.ensures.len))
+    (to_z-of_z w64 c.multiplied-self.result result_fits ∙ c.multiplied-self.ensures) _ _ refl refl
+    refl refl
+    (subst (λ l. Covers l c.args.step.now.numbers.items)
+    (sym (with_items_is row.blocks c.mark_blocks.new.blocks
+    (c.mark_blocks.auto.blocks ∙ c.deref_mut-2.ensures.len)))
+    c.mark_blocks.ensures.covers) (to_z-of_z w64 c.in-Some.plan.by by_fits)
