@@ -7,9 +7,9 @@ use Rattle.map_laws.specs.EachLaws.{all_first, all_second, map_same_on}
 use Rattle.ratio_core.specs.Rational.{Rational, neg_ℚ, ◌+ℚ◌, ◌-ℚ◌, ◌≤ℚ◌}
 use Rattle.rational_laws.specs.Dot.{dot, negated}
 use Rattle.rational_laws.specs.DotLaws.{dot-append, length-negated, negated-dot}
-use Rattle.rational_laws.specs.Field.{+ℚ_inner_comm, neg_ℚ-sum}
-use Rattle.rational_laws.specs.Order.{neg_ℚ-≤ℚ, not_‹ℚ_from_≤ℚ, ≤ℚ-+ℚ, ≤ℚ-+ℚ_left, ≤ℚ_refl}
-use Rattle.rational_laws.specs.Ring.{as_expression, by_ring, ring₂, ring₃}
+use Rattle.rational_laws.specs.Field.{+ℚ_inner_comm}
+use Rattle.rational_laws.specs.Order.{≤ℚ-+ℚ, ≤ℚ_refl}
+use Rattle.rational_laws.specs.Ring.{as_expression, by_ring, ring₂}
 use Rattle.rational_laws.specs.Sums.{sum_by_ℚ-append}
 use Rattle.aff_core.specs.Address.{Address}
 use Rattle.aff_core.specs.Function.{Function, IsNegated, coefficient, negated as negated_function, slope, value_of}
@@ -19,7 +19,7 @@ use Rattle.aff_core.specs.KeyOrder.{address_order}
 use Rattle.aff_core.specs.declared.sense.Sense.{Sense}
 use Rattle.aff_core.specs.declared.sense.Sense.TheVariants.{Min, Max}
 use Rattle.linear_laws.specs.ListLaws.{slope_negated}
-use Rattle.dual_laws.specs.Held.{adjoint, gap, pull, pull_of}
+use Rattle.dual_laws.specs.Held.{gap, pull, pull_of}
 use Rattle.dual_laws.specs.PullLaws.{gap-append}
 use Rattle.user_model.specs.declared.group.Group.{Group}
 use Rattle.user_model.specs.declared.row.Row.{Row}
@@ -28,7 +28,7 @@ use Rattle.user_model.specs.Valid.{IsValid, IsValidGroup, IsValidRow}
 use Rattle.set_core.specs.Shapes.{IsSetOf}
 use Rattle.certificates.specs.Points.{address_of, addresses_of, all_addresses, at_point, functions_of, objective_coefficient, objective_constant, objective_function, objective_value, sense_of}
 use Rattle.certificates.specs.Feasible.{IsBetter, IsFeasible}
-use Rattle.certificates.specs.Duals.{HasDuals, adjoint_of_rows, dual_gap, dual_value, groups_with, reduced_cost, rows_with, with_duals}
+use Rattle.certificates.specs.Duals.{HasDuals, adjoint_of_rows, dual_gap, groups_with, reduced_cost, rows_with, with_duals}
 use Rattle.certificates.specs.Good.{HasReducedCost, dual_objective}
 use Rattle.certificates.specs.DualPointLaws.{component_count, pull_at, weighs}
 use Rattle.certificates.specs.PointLaws.{split_addresses}
@@ -45,50 +45,12 @@ use Rattle.dual_model.specs.RowPartLaws.{AddsUp, ArePartsOf, Count, HasSetOf, ad
 use Rattle.dual_model.specs.GroupRowLaws.{AreLeft, AreOwnOf, CountOwn, HasGroupSetOf, IsLeftAt, count-groups, duals_of_groups, groups_count, groups_of_own, left_at, left_from_rows, length-own, own_of_groups, own_total, rows_from_left}
 use Rattle.dual_model.specs.PlaceLaws.{each_same, each_shift, length-bound_numbers, point_at}
 use Rattle.dual_model.specs.LaidLaws.{equal_adds, laid_count, laid_count_own, laid_duals, laid_left, laid_own, laid_parts, length-own_numbers, length-row_numbers, own_numbers, row_numbers}
+use Rattle.dual_model.specs.SenseLaws.{no_better, reduced_is, same_value, signed_dot}
 
 -- ---- at most adds up
 
 pub at_most_adds : AddsUp (λ p q. p ≤ℚ q)
 at_most_adds = record { itself = ≤ℚ_refl; sums = ≤ℚ-+ℚ }
-
--- ---- by the sense
-
-reduced_is : (sense : Sense) (cost adjoint : Rational)
-    → signed sense cost -ℚ adjoint ≡ reduced_cost sense cost adjoint
-reduced_is Min cost adjoint = refl
-reduced_is Max cost adjoint = sym (neg_ℚ-sum cost adjoint)
-
-signed_dot : (sense : Sense) (qs xs : List Rational)
-    → dot (map (signed sense) qs) xs ≡ signed sense (dot qs xs)
-signed_dot Min qs xs = ap (λ ps. dot ps xs) (same qs)
-  where
-    same : (qs : List Rational) → map (λ q. q) qs ≡ qs
-    same [] = refl
-    same (q ∷ qs) = ap (λ ps. q ∷ ps) (same qs)
-signed_dot Max qs xs = negated-dot qs xs
-
-regrouped : (k s t : Rational) → (k +ℚ s) +ℚ t ≡ k +ℚ (t +ℚ s)
-regrouped = ring₃ _ (λ ρ. simp as_expression (by_ring ρ _ _ refl))
-
-turned : (k s t : Rational) → (k +ℚ s) +ℚ neg_ℚ t ≡ k -ℚ (t +ℚ neg_ℚ s)
-turned = ring₃ _ (λ ρ. simp as_expression (by_ring ρ _ _ refl))
-
--- the dual's value is no better where the count is at most the gap
-no_better : (sense : Sense) (k s t g : Rational) → (t +ℚ signed sense s) ≤ℚ g
-    → ¬ (IsBetter (opposite sense) ((k +ℚ s) +ℚ signed sense t) (dual_value sense k g))
-no_better Min k s t g h =
-    not_‹ℚ_from_≤ℚ ((k +ℚ s) +ℚ t) (k +ℚ g)
-    (subst (λ q. q ≤ℚ (k +ℚ g)) (sym (regrouped k s t)) (≤ℚ-+ℚ_left (t +ℚ s) g k h))
-no_better Max k s t g h =
-    not_‹ℚ_from_≤ℚ (k -ℚ g) ((k +ℚ s) +ℚ neg_ℚ t)
-    (subst (λ q. (k -ℚ g) ≤ℚ q) (sym (turned k s t))
-    (≤ℚ-+ℚ_left (neg_ℚ g) (neg_ℚ (t +ℚ neg_ℚ s)) k (neg_ℚ-≤ℚ (t +ℚ neg_ℚ s) g h)))
-
--- and the same where it is the gap
-same_value : (sense : Sense) (k s t g : Rational) → t +ℚ signed sense s ≡ g
-    → (k +ℚ s) +ℚ signed sense t ≡ dual_value sense k g
-same_value Min k s t g h = regrouped k s t ∙ ap (λ q. k +ℚ q) h
-same_value Max k s t g h = turned k s t ∙ ap (λ q. k -ℚ q) h
 
 -- ---- a valid model's sets
 

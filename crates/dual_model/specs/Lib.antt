@@ -4,5 +4,6 @@ pub mod RowPartLaws
 pub mod GroupRowLaws
 pub mod PlaceLaws
 pub mod LaidLaws
+pub mod SenseLaws
 pub mod Duality
 pub mod Solved
