@@ -40,7 +40,7 @@ use Rattle.address_laws.specs.Keys.{Mine, keys_in, keys_of_each, own}
 use Rattle.address_laws.specs.LeafKeys.{alone_are, its_key, keys_of-flat_map, keys_of_nodes, leaf_keys_in, leaf_keys_of_each, leaf_variables_are, no_keys, node_keys_in, node_keys_of_each, nodes_are, objective_keys, objectives_alone, row_keys, rows_alone, variable_keys, variables_are}
 use Rattle.address_laws.specs.MadeLaws.{made_exactly}
 use Rattle.address_laws.specs.PutLaws.{group_stays}
-use Rattle.address_laws.specs.Regions.{AreApart, AtOrBelow, apart_less}
+use Rattle.address_laws.specs.Regions.{AreRegionsApart, AtOrBelow, apart_less}
 
 -- ---- the variables of the model
 
@@ -108,7 +108,7 @@ rest_apart g v m (h ∷ hs) less other =
     (Contains-append_right (numbered h.vars) (all_numbered hs) v d)))))
 
 pub groups_of_model_apart : (groups : List UserGroup) → Rise group_number groups
-    → Distinct (all_numbered groups) → AreApart Mine (map group_item groups)
+    → Distinct (all_numbered groups) → AreRegionsApart Mine (map group_item groups)
 groups_of_model_apart [] rise d = tt
 groups_of_model_apart (g ∷ gs) rise d =
     let parts : Distinct (numbered g.vars ++ all_numbered gs) = subst Distinct (split_vars g gs) d
@@ -149,13 +149,13 @@ objective_below o v is = by o
         All-cons (λ y. ¬ (AtOrBelow y v)) (objective_item (AffineObj sense func)) []
         (other (AffineObj sense func)) (All-nil (λ y. ¬ (AtOrBelow y v)))
 
-objective_apart : (o : Objective) → AreApart AtOrBelow (objective_items o)
+objective_apart : (o : Objective) → AreRegionsApart AtOrBelow (objective_items o)
 objective_apart objective.Feasibility = tt
 objective_apart (objective.Plain sense var) = (λ v b. All-nil (λ y. ¬ (AtOrBelow y v)), tt)
 objective_apart (objective.Affine sense func) = (λ v b. All-nil (λ y. ¬ (AtOrBelow y v)), tt)
 
 pub others_of_model_apart : (rows : List Row) (o : Objective) → Rise row_number rows
-    → AreApart AtOrBelow (map row_item rows ++ objective_items o)
+    → AreRegionsApart AtOrBelow (map row_item rows ++ objective_items o)
 others_of_model_apart [] o rise = objective_apart o
 others_of_model_apart (r ∷ rows) o rise = (
   λ v b. All-append (λ y. ¬ (AtOrBelow y v)) (map row_item rows) (objective_items o)

@@ -27,7 +27,7 @@ use Rattle.address_laws.specs.Apart.{Avoids, Distinct, distinct-append}
 use Rattle.address_laws.specs.ImageLaws.{others_alone}
 use Rattle.address_laws.specs.Keys.{Mine, keys, keys_in, keys_of_each, own}
 use Rattle.address_laws.specs.PutLaws.{group_stays}
-use Rattle.address_laws.specs.Regions.{AreApart, AtOrBelow, at_child, apart_across, apart_children, apart_first, apart_less, apart_second}
+use Rattle.address_laws.specs.Regions.{AreRegionsApart, AtOrBelow, at_child, apart_across, apart_children, apart_first, apart_less, apart_second}
 
 -- ---- what the addresses of leaves and nodes are
 
@@ -157,7 +157,7 @@ module _ (setting : Setting) (costly : IsCostly (graph_of setting)) (choice : �
 
     -- ---- where the children stand
 
-    all_apart : AreApart AtOrBelow (child_groups_of ++ others_of)
+    all_apart : AreRegionsApart AtOrBelow (child_groups_of ++ others_of)
     all_apart = apart_children item.at (child_groups_of ++ others_of) 0 law_of.positions
 
     pub groups_below : All (λ g. (v : Address) → Mine g v → AtOrBelow g v) child_groups_of
@@ -168,7 +168,7 @@ module _ (setting : Setting) (costly : IsCostly (graph_of setting)) (choice : �
         (all_both HasComponents (λ g. is_group g.body ≡ true) child_groups_of law_of.components
         groups_only)
 
-    pub groups_apart : AreApart Mine child_groups_of
+    pub groups_apart : AreRegionsApart Mine child_groups_of
     groups_apart =
         apart_less AtOrBelow Mine child_groups_of groups_below
         (apart_first AtOrBelow child_groups_of others_of all_apart)
@@ -217,7 +217,7 @@ module _ (setting : Setting) (costly : IsCostly (graph_of setting)) (choice : �
           (λ c h v m. other_below (put_in inner c) (group_stays inner c.body ∙ h) v m)
           others_of no_groups
 
-      pub others_apart : AreApart MineIn others_of
+      pub others_apart : AreRegionsApart MineIn others_of
       others_apart =
           apart_less AtOrBelow MineIn others_of others_below
           (apart_second AtOrBelow child_groups_of others_of all_apart)
@@ -382,7 +382,8 @@ module _ (setting : Setting) (costly : IsCostly (graph_of setting)) (choice : �
 
       pub once_in_each : {items : List Item} {entries : List Entry}
           (trees : EachBridged (rules_by choice) items entries)
-          → All IsHere items → AreApart Mine items → Distinct (keys_of_each of_leaf of_node trees)
+          → All IsHere items → AreRegionsApart Mine items
+          → Distinct (keys_of_each of_leaf of_node trees)
       once_in_each none here h = tt
       once_in_each (each {item} {items} first rest) here h =
           distinct-append (keys of_leaf of_node first) (keys_of_each of_leaf of_node rest)
@@ -395,7 +396,8 @@ module _ (setting : Setting) (costly : IsCostly (graph_of setting)) (choice : �
       pub once_in_others : {inner : List Entry} {items : List Item}
           (trees : EachBridgedIn (rules_by choice) inner items)
           → All (λ c. IsHere (put_in inner c)) items
-          → AreApart (λ c. Mine (put_in inner c)) items → Distinct (keys_in of_leaf of_node trees)
+          → AreRegionsApart (λ c. Mine (put_in inner c)) items
+          → Distinct (keys_in of_leaf of_node trees)
       once_in_others none_in here h = tt
       once_in_others (each_in {inner} {item} {items} first rest) here h =
           distinct-append (keys of_leaf of_node first) (keys_in of_leaf of_node rest)

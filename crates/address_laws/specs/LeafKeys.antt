@@ -58,43 +58,44 @@ variables_are = record {
 }
 
 -- one address at most, which is the item's
-pub record IsAlone (item : Item) (ks : List Address) : Type 0 where
+pub record HasOwnKeyAlone (item : Item) (ks : List Address) : Type 0 where
   pub here : All (λ k. k ≡ item.at) ks
   pub once : Distinct ks
 
-alone_none : (item : Item) → IsAlone item []
+alone_none : (item : Item) → HasOwnKeyAlone item []
 alone_none item = record { here = All-nil (λ k. k ≡ item.at); once = tt }
 
-alone_itself : (item : Item) → IsAlone item (item.at ∷ [])
+alone_itself : (item : Item) → HasOwnKeyAlone item (item.at ∷ [])
 alone_itself item = record {
   here = All-cons (λ k. k ≡ item.at) item.at [] refl (All-nil (λ k. k ≡ item.at));
   once = (All-nil (λ k. ¬ (k ≡ item.at)), tt);
 }
 
-alone_mine : (item : Item) (ks : List Address) → IsAlone item ks → All (Mine item) ks
+alone_mine : (item : Item) (ks : List Address) → HasOwnKeyAlone item ks → All (Mine item) ks
 alone_mine item ks h =
     All-weaker (λ k. k ≡ item.at) (Mine item)
     (λ k e. inl (record { rest = []; is = e ∙ itself_below item.at })) ks h.here
 
-pub rows_alone : (item : Item) → IsAlone item (row_keys item)
+pub rows_alone : (item : Item) → HasOwnKeyAlone item (row_keys item)
 rows_alone item = by item.body
   where
-    by : (b : Body) → IsAlone item (row_keys (record { at = item.at; body = b }))
+    by : (b : Body) → HasOwnKeyAlone item (row_keys (record { at = item.at; body = b }))
     by (Plain var set) = alone_itself item
     by (Affine func set) = alone_itself item
     by (PlainVec vars set) = alone_itself item
     by (AffineVec funcs set) = alone_itself item
     by _ = alone_none item
 
-pub objectives_alone : (item : Item) → IsAlone item (objective_keys item)
+pub objectives_alone : (item : Item) → HasOwnKeyAlone item (objective_keys item)
 objectives_alone item = by item.body
   where
-    by : (b : Body) → IsAlone item (objective_keys (record { at = item.at; body = b }))
+    by : (b : Body) → HasOwnKeyAlone item (objective_keys (record { at = item.at; body = b }))
     by (PlainObj sense var) = alone_itself item
     by (AffineObj sense func) = alone_itself item
     by _ = alone_none item
 
-pub alone_are : (of_leaf : Item → List Address) → ((item : Item) → IsAlone item (of_leaf item))
+pub alone_are : (of_leaf : Item → List Address)
+    → ((item : Item) → HasOwnKeyAlone item (of_leaf item))
     → AreKeys of_leaf no_keys
 alone_are of_leaf h = record {
   leaf_mine = λ item. alone_mine item (of_leaf item) (h item);

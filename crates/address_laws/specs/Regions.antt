@@ -10,24 +10,24 @@ use Rattle.item_core.specs.Valid.{below}
 use Rattle.map_laws.specs.EachLaws.{StandsFrom, all_both, all_first, all_second, cons_head, cons_tail, stand_from}
 use Rattle.fresh_bridging.specs.OmitLaws.{IsBelow, IsBelowAt, apart}
 
-abbrev pub AreApart : (Item → Address → Type 0) → List Item → Type 0
-AreApart Of [] = Unit {0}
-AreApart Of (x ∷ xs) = ((v : Address) → Of x v → All (λ y. ¬ (Of y v)) xs) × AreApart Of xs
+abbrev pub AreRegionsApart : (Item → Address → Type 0) → List Item → Type 0
+AreRegionsApart Of [] = Unit {0}
+AreRegionsApart Of (x ∷ xs) = ((v : Address) → Of x v → All (λ y. ¬ (Of y v)) xs) × AreRegionsApart Of xs
 
 module _ (Of : Item → Address → Type 0) where
-  pub apart_first : (xs ys : List Item) → AreApart Of (xs ++ ys) → AreApart Of xs
+  pub apart_first : (xs ys : List Item) → AreRegionsApart Of (xs ++ ys) → AreRegionsApart Of xs
   apart_first [] ys h = tt
   apart_first (x ∷ xs) ys h =
       (λ v o. all_first (λ y. ¬ (Of y v)) xs ys (h.0 v o), apart_first xs ys h.1)
 
-  pub apart_second : (xs ys : List Item) → AreApart Of (xs ++ ys) → AreApart Of ys
+  pub apart_second : (xs ys : List Item) → AreRegionsApart Of (xs ++ ys) → AreRegionsApart Of ys
   apart_second [] ys h = h
   apart_second (x ∷ xs) ys h = apart_second xs ys h.1
 
-  abbrev pub AreBeside : List Item → List Item → Type 0
-  AreBeside xs ys = All (λ x. (v : Address) → Of x v → All (λ y. ¬ (Of y v)) ys) xs
+  abbrev pub AreRegionsBeside : List Item → List Item → Type 0
+  AreRegionsBeside xs ys = All (λ x. (v : Address) → Of x v → All (λ y. ¬ (Of y v)) ys) xs
 
-  pub apart_across : (xs ys : List Item) → AreApart Of (xs ++ ys) → AreBeside xs ys
+  pub apart_across : (xs ys : List Item) → AreRegionsApart Of (xs ++ ys) → AreRegionsBeside xs ys
   apart_across [] ys h = All-nil (λ x. (v : Address) → Of x v → All (λ y. ¬ (Of y v)) ys)
   apart_across (x ∷ xs) ys h =
       All-cons (λ x. (v : Address) → Of x v → All (λ y. ¬ (Of y v)) ys) x xs
@@ -44,7 +44,8 @@ module _ (Of : Item → Address → Type 0) where
         All-weaker (λ y. IsLess y × ¬ (Of y v)) (λ y. ¬ (Less y v)) (λ y k o. k.1 (k.0 v o)) xs
         (all_both IsLess (λ y. ¬ (Of y v)) xs less h)
 
-    pub apart_less : (xs : List Item) → All IsLess xs → AreApart Of xs → AreApart Less xs
+    pub apart_less : (xs : List Item) → All IsLess xs → AreRegionsApart Of xs
+        → AreRegionsApart Less xs
     apart_less [] less h = tt
     apart_less (x ∷ xs) less h = (
       λ v o. none_less v xs (All-tail IsLess x xs less) (h.0 v (All-head IsLess x xs less v o)),
@@ -66,7 +67,7 @@ AtOrBelow c v = IsBelow c.at v
 -- children at positions one after another are apart
 pub apart_children : (at : Address) (xs : List Item) (low : ℕ)
     → map (λ c. c.at) xs ≡ map (child_of at) (range_with_len low (length xs))
-    → AreApart AtOrBelow xs
+    → AreRegionsApart AtOrBelow xs
 apart_children at [] low e = tt
 apart_children at (x ∷ xs) low e = (first, apart_children at xs (low + 1) rest)
   where

@@ -8,19 +8,19 @@ use Rattle.std.specs.FinMap as finite
 use Rattle.std.specs.Ordering.{eq_by_cmp}
 use Rattle.aff_core.specs.Address.{Address, address_cmp, address_total}
 use Rattle.aff_core.specs.KeyOrder.{address_order, other_key, same_key, same_or_other}
-use Rattle.address_map.specs.KeptPlaces.{AreInverse}
-use Rattle.address_map.specs.Places.{Indices, IsFree, IsOneToOne}
+use Rattle.address_map.specs.KeptPlaces.{AreInverseMaps}
+use Rattle.address_map.specs.Places.{AreIndicesOneToOne, Indices, IsIndexFree}
 
 index_itself : (i : ℕ) → nat_eq i i ≡ true
 index_itself i = grind (arith, nat_tests)
 
-module _ (m : Indices) (back : ℕ → Option Address) (inverse : AreInverse (finite.get m) back) where
-  pub one_to_one : IsOneToOne m
+module _ (m : Indices) (back : ℕ → Option Address) (inverse : AreInverseMaps (finite.get m) back) where
+  pub one_to_one : AreIndicesOneToOne m
   one_to_one one other i e k =
       same_Some one other (sym (inverse.leads one i e) ∙ inverse.leads other i k)
 
   -- an index that no address has leads nowhere
-  pub leads_nowhere : (i : ℕ) → IsFree m i → back i ≡ None
+  pub leads_nowhere : (i : ℕ) → IsIndexFree m i → back i ≡ None
   leads_nowhere i free = by (back i) refl
     where
       by : (o : Option Address) → back i ≡ o → o ≡ None
@@ -29,8 +29,8 @@ module _ (m : Indices) (back : ℕ → Option Address) (inverse : AreInverse (fi
 
   -- one more pair, both new
   pub inverse_put : (at : Address) (i : ℕ) (after : ℕ → Option Address) → finite.get m at ≡ None
-      → IsFree m i → ((j : ℕ) → after j ≡ cond (nat_eq i j) (Some at) (back j))
-      → AreInverse (finite.get (finite.insert m at i)) after
+      → IsIndexFree m i → ((j : ℕ) → after j ≡ cond (nat_eq i j) (Some at) (back j))
+      → AreInverseMaps (finite.get (finite.insert m at i)) after
   inverse_put at i after at_free i_free put = record { leads = leads; returns = returns }
     where
       leads : (q : Address) (j : ℕ) → finite.get (finite.insert m at i) q ≡ Some j
@@ -80,7 +80,7 @@ module _ (m : Indices) (back : ℕ → Option Address) (inverse : AreInverse (fi
   -- one pair less
   pub inverse_removed : (at : Address) (i : ℕ) (after : ℕ → Option Address)
       → finite.get m at ≡ Some i → ((j : ℕ) → after j ≡ cond (nat_eq i j) None (back j))
-      → AreInverse (finite.get (finite.remove m at)) after
+      → AreInverseMaps (finite.get (finite.remove m at)) after
   inverse_removed at i after has taken = record { leads = leads; returns = returns }
     where
       leads : (q : Address) (j : ℕ) → finite.get (finite.remove m at) q ≡ Some j → after j ≡ Some q
@@ -121,7 +121,7 @@ module _ (m : Indices) (back : ℕ → Option Address) (inverse : AreInverse (fi
 
 -- nothing leads nowhere
 pub inverse_empty : (m : Indices) (back : ℕ → Option Address) → m ≡ finite.empty
-    → ((i : ℕ) → back i ≡ None) → AreInverse (finite.get m) back
+    → ((i : ℕ) → back i ≡ None) → AreInverseMaps (finite.get m) back
 inverse_empty m back none nowhere = record {
   leads = λ at i e. absurd (none-some i (sym (ap (λ x. finite.get x at) none
       ∙ finite.get-empty address_cmp at) ∙ e));

@@ -9,20 +9,20 @@ use Rattle.address_map.specs.Noted.{AddressSet, Noted, noted_code, set_code}
 use Rattle.address_map.specs.Places.{Places, places_code}
 
 -- each variable's expression over leaf variables
-abbrev pub Expressions : Type 0
-Expressions = FinMap address_cmp Function
+abbrev pub ExpressionsByAddress : Type 0
+ExpressionsByAddress = FinMap address_cmp Function
 
 pub record AddressMap : Type 0 where
   pub vars : Places
   pub rows : Places
-  pub exprs : Expressions
+  pub exprs : ExpressionsByAddress
   -- the items that mention a variable, and the variables that are kept
   pub noted : Noted
   pub kept : AddressSet
 
 abbrev pub address_map_code : Coded AddressMap
 address_map_code =
-    code_by (Places × (Places × (Expressions × (Noted × AddressSet))))
+    code_by (Places × (Places × (ExpressionsByAddress × (Noted × AddressSet))))
     (coded× places_code (coded× places_code (coded× (finite.code address_code function_code)
     (coded× noted_code set_code))))
     (λ m. (m.vars, (m.rows, (m.exprs, (m.noted, m.kept)))))

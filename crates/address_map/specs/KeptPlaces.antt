@@ -10,7 +10,7 @@ use Rattle.address_map.specs.declared.places.Places.TheInside.{Inside}
 use Rattle.address_map.specs.declared.reserved.Reserved.TheInside.{Inside as Reserved}
 
 -- one leads back where the other leads
-pub record AreInverse (there : Address → Option ℕ) (back : ℕ → Option Address) : Type 0 where
+pub record AreInverseMaps (there : Address → Option ℕ) (back : ℕ → Option Address) : Type 0 where
   pub leads : (at : Address) (i : ℕ) → there at ≡ Some i → back i ≡ Some at
   pub returns : (at : Address) (i : ℕ) → back i ≡ Some at → there at ≡ Some i
 
@@ -31,5 +31,5 @@ places_in a = record {
   spare = min a.ordered.spare (spare a.by_index);
 }
 
-abbrev pub IsKept : Inside → Type 0
-IsKept a = AreInverse (finite.get a.ordered.indices) (address_among a.by_index.entries)
+abbrev pub IsOrderedKept : Inside → Type 0
+IsOrderedKept a = AreInverseMaps (finite.get a.ordered.indices) (address_among a.by_index.entries)

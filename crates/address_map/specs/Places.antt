@@ -1,6 +1,6 @@
 -- Leaf addresses with their solver indices.
 --     Places           a finite map from addresses to indices, and how many more need no memory
---     IsOneToOne IsFree IsAddressAt      the other direction
+--     AreIndicesOneToOne IsIndexFree IsAddressAt  the other direction
 --     addresses        the addresses in their order
 use Rattle.std.specs.Prelude.{◌≡◌, ◌≢◌, ◌↔◌, ℕ, List, Option, Some, refl}
 use Rattle.std.specs.Coded.{Coded, code_by, coded×, coded_ℕ}
@@ -21,12 +21,12 @@ places_code =
     (λ p. (p.indices, p.spare)) (λ p. record { indices = p.0; spare = p.1 }) (λ _. refl)
 
 -- no address has the index
-abbrev pub IsFree : Indices → ℕ → Type 0
-IsFree indices i = (at : Address) → finite.get indices at ≢ Some i
+abbrev pub IsIndexFree : Indices → ℕ → Type 0
+IsIndexFree indices i = (at : Address) → finite.get indices at ≢ Some i
 
 -- no two addresses have one index
-abbrev pub IsOneToOne : Indices → Type 0
-IsOneToOne indices =
+abbrev pub AreIndicesOneToOne : Indices → Type 0
+AreIndicesOneToOne indices =
     (one other : Address) (i : ℕ)
     → finite.get indices one ≡ Some i → finite.get indices other ≡ Some i → one ≡ other
 

@@ -7,7 +7,7 @@ mod places;
 mod reserved;
 
 pub use aff_core::{Address, Aff};
-pub use item_map::{Entries, Items};
+pub use item_map::{EntriesLeft, RankedItems};
 pub use lists::Memory;
 pub use map::AddressMap;
 pub use notes::AddressSet;

@@ -4,12 +4,12 @@ ghost use Rattle.std.specs.FinMap as finite;
 ghost use Rattle.std.specs.Option.{option_copied};
 ghost use Rattle.item_map.specs.ItemAddresses.{is_of};
 ghost use Rattle.address_map.specs.Noted.{IsNotedAt, noted_in, with_item, without_item};
-ghost use Rattle.address_map.specs.Places.{IsAddressAt, IsFree, IsOneToOne, addresses};
+ghost use Rattle.address_map.specs.Places.{AreIndicesOneToOne, IsAddressAt, IsIndexFree, addresses};
 
 use crate::notes::{AddressSet, Notes};
 use crate::places::Places;
 use aff_core::{Address, Aff};
-use item_map::{Entries, ItemMap, Items};
+use item_map::{EntriesLeft, ItemMap, RankedItems};
 use lists::Memory;
 use std::alloc::Global;
 use std::marker::Model;
@@ -85,7 +85,7 @@ impl AddressMap {
     /// The index of a leaf variable, and `None` where the address has none.
     pub fn var_index(&self, at: &Address) -> Option<usize>
         ensures value { result ≡ finite.get self.now.vars.indices at.now }
-        ensures one_to_one { IsOneToOne self.now.vars.indices }
+        ensures one_to_one { AreIndicesOneToOne self.now.vars.indices }
     {
         self.vars.index(at)
     }
@@ -93,7 +93,7 @@ impl AddressMap {
     /// The index of a leaf row, and `None` where the address has none.
     pub fn row_index(&self, at: &Address) -> Option<usize>
         ensures value { result ≡ finite.get self.now.rows.indices at.now }
-        ensures one_to_one { IsOneToOne self.now.rows.indices }
+        ensures one_to_one { AreIndicesOneToOne self.now.rows.indices }
     {
         self.rows.index(at)
     }
@@ -101,7 +101,7 @@ impl AddressMap {
     /// The leaf variable that has an index, and `None` where none has it.
     pub fn var_at(&self, i: usize) -> Option<Address>
         ensures value { IsAddressAt self.now.vars.indices i result }
-        ensures one_to_one { IsOneToOne self.now.vars.indices }
+        ensures one_to_one { AreIndicesOneToOne self.now.vars.indices }
     {
         self.vars.address(i)
     }
@@ -109,7 +109,7 @@ impl AddressMap {
     /// The leaf row that has an index, and `None` where none has it.
     pub fn row_at(&self, i: usize) -> Option<Address>
         ensures value { IsAddressAt self.now.rows.indices i result }
-        ensures one_to_one { IsOneToOne self.now.rows.indices }
+        ensures one_to_one { AreIndicesOneToOne self.now.rows.indices }
     {
         self.rows.address(i)
     }
@@ -125,7 +125,7 @@ impl AddressMap {
     /// can't be refused.
     pub fn put_var(&mut self, at: Address, i: usize) -> Result<(), Memory>
         requires address_free { finite.get self.old.vars.indices at ≡ None }
-        requires index_free { IsFree self.old.vars.indices i }
+        requires index_free { IsIndexFree self.old.vars.indices i }
         ensures ok { OnOk result
             (self.new.vars.indices ≡ finite.insert self.old.vars.indices at i) }
         ensures err { OnErr result (self.new.vars.indices ≡ self.old.vars.indices) }
@@ -133,7 +133,7 @@ impl AddressMap {
         ensures spare { self.old.vars.spare ≤ self.new.vars.spare + 1 }
         ensures rows { self.new.rows ≡ self.old.rows }
         ensures exprs { self.new.exprs ≡ self.old.exprs }
-        ensures one_to_one { IsOneToOne self.new.vars.indices }
+        ensures one_to_one { AreIndicesOneToOne self.new.vars.indices }
         ensures noted { self.new.noted ≡ self.old.noted }
         ensures kept { self.new.kept ≡ self.old.kept }
     {
@@ -144,7 +144,7 @@ impl AddressMap {
     /// be refused.
     pub fn put_row(&mut self, at: Address, i: usize) -> Result<(), Memory>
         requires address_free { finite.get self.old.rows.indices at ≡ None }
-        requires index_free { IsFree self.old.rows.indices i }
+        requires index_free { IsIndexFree self.old.rows.indices i }
         ensures ok { OnOk result
             (self.new.rows.indices ≡ finite.insert self.old.rows.indices at i) }
         ensures err { OnErr result (self.new.rows.indices ≡ self.old.rows.indices) }
@@ -152,7 +152,7 @@ impl AddressMap {
         ensures spare { self.old.rows.spare ≤ self.new.rows.spare + 1 }
         ensures vars { self.new.vars ≡ self.old.vars }
         ensures exprs { self.new.exprs ≡ self.old.exprs }
-        ensures one_to_one { IsOneToOne self.new.rows.indices }
+        ensures one_to_one { AreIndicesOneToOne self.new.rows.indices }
         ensures noted { self.new.noted ≡ self.old.noted }
         ensures kept { self.new.kept ≡ self.old.kept }
     {
@@ -239,28 +239,28 @@ impl AddressMap {
     }
 
     /// The leaf variables in the order of their addresses, each with its index.
-    pub fn vars(&self) -> Entries<'_, usize>
+    pub fn vars(&self) -> EntriesLeft<'_, usize>
         ensures { result ≡ finite.entries self.now.vars.indices }
     {
         self.vars.iter()
     }
 
     /// The leaf variables at and below the address of an item of the model, each with its index.
-    pub fn vars_of(&self, item: &Address) -> Items<'_, (Address, usize)>
+    pub fn vars_of(&self, item: &Address) -> RankedItems<'_, (Address, usize)>
         ensures { result ≡ filter (λ e. is_of item.now e.0) (finite.entries self.now.vars.indices) }
     {
         self.vars.of_item(item)
     }
 
     /// The leaf rows in the order of their addresses, each with its index.
-    pub fn rows(&self) -> Entries<'_, usize>
+    pub fn rows(&self) -> EntriesLeft<'_, usize>
         ensures { result ≡ finite.entries self.now.rows.indices }
     {
         self.rows.iter()
     }
 
     /// The leaf rows at and below the address of an item of the model, each with its index.
-    pub fn rows_of(&self, item: &Address) -> Items<'_, (Address, usize)>
+    pub fn rows_of(&self, item: &Address) -> RankedItems<'_, (Address, usize)>
         ensures { result ≡ filter (λ e. is_of item.now e.0) (finite.entries self.now.rows.indices) }
     {
         self.rows.of_item(item)

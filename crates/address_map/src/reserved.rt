@@ -5,7 +5,7 @@ ghost use Rattle.item_map.specs.ItemAddresses.{is_of};
 ghost use Rattle.address_map.specs.Places.{addresses};
 
 use aff_core::{Address, Root};
-use item_map::{Entries, ItemMap, Items, Ordered, Room};
+use item_map::{EntriesLeft, ItemMap, Ordered, RankedItems, Room};
 use lists::Memory;
 use std::alloc::Global;
 use std::marker::Model;
@@ -94,14 +94,14 @@ impl Reserved {
     }
 
     /// The addresses in their order, each with its index.
-    pub fn iter(&self) -> Entries<'_, usize>
+    pub fn iter(&self) -> EntriesLeft<'_, usize>
         ensures { result ≡ finite.entries self.now.indices }
     {
         self.ordered.iter()
     }
 
     /// The addresses at and below that of an item of the model, each with its index.
-    pub fn of_item(&self, item: &Address) -> Items<'_, (Address, usize)>
+    pub fn of_item(&self, item: &Address) -> RankedItems<'_, (Address, usize)>
         ensures { result ≡ filter (λ e. is_of item.now e.0) (finite.entries self.now.indices) }
     {
         self.ordered.of_item(item)

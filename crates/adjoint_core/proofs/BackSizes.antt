@@ -30,7 +30,7 @@ use Rattle.bridge_face.specs.DifferenceLaws.{length-differences, length-sums}
 use Rattle.bridge_face.specs.ImageOf.{differences, image_by, inner, inner_functions, sums}
 use Rattle.bridge_face.specs.Images.{affine, children_from, component_of, difference, each_component, first_in, lower_part, rest_of, upper_part, with_set}
 use Rattle.bridge_face.specs.FamilyLaws.{length-tail}
-use Rattle.bridge_face.specs.OneRowLaws.{IsRow}
+use Rattle.bridge_face.specs.OneRowLaws.{IsRowBody}
 use Rattle.bridge_face.specs.WidthLaws.{few_rows as fewer_rows}
 use Rattle.address_laws.specs.ClassLaws.{class_of_family}
 
@@ -56,7 +56,7 @@ of_set (set.LessThan u) = record { plain = refl; affine = refl }
 of_set _ = record { plain = refl; affine = refl }
 
 -- a row's set is of numbers exactly where its kind is
-scalar_set : (b : Body) → IsRow b → is_scalar_kind (kind_of_body b) ≡ is_scalar (set_of b)
+scalar_set : (b : Body) → IsRowBody b → is_scalar_kind (kind_of_body b) ≡ is_scalar (set_of b)
 unfolding kind_of_body
 scalar_set (Group s vars) h = absurd (true≢false h.no_group)
 scalar_set (Free vars) h = absurd (true≢false h.no_group)
@@ -68,7 +68,7 @@ scalar_set (PlainObj sense var) h = absurd (true≢false h.no_objective)
 scalar_set (AffineObj sense func) h = absurd (true≢false h.no_objective)
 
 -- a row of numbers has one component
-one_component : (b : Body) → IsRow b → FitsItsFunction b → is_scalar (set_of b) ≡ true
+one_component : (b : Body) → IsRowBody b → FitsItsFunction b → is_scalar (set_of b) ≡ true
     → length (functions_of b) ≡ 1
 one_component (Group s vars) h f e = absurd (true≢false h.no_group)
 one_component (Free vars) h f e = absurd (true≢false h.no_group)
@@ -120,7 +120,7 @@ length-joined (y ∷ ys) (b ∷ bodies) e =
 
 -- ---- bodies
 
-with_set_functions : (b : Body) (s : Set) → IsRow b
+with_set_functions : (b : Body) (s : Set) → IsRowBody b
     → functions_of (with_set b s) ≡ functions_of b
 with_set_functions (Group t vars) s h = absurd (true≢false h.no_group)
 with_set_functions (Free vars) s h = absurd (true≢false h.no_group)
@@ -128,7 +128,7 @@ with_set_functions (PlainObj sense var) s h = absurd (true≢false h.no_objectiv
 with_set_functions (AffineObj sense func) s h = absurd (true≢false h.no_objective)
 with_set_functions _ s h = refl
 
-affine_size : (b : Body) → IsRow b → FitsItsFunction b
+affine_size : (b : Body) → IsRowBody b → FitsItsFunction b
     → length (functions_of (affine (functions_of b) (set_of b))) ≡ length (functions_of b)
 affine_size b h f = by (is_scalar (set_of b)) refl
   where
@@ -139,7 +139,7 @@ affine_size b h f = by (is_scalar (set_of b)) refl
     by false e = refl
 
 -- the bodies of a vector's components
-component_count : (b : Body) (s : Set) → IsRow b → FitsItsFunction b
+component_count : (b : Body) (s : Set) → IsRowBody b → FitsItsFunction b
     → is_scalar (set_of b) ≡ false
     → length (each_component b s) ≡ length (functions_of b)
 component_count (Group t vars) s h f e = absurd (true≢false h.no_group)
@@ -183,7 +183,7 @@ is_of_vectors _ = false
 
 pub record IsRowFor (f : Family) (item : Item) : Type 0 where
   pub class : class_of_family f ≡ (false, false)
-  pub row : IsRow item.body
+  pub row : IsRowBody item.body
   pub valid : IsValidItem item
   pub numbers : is_of_numbers f ≡ true → is_scalar_kind (kind_of_body item.body) ≡ true
   pub vectors : is_of_vectors f ≡ true → is_scalar_kind (kind_of_body item.body) ≡ false

@@ -10,14 +10,14 @@ use Rattle.address_map.specs.AddressMap.{AddressMap}
 use Rattle.aff_core.specs.Address.{Address, address_cmp, address_eq, address_eq-Decides, address_total}
 use Rattle.aff_core.specs.Function.{Function, slope, value_of, variable}
 use Rattle.bridge_face.specs.Law.{expressed}
-use Rattle.bridge_face.specs.State.{State}
-use Rattle.cert_core.specs.Folds.{EvaluationFits, ObjectiveFits}
+use Rattle.bridge_face.specs.BridgeState.{BridgeState}
+use Rattle.cert_core.specs.Folds.{EvaluationFits, ObjectiveValueFits}
 use Rattle.certificates.specs.Duals.{dual_gap}
 use Rattle.certificates.specs.Good.{Good}
 use Rattle.certificates.specs.Points.{objective_value}
 use Rattle.certificates.specs.declared.certificate.Certificate.{Certificate}
 use Rattle.certificates.specs.declared.certificate.Certificate.TheVariants.{Infeasible, Optimal, Unbounded}
-use Rattle.equality_form.specs.ReadBack.{Answer, infeasible, optimal, unbounded}
+use Rattle.equality_form.specs.ReadBack.{AnswerByAddress, infeasible, optimal, unbounded}
 use Rattle.equality_form.specs.Right.{IsRight}
 use Rattle.fresh_bridging.specs.Entries.{function_in}
 use Rattle.fresh_bridging.specs.FreshBridging.{FreshBridging, expression_of, leaves_of}
@@ -26,9 +26,9 @@ use Rattle.tree_laws.specs.GoodLaws.{right_is_good}
 use Rattle.user_model.specs.Model.{ModelValue}
 use Rattle.user_model.specs.Valid.{IsValid}
 use Rattle.adjoint_core.specs.CanCarry.{CanCarry, HasLeafDuals}
-use Rattle.adjoint_core.specs.CarriedBack.{AdjointFits, AllFits, BothFit, CarriesBack, DualFits, GapFits, InfeasibleFits, IsFirstUnfit, IsUnfitInfeasible, IsUnfitOptimal, OptimalFits, UnfitGap, cancelled, gap_parts_placed, point, ray, reduced, users}
+use Rattle.adjoint_core.specs.CarriedBack.{AdjointFits, AllFits, CarriesAnswerBack, GapFits, InfeasibleBackFits, IsFirstUnfitAddress, IsUnfitInfeasible, IsUnfitOptimal, OptimalBackFits, PointAndRayFit, UnfitGap, VariableDualFits, cancelled, gap_parts_placed, point, ray, reduced, users}
 use Rattle.adjoint_core.specs.Read.{expression_at}
-use Rattle.adjoint_core.specs.Told.{FirstNot, Tells}
+use Rattle.adjoint_core.specs.Told.{FirstNot, TellsCarried}
 use Rattle.adjoint_core.specs.Walk.{IsUnfitAmong, RowDualFits, row_dual}
 use Rattle.adjoint_core.specs.declared.fault.BackFault.{BackFault}
 use Rattle.adjoint_core.proofs.InOrder.{told_alike}
@@ -79,7 +79,7 @@ module _ (e f : Address → Function) where
 
 -- ---- a model that is bridged
 
-module _ (states : List State) (places : AddressMap) (model : ModelValue) (answer : Answer)
+module _ (states : List BridgeState) (places : AddressMap) (model : ModelValue) (answer : AnswerByAddress)
     (can : CanCarry states places model answer) (valid : IsValid model) where
   abbrev bridging : FreshBridging can.setting model
   bridging = can.bridging
@@ -108,16 +108,16 @@ module _ (states : List State) (places : AddressMap) (model : ModelValue) (answe
   -- ---- no least value
 
   pub unbounded_told : (x d : Address → Rational) (r : Result Certificate BackFault)
-      → Tells r (All (BothFit model read x d) (users model))
+      → TellsCarried r (All (PointAndRayFit model read x d) (users model))
       (λ c. c ≡ Unbounded (point model read x) (ray model read d))
-      (FirstNot (BothFit model read x d) (λ v. v) (users model))
-      → CarriesBack bridging (unbounded x d) r
+      (FirstNot (PointAndRayFit model read x d) (λ v. v) (users model))
+      → CarriesAnswerBack bridging (unbounded x d) r
   unbounded_told x d r h =
-      told_alike r (All (BothFit model read x d) (users model)) (AllFits bridging (unbounded x d))
+      told_alike r (All (PointAndRayFit model read x d) (users model)) (AllFits bridging (unbounded x d))
       (λ c. c ≡ Unbounded (point model read x) (ray model read d))
       (λ c. c ≡ certificate_of bridging (unbounded x d))
-      (FirstNot (BothFit model read x d) (λ v. v) (users model))
-      (IsFirstUnfit bridging (unbounded x d)) h
+      (FirstNot (PointAndRayFit model read x d) (λ v. v) (users model))
+      (IsFirstUnfitAddress bridging (unbounded x d)) h
       (all_same read meant (λ g. EvaluationFits one_ℚ g x × EvaluationFits zero_ℚ g d) (users model)
       same_expressions)
       (λ c is. is ∙ ap₂ Unbounded (same_point x) (same_ray d))
@@ -143,14 +143,14 @@ module _ (states : List State) (places : AddressMap) (model : ModelValue) (answe
           sizes
       rows = rows_carried states places model answer can valid (optimal_duals bridging y) sizes
 
-      optimal_fits : OptimalFits model duals Fit Unfit read x → AllFits bridging (optimal x y)
+      optimal_fits : OptimalBackFits model duals Fit Unfit read x → AllFits bridging (optimal x y)
       optimal_fits h = (
         all_same read meant (λ g. EvaluationFits one_ℚ g x) (users model) same_expressions h.0,
         (
           rows.only h.1.0,
           (
-            subst (λ l. All (DualFits model l) (users model)) rows.same h.1.1.0,
-            subst (ObjectiveFits model one_ℚ) (same_point x) h.1.1.1,
+            subst (λ l. All (VariableDualFits model l) (users model)) rows.same h.1.1.0,
+            subst (ObjectiveValueFits model one_ℚ) (same_point x) h.1.1.1,
           ),
         ),
       )
@@ -165,7 +165,7 @@ module _ (states : List State) (places : AddressMap) (model : ModelValue) (answe
           rows.same
 
       optimal_unfit : (at : Address) → IsUnfitOptimal model duals Fit Unfit read x at
-          → IsFirstUnfit bridging (optimal x y) at
+          → IsFirstUnfitAddress bridging (optimal x y) at
       optimal_unfit at (inl h) =
           inl (first_same read meant (λ g. EvaluationFits one_ℚ g x) (users model) at
           same_expressions h)
@@ -179,7 +179,7 @@ module _ (states : List State) (places : AddressMap) (model : ModelValue) (answe
             all_same read meant (λ g. EvaluationFits one_ℚ g x) (users model) same_expressions v,
             inr (
               rows.only f,
-              inl (subst (λ l. FirstNot (DualFits model l) (λ v. v) (users model) at)
+              inl (subst (λ l. FirstNot (VariableDualFits model l) (λ v. v) (users model) at)
                   rows.same h),
             ),
           )
@@ -189,24 +189,24 @@ module _ (states : List State) (places : AddressMap) (model : ModelValue) (answe
             inr (
               rows.only f,
               inr (
-                subst (λ l. All (DualFits model l) (users model)) rows.same q,
-                ((λ o. h.0 (subst (ObjectiveFits model one_ℚ) (sym (same_point x)) o)), h.1),
+                subst (λ l. All (VariableDualFits model l) (users model)) rows.same q,
+                ((λ o. h.0 (subst (ObjectiveValueFits model one_ℚ) (sym (same_point x)) o)), h.1),
               ),
             ),
           )
 
       pub optimal_told : (r : Result Certificate BackFault)
-          → Tells r (OptimalFits model duals Fit Unfit read x)
+          → TellsCarried r (OptimalBackFits model duals Fit Unfit read x)
           (λ c. c ≡ Optimal (objective_value model (point model read x)) (point model read x) duals
           (reduced model duals))
           (IsUnfitOptimal model duals Fit Unfit read x)
-          → CarriesBack bridging (optimal x y) r
+          → CarriesAnswerBack bridging (optimal x y) r
       optimal_told r h =
-          told_alike r (OptimalFits model duals Fit Unfit read x) (AllFits bridging (optimal x y))
+          told_alike r (OptimalBackFits model duals Fit Unfit read x) (AllFits bridging (optimal x y))
           (λ c. c ≡ Optimal (objective_value model (point model read x)) (point model read x) duals
           (reduced model duals))
           (λ c. c ≡ certificate_of bridging (optimal x y))
-          (IsUnfitOptimal model duals Fit Unfit read x) (IsFirstUnfit bridging (optimal x y)) h
+          (IsUnfitOptimal model duals Fit Unfit read x) (IsFirstUnfitAddress bridging (optimal x y)) h
           optimal_fits optimal_is optimal_unfit
 
     -- ---- no feasible point
@@ -216,7 +216,7 @@ module _ (states : List State) (places : AddressMap) (model : ModelValue) (answe
     none_rows =
         rows_carried states places model answer can valid (infeasible_duals bridging y) sizes
 
-    infeasible_fits : InfeasibleFits model duals Fit Unfit
+    infeasible_fits : InfeasibleBackFits model duals Fit Unfit
         → AllFits bridging (infeasible y)
     infeasible_fits h = (
       none_rows.only h.0,
@@ -236,7 +236,7 @@ module _ (states : List State) (places : AddressMap) (model : ModelValue) (answe
         none_rows.same
 
     infeasible_unfit : (at : Address) → IsUnfitInfeasible model duals Fit Unfit at
-        → IsFirstUnfit bridging (infeasible y) at
+        → IsFirstUnfitAddress bridging (infeasible y) at
     infeasible_unfit at (inl h) = inl (none_rows.unfit at h)
     infeasible_unfit at (inr (f, inl h)) =
         inr (
@@ -254,24 +254,24 @@ module _ (states : List State) (places : AddressMap) (model : ModelValue) (answe
         )
 
     pub infeasible_told : (r : Result Certificate BackFault)
-        → Tells r (InfeasibleFits model duals Fit Unfit)
+        → TellsCarried r (InfeasibleBackFits model duals Fit Unfit)
         (λ c. c ≡ Infeasible (dual_gap model duals (cancelled model duals)) duals
         (cancelled model duals))
         (IsUnfitInfeasible model duals Fit Unfit)
-        → CarriesBack bridging (infeasible y) r
+        → CarriesAnswerBack bridging (infeasible y) r
     infeasible_told r h =
-        told_alike r (InfeasibleFits model duals Fit Unfit)
+        told_alike r (InfeasibleBackFits model duals Fit Unfit)
         (AllFits bridging (infeasible y))
         (λ c. c ≡ Infeasible (dual_gap model duals (cancelled model duals)) duals
         (cancelled model duals))
         (λ c. c ≡ certificate_of bridging (infeasible y))
         (IsUnfitInfeasible model duals Fit Unfit)
-        (IsFirstUnfit bridging (infeasible y)) h
+        (IsFirstUnfitAddress bridging (infeasible y)) h
         infeasible_fits infeasible_is infeasible_unfit
 
   -- ---- of a right answer
 
-  pub good_if_ok : (r : Result Certificate BackFault) → CarriesBack bridging answer r
+  pub good_if_ok : (r : Result Certificate BackFault) → CarriesAnswerBack bridging answer r
       → IsRight (leaves_of bridging) answer → IfOk r (Good model)
   good_if_ok (Ok c) h right =
       subst (Good model) (sym h.1)

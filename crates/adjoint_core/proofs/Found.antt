@@ -9,7 +9,7 @@ use Rattle.std.proofs.lemmas.List.Elements.{All-head, All-tail}
 use Rattle.aff_core.specs.Address.{Address, address_cmp, address_eq-Decides, address_total}
 use Rattle.aff_core.specs.KeyOrder.{address_order, other_key}
 use Rattle.bridge_set.specs.Bridges.{families_of, kept_among}
-use Rattle.bridge_face.specs.State.{State, found}
+use Rattle.bridge_face.specs.BridgeState.{BridgeState, found}
 use Rattle.bridge_face.specs.declared.kept_item.KeptItem.{KeptItem}
 use Rattle.item_core.specs.Edge.{family_eq, family_of}
 use Rattle.address_laws.specs.Apart.{Avoids, Distinct}
@@ -86,10 +86,10 @@ module _ (p : KeptItem → Bool) where
 
 -- ---- in bridges
 
-abbrev KeepsIts : List KeptItem → State → Type 0
+abbrev KeepsIts : List KeptItem → BridgeState → Type 0
 KeepsIts nodes bridge = bridge.kept ≡ kept_among nodes bridge.family
 
-found_by : (nodes : List KeptItem) (bridge : State) (v : Address) → KeepsIts nodes bridge
+found_by : (nodes : List KeptItem) (bridge : BridgeState) (v : Address) → KeepsIts nodes bridge
     → found bridge v
     ≡ find address_cmp v
     (map entry_of (filter (λ n. family_eq (family_of n.edge) bridge.family) nodes))
@@ -100,7 +100,7 @@ found_by nodes bridge v h =
     (map entry_of (filter (λ n. family_eq (family_of n.edge) bridge.family) nodes)) v
 
 -- at an address at which no node stands nothing is kept
-pub none_kept : (nodes : List KeptItem) (bridges : List State) (v : Address)
+pub none_kept : (nodes : List KeptItem) (bridges : List BridgeState) (v : Address)
     → All (KeepsIts nodes) bridges → Avoids (map at_of nodes) v → kept_at bridges v ≡ None
 unfolding kept_at
 none_kept nodes [] v h n = refl
@@ -111,7 +111,7 @@ none_kept nodes (bridge ∷ bridges) v h n =
     ∙ none_kept nodes bridges v (All-tail (KeepsIts nodes) bridge bridges h) n
 
 -- a node is kept at its address, where there is a bridge of its family
-pub node_kept : (nodes : List KeptItem) (bridges : List State) (k : KeptItem)
+pub node_kept : (nodes : List KeptItem) (bridges : List BridgeState) (k : KeptItem)
     → All (KeepsIts nodes) bridges → Distinct (map at_of nodes) → Contains nodes k
     → list_any (family_eq (family_of k.edge)) (families_of bridges) ≡ true
     → kept_at bridges k.item.at ≡ Some k

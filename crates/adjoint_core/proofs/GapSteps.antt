@@ -15,7 +15,7 @@ use Rattle.cert_core.proofs.Parts.{gap_is}
 use Rattle.dual_laws.specs.Held.{DualRow, gap}
 use Rattle.user_model.specs.declared.group.Group.{Group}
 use Rattle.adjoint_core.specs.CarriedBack.{GapFits, UnfitGap, group_place}
-use Rattle.adjoint_core.specs.Told.{Tells}
+use Rattle.adjoint_core.specs.Told.{TellsCarried}
 use Rattle.adjoint_core.specs.declared.fault.BackFault.{BackFault}
 use Rattle.adjoint_core.proofs.InOrder.{told_alike}
 
@@ -185,9 +185,9 @@ module _ (ps qs : List Address) (hs gs : List DualRow) (size : length ps ≡ len
       ∙ gap_is (hs ++ gs)
 
   pub gap_told : (r : Result Rational BackFault)
-      → Tells r (GapFits before (zip qs gs)) (λ q. q ≡ sum_from before (gap_parts gs))
+      → TellsCarried r (GapFits before (zip qs gs)) (λ q. q ≡ sum_from before (gap_parts gs))
       (UnfitGap before (zip qs gs))
-      → Tells r (GapFits zero_ℚ (zip ps hs ++ zip qs gs)) (λ q. q ≡ gap (hs ++ gs))
+      → TellsCarried r (GapFits zero_ℚ (zip ps hs ++ zip qs gs)) (λ q. q ≡ gap (hs ++ gs))
       (UnfitGap zero_ℚ (zip ps hs ++ zip qs gs))
   gap_told r h =
       told_alike r (GapFits before (zip qs gs)) (GapFits zero_ℚ (zip ps hs ++ zip qs gs))

@@ -10,7 +10,7 @@ use Rattle.ratio_core.specs.declared.fault.NumberFault.TheVariants as number
 use Rattle.ratio_core.specs.Answers.{ExactWhere}
 use Rattle.aff_core.specs.Address.{Address}
 use Rattle.map_laws.specs.LoopLaws.{next_item}
-use Rattle.adjoint_core.specs.Told.{FirstNot, Tells, TellsAt, told_at}
+use Rattle.adjoint_core.specs.Told.{FirstNot, TellsCarried, TellsCarriedAt, told_at}
 use Rattle.adjoint_core.specs.declared.fault.BackFault.{BackFault}
 use Rattle.adjoint_core.specs.declared.fault.BackFault.TheVariants.{Memory, Overflow}
 
@@ -73,23 +73,23 @@ module _ {X : Type 0} (P : X → Type 0) (place : X → Address) where
 -- ---- answers handed on
 
 by_fault : {T U : Type 0} (e : BackFault) (P Q : Type 0) (A : T → Type 0) (B : U → Type 0)
-    (Told Other : Address → Type 0) → Tells {T = U} (Err e) P B Told
-    → ((at : Address) → Told at → Other at) → Tells {T = T} (Err e) Q A Other
+    (Told Other : Address → Type 0) → TellsCarried {T = U} (Err e) P B Told
+    → ((at : Address) → Told at → Other at) → TellsCarried {T = T} (Err e) Q A Other
 by_fault (Overflow at) P Q A B Told Other said leads = leads at said
 by_fault Memory P Q A B Told Other said leads = tt
 
 -- the fault of a step is that of the whole
 pub told_on : {T U : Type 0} (r : Result T BackFault) (e : BackFault) (P Q : Type 0)
     (A : T → Type 0) (B : U → Type 0) (Told Other : Address → Type 0) → IsErrAnd r (λ x. x ≡ e)
-    → Tells {T = U} (Err e) P B Told → ((at : Address) → Told at → Other at) → Tells r Q A Other
+    → TellsCarried {T = U} (Err e) P B Told → ((at : Address) → Told at → Other at) → TellsCarried r Q A Other
 told_on (Ok x) e P Q A B Told Other is said leads = absurd is
 told_on (Err x) e P Q A B Told Other is said leads =
-    subst (λ y. Tells (Err y) Q A Other) (sym is) (by_fault e P Q A B Told Other said leads)
+    subst (λ y. TellsCarried (Err y) Q A Other) (sym is) (by_fault e P Q A B Told Other said leads)
 
 -- the same answer for the same things
 pub told_alike : {T : Type 0} (r : Result T BackFault) (P Q : Type 0) (A B : T → Type 0)
-    (Told Other : Address → Type 0) → Tells r P A Told → (P → Q) → ((x : T) → A x → B x)
-    → ((at : Address) → Told at → Other at) → Tells r Q B Other
+    (Told Other : Address → Type 0) → TellsCarried r P A Told → (P → Q) → ((x : T) → A x → B x)
+    → ((at : Address) → Told at → Other at) → TellsCarried r Q B Other
 told_alike (Ok x) P Q A B Told Other h fits each leads = (fits h.0, each x h.1)
 told_alike (Err (Overflow at)) P Q A B Told Other h fits each leads = leads at h
 told_alike (Err Memory) P Q A B Told Other h fits each leads = tt
@@ -98,7 +98,7 @@ told_alike (Err Memory) P Q A B Told Other h fits each leads = tt
 
 pub told_err : {T U : Type 0} (e : NumberFault) (P : Type 0) (A : T → Type 0) (B : U → Type 0)
     (place : Address) (f : BackFault) → ExactWhere {T = U} (Err e) P B → f ≡ told_at place e
-    → TellsAt {T = T} (Err f) P A place
+    → TellsCarriedAt {T = T} (Err f) P A place
 told_err number.Overflow P A B place f h is =
-    subst (λ g. TellsAt (Err g) P A place) (sym is) (h, refl)
-told_err number.Memory P A B place f h is = subst (λ g. TellsAt (Err g) P A place) (sym is) tt
+    subst (λ g. TellsCarriedAt (Err g) P A place) (sym is) (h, refl)
+told_err number.Memory P A B place f h is = subst (λ g. TellsCarriedAt (Err g) P A place) (sym is) tt

@@ -18,7 +18,7 @@ use Rattle.user_model.specs.declared.group.Group.{Group}
 use Rattle.user_model.specs.declared.row.Row.{Row}
 use Rattle.certificates.specs.Points.{address_of}
 use Rattle.adjoint_core.specs.CarriedBack.{GapFits, UnfitGap, group_place, placed}
-use Rattle.adjoint_core.specs.Told.{Tells}
+use Rattle.adjoint_core.specs.Told.{TellsCarried}
 use Rattle.adjoint_core.specs.Walk.{row_place}
 use Rattle.adjoint_core.specs.declared.fault.BackFault.{BackFault}
 use Rattle.adjoint_core.proofs.GapSteps.{gap_told}
@@ -43,10 +43,10 @@ module _ (m : ModelValue) (duals : List (List Rational)) (vars : List Rational)
       (is : before ≡ sum_from zero_ℚ (gap_parts (rows_with duals rows))) where
     pub gap_at : (r : Result Rational BackFault)
         → ((w : Address → Rational) → map w (all_addresses groups) ≡ vars
-        → Tells r (GapFits before (zip (map group_place groups) (groups_with w groups)))
+        → TellsCarried r (GapFits before (zip (map group_place groups) (groups_with w groups)))
         (λ q. q ≡ sum_from before (gap_parts (groups_with w groups)))
         (UnfitGap before (zip (map group_place groups) (groups_with w groups))))
-        → Tells r (GapFits zero_ℚ (placed m duals vars)) (λ q. q ≡ dual_gap m duals vars)
+        → TellsCarried r (GapFits zero_ℚ (placed m duals vars)) (λ q. q ≡ dual_gap m duals vars)
         (UnfitGap zero_ℚ (placed m duals vars))
     gap_at r h =
         let w = at_point m vars in
@@ -54,7 +54,7 @@ module _ (m : ModelValue) (duals : List (List Rational)) (vars : List Rational)
         (groups_with w m.groups) places_count before
         (subst (λ rs. GapFits zero_ℚ (zip (map row_place rs) (rows_with duals rs))) rows_are fits)
         (subst (λ rs. before ≡ sum_from zero_ℚ (gap_parts (rows_with duals rs))) rows_are is) r
-        (subst (λ gs. Tells r (GapFits before (zip (map group_place gs) (groups_with w gs)))
+        (subst (λ gs. TellsCarried r (GapFits before (zip (map group_place gs) (groups_with w gs)))
         (λ q. q ≡ sum_from before (gap_parts (groups_with w gs)))
         (UnfitGap before (zip (map group_place gs) (groups_with w gs)))) groups_are
         (h w (subst (λ gs. map w (all_addresses gs) ≡ vars) (sym groups_are) numbers_there)))

@@ -4,8 +4,8 @@ use Rattle.std.proofs.Common.{subst, subst₂, ◌∙◌}
 use Rattle.ratio_core.specs.Rational.{Rational, one_ℚ, zero_ℚ}
 use Rattle.aff_core.specs.Address.{Address}
 use Rattle.aff_core.specs.Function.{Function, evaluated}
-use Rattle.bridge_face.specs.State.{State}
-use Rattle.cert_core.specs.Folds.{EvaluationFits, ObjectiveFits}
+use Rattle.bridge_face.specs.BridgeState.{BridgeState}
+use Rattle.cert_core.specs.Folds.{EvaluationFits, ObjectiveValueFits}
 use Rattle.certificates.specs.Points.{at_point, objective_function, objective_value}
 use Rattle.linear_laws.specs.EvaluationLaws.{evaluated_slope, evaluated_value}
 use Rattle.user_model.specs.Model.{ModelValue}
@@ -31,7 +31,7 @@ move4 P {a} {e} {b} {f} {c} {g} {d} {h} p k l m n =
 
 -- ---- what calls tell of a model's rows and variables
 
-abbrev pub RowsTold : List State → (Address → List Rational) → List (List Rational) → List Row
+abbrev pub RowsTold : List BridgeState → (Address → List Rational) → List (List Rational) → List Row
     → Type 0
 RowsTold states leaf duals rows =
     All (RowDualFits states leaf) rows × (duals ≡ map (row_dual states leaf) rows)
@@ -56,7 +56,7 @@ pub objective_read : (m : ModelValue) (x : List Rational) (q : Rational) (p : Ad
     (o : Objective) → p ≡ at_point m x → o ≡ m.objective
     → EvaluationFits one_ℚ (objective_function o) p
     × (q ≡ evaluated one_ℚ (objective_function o) p)
-    → ObjectiveFits m one_ℚ x × (q ≡ objective_value m x)
+    → ObjectiveValueFits m one_ℚ x × (q ≡ objective_value m x)
 objective_read m x q p o e k h =
     let here = subst₂ (λ (y : Address → Rational) (b : Objective).
     EvaluationFits one_ℚ (objective_function b) y

@@ -13,12 +13,12 @@ use Rattle.item_core.specs.declared.item.Body.{Body}
 use Rattle.item_core.specs.declared.item.Item.{Item}
 use Rattle.item_core.specs.Item.{functions_of}
 use Rattle.bridge_face.specs.Law.{is_objective}
-use Rattle.bridge_face.specs.State.{State}
+use Rattle.bridge_face.specs.BridgeState.{BridgeState}
 use Rattle.bridge_face.specs.declared.kept_item.KeptItem.{KeptItem}
-use Rattle.bridge_plan.specs.Adds.{kept_of}
+use Rattle.bridge_plan.specs.AddsHeld.{kept_of}
 use Rattle.cert_core.specs.Checked.{HasEachDual, HasRowDuals}
 use Rattle.certificates.specs.Duals.{rows_with}
-use Rattle.equality_form.specs.ReadBack.{Answer}
+use Rattle.equality_form.specs.ReadBack.{AnswerByAddress}
 use Rattle.map_laws.specs.EachLaws.{all_both, all_first, all_from_map, all_second}
 use Rattle.fresh_bridging.specs.FreshBridging.{FreshBridging, leaves_of}
 use Rattle.fresh_bridging.specs.Leaves.{leaf_rows}
@@ -33,14 +33,14 @@ use Rattle.address_laws.specs.DistinctLaws.{model_keys_distinct}
 use Rattle.address_laws.specs.KeyLaws.{AreKeys}
 use Rattle.address_laws.specs.Keys.{keys_in, keys_of_each}
 use Rattle.address_laws.specs.LeafKeys.{its_key, leaf_keys_in, no_keys, node_keys_in, node_keys_of_each, nodes_are, row_keys, rows_alone, alone_are}
-use Rattle.tree_laws.specs.Carried.{LeafDuals, backs}
+use Rattle.tree_laws.specs.Carried.{LeafAnswerDuals, backs}
 use Rattle.tree_laws.specs.Certificate.{rows_of}
 use Rattle.tree_laws.specs.PrimalLaws.{others_there, rows_from}
 use Rattle.tree_laws.specs.UserLaws.{item_functions_are}
 use Rattle.adjoint_core.specs.CanCarry.{CanCarry, HasLeafDuals}
 use Rattle.adjoint_core.specs.CarriedBack.{AllRowsFit, IsUnfitRow, RowsFit, UnfitRow}
 use Rattle.adjoint_core.specs.Told.{FirstNot}
-use Rattle.adjoint_core.specs.Walk.{AreWithin, DualFits, IsUnfitAmong, IsWithin, RowDualFits, dual_at, levels, row_dual, row_place}
+use Rattle.adjoint_core.specs.Walk.{AreRowsWithin, DualBelowFits, IsRowWithin, IsUnfitAmong, RowDualFits, dual_at, levels, row_dual, row_place}
 use Rattle.adjoint_core.proofs.BackSizes.{row_size}
 use Rattle.tree_laws.specs.BesideLaws.{all_beside}
 use Rattle.adjoint_core.proofs.Found.{node_kept, none_kept}
@@ -123,7 +123,7 @@ first_of_rows P (r ∷ rows) at (inr k) = inr (k.0, first_of_rows P rows at k.1)
 
 -- ---- a model that is bridged
 
-module _ (states : List State) (places : AddressMap) (model : ModelValue) (answer : Answer)
+module _ (states : List BridgeState) (places : AddressMap) (model : ModelValue) (answer : AnswerByAddress)
     (can : CanCarry states places model answer) (valid : IsValid model) where
   abbrev bridging : FreshBridging can.setting model
   bridging = can.bridging
@@ -170,7 +170,7 @@ module _ (states : List State) (places : AddressMap) (model : ModelValue) (answe
       (model_keys_distinct can.setting can.costly can.lawful model valid bridging row_keys its_key
       rows_and_nodes)))
 
-  module _ (d : LeafDuals) (sizes : HasLeafDuals (leaves_of bridging) d.duals) where
+  module _ (d : LeafAnswerDuals) (sizes : HasLeafDuals (leaves_of bridging) d.duals) where
     abbrev KnownHere : ℕ × Item → Type 0
     KnownHere =
         Known can.setting can.costly bridging.choice bridging.chosen can.lawful states
@@ -252,7 +252,7 @@ module _ (states : List State) (places : AddressMap) (model : ModelValue) (answe
     count = length-map model.rows row_item
 
     pub record RowsCarried : Type 0 where
-      pub within : AreWithin states d.duals model.rows
+      pub within : AreRowsWithin states d.duals model.rows
       pub fits : AllRowsFit bridging d → All (RowDualFits states d.duals) model.rows
       pub only : All (RowDualFits states d.duals) model.rows → AllRowsFit bridging d
       pub unfit : (at : Address) → IsUnfitAmong states d.duals model.rows at
@@ -263,24 +263,24 @@ module _ (states : List State) (places : AddressMap) (model : ModelValue) (answe
     rows_carried = record {
       within = record {
         each =
-            all_from_map (IsWithin states d.duals levels) row_place model.rows
-            (subst (All (IsWithin states d.duals levels)) (ats_are model.rows) walked.within);
+            all_from_map (IsRowWithin states d.duals levels) row_place model.rows
+            (subst (All (IsRowWithin states d.duals levels)) (ats_are model.rows) walked.within);
         sizes = row_sizes model.rows (map (row_dual states d.duals) model.rows)
             (ap (map length) duals_are ∙ walked.sizes);
       };
       fits = λ h.
-          all_from_map (DualFits states d.duals levels) row_place model.rows
-          (subst (All (DualFits states d.duals levels)) (ats_are model.rows)
+          all_from_map (DualBelowFits states d.duals levels) row_place model.rows
+          (subst (All (DualBelowFits states d.duals levels)) (ats_are model.rows)
           (walked.fits (subst (λ n. RowsFit d n bridging.made.others) (sym count) h)));
       only = λ h.
           subst (λ n. RowsFit d n bridging.made.others) count
-          (walked.only (subst (All (DualFits states d.duals levels)) (sym (ats_are model.rows))
-          (All-map (DualFits states d.duals levels) row_place model.rows h)));
+          (walked.only (subst (All (DualBelowFits states d.duals levels)) (sym (ats_are model.rows))
+          (All-map (DualBelowFits states d.duals levels) row_place model.rows h)));
       unfit = λ at h.
           subst (λ n. UnfitRow d n bridging.made.others at) count
-          (walked.unfit at (subst (λ l. FirstNot (DualFits states d.duals levels) (λ v. v) l at)
+          (walked.unfit at (subst (λ l. FirstNot (DualBelowFits states d.duals levels) (λ v. v) l at)
           (sym (ats_are model.rows))
-          (first_of_rows (DualFits states d.duals levels) model.rows at h)));
+          (first_of_rows (DualBelowFits states d.duals levels) model.rows at h)));
       same = duals_are ∙ ap (λ n. take n (backs d bridging.made.others)) count;
     }
       where

@@ -25,10 +25,10 @@ use Rattle.item_core.specs.KindOf.{kind_of_body}
 use Rattle.bridge_face.specs.BackOf.{BackFits, back_of}
 use Rattle.bridge_face.specs.ImageOf.{image_of}
 use Rattle.bridge_face.specs.Law.{is_objective, listed}
-use Rattle.bridge_face.specs.State.{State, child_rows_of}
+use Rattle.bridge_face.specs.BridgeState.{BridgeState, child_rows_of}
 use Rattle.bridge_face.specs.declared.kept_item.KeptItem.{KeptItem}
 use Rattle.bridge_set.specs.Bridges.{families_of}
-use Rattle.bridge_plan.specs.Adds.{kept_of}
+use Rattle.bridge_plan.specs.AddsHeld.{kept_of}
 use Rattle.fresh_bridging.specs.BodyLaws.{length_put}
 use Rattle.fresh_bridging.specs.CanLaws.{AreLawful, down, same_entry}
 use Rattle.map_laws.specs.EachLaws.{all_at, all_first, all_from_map, all_second, cons_head, cons_tail}
@@ -42,11 +42,11 @@ use Rattle.address_laws.specs.ClassLaws.{item_class}
 use Rattle.address_laws.specs.ImageLaws.{rows_alone}
 use Rattle.address_laws.specs.KeyLaws.{law_of}
 use Rattle.address_laws.specs.PutLaws.{group_stays, objective_stays}
-use Rattle.tree_laws.specs.Carried.{LeafDuals, back, backs}
+use Rattle.tree_laws.specs.Carried.{LeafAnswerDuals, back, backs}
 use Rattle.tree_laws.specs.SeenLaws.{IsRowHere, child_rows_here}
 use Rattle.adjoint_core.specs.CarriedBack.{RowFits, RowsFit, UnfitRow}
 use Rattle.adjoint_core.specs.Told.{FirstNot}
-use Rattle.adjoint_core.specs.Walk.{DualFits, FitsBy, IsWithin, Takes, TakesBy, dual_at, dual_by, kept_at, levels, row_places}
+use Rattle.adjoint_core.specs.Walk.{DualBelowFits, FitsBelow, IsRowWithin, TakesBy, TakesChildDuals, dual_at, dual_by, kept_at, levels, row_places}
 use Rattle.adjoint_core.proofs.BackSizes.{IsRowFor, back_size, few_rows, is_of_numbers, is_of_vectors, is_scalar_kind, row_size}
 
 -- ---- what the table says of numbers and vectors
@@ -105,37 +105,37 @@ children_deep at ns n h =
 
 -- ---- a node and a leaf, as they are found
 
-module _ (states : List State) (leaf : Address → List Rational) where
+module _ (states : List BridgeState) (leaf : Address → List Rational) where
   -- what is kept at an address is this, whose child rows stand at these places with these duals
   pub record NodeRead (n : ℕ) (at : Address) (kept : KeptItem) (ps : List Address)
       (ys : List (List Rational)) : Type 0 where
-    pub within : IsWithin states leaf (suc n) at
-    pub fits : All (DualFits states leaf n) ps × BackFits kept.edge kept.item ys
-        → DualFits states leaf (suc n) at
-    pub only : DualFits states leaf (suc n) at
-        → All (DualFits states leaf n) ps × BackFits kept.edge kept.item ys
+    pub within : IsRowWithin states leaf (suc n) at
+    pub fits : All (DualBelowFits states leaf n) ps × BackFits kept.edge kept.item ys
+        → DualBelowFits states leaf (suc n) at
+    pub only : DualBelowFits states leaf (suc n) at
+        → All (DualBelowFits states leaf n) ps × BackFits kept.edge kept.item ys
     pub same : dual_at states leaf (suc n) at ≡ back_of kept.edge kept.item ys
 
   pub node_read : (n : ℕ) (at : Address) (kept : KeptItem) (ps : List Address)
       (ys : List (List Rational)) → kept_at states at ≡ Some kept → row_places at kept ≡ ps
-      → map (dual_at states leaf n) ps ≡ ys → Takes (dual_at states leaf n) at kept
-      → All (IsWithin states leaf n) ps → NodeRead n at kept ps ys
-  unfolding dual_at DualFits IsWithin dual_by FitsBy TakesBy
+      → map (dual_at states leaf n) ps ≡ ys → TakesChildDuals (dual_at states leaf n) at kept
+      → All (IsRowWithin states leaf n) ps → NodeRead n at kept ps ys
+  unfolding dual_at DualBelowFits IsRowWithin dual_by FitsBelow TakesBy
   node_read n at kept ps ys is places duals takes within =
       let below = dual_at states leaf n in
       let made : map below (row_places at kept) ≡ ys = ap (map below) places ∙ duals in
       record {
         within =
-            subst (TakesBy states leaf below (IsWithin states leaf n) at) (sym is)
-            (takes, subst (All (IsWithin states leaf n)) (sym places) within);
+            subst (TakesBy states leaf below (IsRowWithin states leaf n) at) (sym is)
+            (takes, subst (All (IsRowWithin states leaf n)) (sym places) within);
         fits = λ h.
-            subst (FitsBy states leaf below (DualFits states leaf n) at) (sym is) (
-              subst (All (DualFits states leaf n)) (sym places) h.0,
+            subst (FitsBelow states leaf below (DualBelowFits states leaf n) at) (sym is) (
+              subst (All (DualBelowFits states leaf n)) (sym places) h.0,
               subst (BackFits kept.edge kept.item) (sym made) h.1,
             );
         only = λ h.
-            let now = subst (FitsBy states leaf below (DualFits states leaf n) at) is h in (
-              subst (All (DualFits states leaf n)) places now.0,
+            let now = subst (FitsBelow states leaf below (DualBelowFits states leaf n) at) is h in (
+              subst (All (DualBelowFits states leaf n)) places now.0,
               subst (BackFits kept.edge kept.item) made now.1,
             );
         same =
@@ -144,17 +144,17 @@ module _ (states : List State) (leaf : Address → List Rational) where
       }
 
   pub record LeafRead (n : ℕ) (at : Address) : Type 0 where
-    pub within : IsWithin states leaf (suc n) at
-    pub fits : DualFits states leaf (suc n) at
+    pub within : IsRowWithin states leaf (suc n) at
+    pub fits : DualBelowFits states leaf (suc n) at
     pub same : dual_at states leaf (suc n) at ≡ leaf at
 
   pub leaf_read : (n : ℕ) (at : Address) → kept_at states at ≡ None → LeafRead n at
-  unfolding dual_at DualFits IsWithin dual_by FitsBy TakesBy
+  unfolding dual_at DualBelowFits IsRowWithin dual_by FitsBelow TakesBy
   leaf_read n at is =
       let below = dual_at states leaf n in
       record {
-        within = subst (TakesBy states leaf below (IsWithin states leaf n) at) (sym is) tt;
-        fits = subst (FitsBy states leaf below (DualFits states leaf n) at) (sym is) tt;
+        within = subst (TakesBy states leaf below (IsRowWithin states leaf n) at) (sym is) tt;
+        fits = subst (FitsBelow states leaf below (DualBelowFits states leaf n) at) (sym is) tt;
         same = ap (dual_by states leaf below at) is;
       }
 
@@ -177,8 +177,8 @@ only_row i = by i.body
 -- ---- along a bridging
 
 module _ (setting : Setting) (costly : IsCostly (graph_of setting)) (choice : ℕ → Choice)
-    (chosen : AreChoices setting choice) (lawful : AreLawful setting) (states : List State)
-    (families : families_of states ≡ setting.families) (d : LeafDuals) where
+    (chosen : AreChoices setting choice) (lawful : AreLawful setting) (states : List BridgeState)
+    (families : families_of states ≡ setting.families) (d : LeafAnswerDuals) where
   abbrev IsHereRow : Item → Type 0
   IsHereRow item = IsRowHere setting costly choice chosen lawful item
 
@@ -198,9 +198,9 @@ module _ (setting : Setting) (costly : IsCostly (graph_of setting)) (choice : �
   -- ---- what a walk to an address gives
 
   pub record Walks (n : ℕ) (item : Item) (Fits : Type 0) (dual : List Rational) : Type 0 where
-    pub within : IsWithin states d.duals n item.at
-    pub fits : Fits → DualFits states d.duals n item.at
-    pub only : DualFits states d.duals n item.at → Fits
+    pub within : IsRowWithin states d.duals n item.at
+    pub fits : Fits → DualBelowFits states d.duals n item.at
+    pub only : DualBelowFits states d.duals n item.at → Fits
     pub same : dual_at states d.duals n item.at ≡ dual
     pub size : length dual ≡ length (functions_of item.body)
 
@@ -209,10 +209,10 @@ module _ (setting : Setting) (costly : IsCostly (graph_of setting)) (choice : �
 
   pub record RowsWalk (n : ℕ) (rows : List Item) (Fits : Type 0) (Unfit : Address → Type 0)
       (duals : List (List Rational)) : Type 0 where
-    pub within : All (IsWithin states d.duals n) (ats rows)
-    pub fits : Fits → All (DualFits states d.duals n) (ats rows)
-    pub only : All (DualFits states d.duals n) (ats rows) → Fits
-    pub unfit : (at : Address) → FirstNot (DualFits states d.duals n) (λ v. v) (ats rows) at
+    pub within : All (IsRowWithin states d.duals n) (ats rows)
+    pub fits : Fits → All (DualBelowFits states d.duals n) (ats rows)
+    pub only : All (DualBelowFits states d.duals n) (ats rows) → Fits
+    pub unfit : (at : Address) → FirstNot (DualBelowFits states d.duals n) (λ v. v) (ats rows) at
         → Unfit at
     pub same : map (dual_at states d.duals n) (ats rows) ≡ duals
     pub sizes : map length duals ≡ map row_size rows
@@ -221,8 +221,8 @@ module _ (setting : Setting) (costly : IsCostly (graph_of setting)) (choice : �
       → RowsWalk n [] Fits Unfit []
   unfolding FirstNot
   rows_none n Fits Unfit fits = record {
-    within = All-nil (IsWithin states d.duals n);
-    fits = λ _. All-nil (DualFits states d.duals n);
+    within = All-nil (IsRowWithin states d.duals n);
+    fits = λ _. All-nil (DualBelowFits states d.duals n);
     only = λ _. fits;
     unfit = λ at h. absurd h;
     same = refl;
@@ -237,11 +237,11 @@ module _ (setting : Setting) (costly : IsCostly (graph_of setting)) (choice : �
       (λ at. (¬ First × (c.at ≡ at)) ⊎ (First × Unfit at)) (dual ∷ duals)
   unfolding FirstNot
   rows_more n inner c rows First Fits Unfit dual duals row w more = record {
-    within = All-cons (IsWithin states d.duals n) c.at (ats rows) w.within more.within;
-    fits = λ h. All-cons (DualFits states d.duals n) c.at (ats rows) (w.fits h.0) (more.fits h.1);
+    within = All-cons (IsRowWithin states d.duals n) c.at (ats rows) w.within more.within;
+    fits = λ h. All-cons (DualBelowFits states d.duals n) c.at (ats rows) (w.fits h.0) (more.fits h.1);
     only = λ h. (
-      w.only (All-head (DualFits states d.duals n) c.at (ats rows) h),
-      more.only (All-tail (DualFits states d.duals n) c.at (ats rows) h),
+      w.only (All-head (DualBelowFits states d.duals n) c.at (ats rows) h),
+      more.only (All-tail (DualBelowFits states d.duals n) c.at (ats rows) h),
     );
     unfit = λ at h. first at h;
     same = ap₂ ◌∷◌ w.same more.same;
@@ -249,9 +249,9 @@ module _ (setting : Setting) (costly : IsCostly (graph_of setting)) (choice : �
   }
     where
       first : (at : Address)
-          → (¬ (DualFits states d.duals n c.at) × (c.at ≡ at))
-          ⊎ (DualFits states d.duals n c.at
-          × FirstNot (DualFits states d.duals n) (λ v. v) (ats rows) at)
+          → (¬ (DualBelowFits states d.duals n c.at) × (c.at ≡ at))
+          ⊎ (DualBelowFits states d.duals n c.at
+          × FirstNot (DualBelowFits states d.duals n) (λ v. v) (ats rows) at)
           → (¬ First × (c.at ≡ at)) ⊎ (First × Unfit at)
       first at (inl h) = inl ((λ f. h.0 (w.fits f)), h.1)
       first at (inr h) = inr (w.only h.0, more.unfit at h.1)

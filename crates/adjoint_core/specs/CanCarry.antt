@@ -6,9 +6,9 @@ use Rattle.address_map.specs.AddressMap.{AddressMap}
 use Rattle.aff_core.specs.Address.{Address}
 use Rattle.bridge_set.specs.Bridges.{families_of}
 use Rattle.bridge_set.specs.Nodes.{nodes_by}
-use Rattle.bridge_face.specs.State.{State}
+use Rattle.bridge_face.specs.BridgeState.{BridgeState}
 use Rattle.bridge_graph.specs.Hypergraph.{IsCostly}
-use Rattle.equality_form.specs.ReadBack.{Answer, infeasible, optimal, unbounded}
+use Rattle.equality_form.specs.ReadBack.{AnswerByAddress, infeasible, optimal, unbounded}
 use Rattle.fresh_bridging.specs.CanLaws.{AreLawful}
 use Rattle.fresh_bridging.specs.FreshBridging.{FreshBridging, leaves_of}
 use Rattle.fresh_bridging.specs.TheRules.{Setting, graph_of}
@@ -24,13 +24,13 @@ abbrev pub HasLeafDuals : LeafModel → (Address → List Rational) → Type 0
 HasLeafDuals leaves y =
     All (λ row. length (y row.0) ≡ length (functions_of row.1)) (finite.entries leaves.rows)
 
-abbrev pub HasItsDuals : LeafModel → Answer → Type 0
+abbrev pub HasItsDuals : LeafModel → AnswerByAddress → Type 0
 HasItsDuals leaves (optimal x y) = HasLeafDuals leaves y
 HasItsDuals leaves (infeasible y) = HasLeafDuals leaves y
 HasItsDuals leaves (unbounded x d) = Unit {0}
 
-pub record CanCarry (states : List State) (map : AddressMap) (model : ModelValue)
-    (answer : Answer) : Type 0 where
+pub record CanCarry (states : List BridgeState) (map : AddressMap) (model : ModelValue)
+    (answer : AnswerByAddress) : Type 0 where
   -- a table and the families of the bridges
   pub setting : Setting
   pub families : families_of states ≡ setting.families
@@ -39,6 +39,6 @@ pub record CanCarry (states : List State) (map : AddressMap) (model : ModelValue
   pub native : SupportsNativeKinds setting
   -- the fresh bridging by these, as the bridges and the map hold it
   pub bridging : FreshBridging setting model
-  pub kept : All (λ (bridge : State). bridge.kept ≡ nodes_by bridging bridge.family) states
+  pub kept : All (λ (bridge : BridgeState). bridge.kept ≡ nodes_by bridging bridge.family) states
   pub exprs : map.exprs ≡ expressions_by bridging
   pub duals : HasItsDuals (leaves_of bridging) answer

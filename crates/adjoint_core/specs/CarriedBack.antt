@@ -13,23 +13,23 @@ use Rattle.aff_core.specs.Function.{Function, slope, value_of}
 use Rattle.aff_core.specs.declared.root.Root.TheVariants as root
 use Rattle.bridge_face.specs.BackOf.{BackFits}
 use Rattle.bridge_face.specs.ImageOf.{image_of}
-use Rattle.cert_core.specs.Folds.{AddUp, EvaluationFits, ObjectiveFits, ReducedCostFits, adjoint_parts, gap_parts_of}
+use Rattle.cert_core.specs.Folds.{AddUp, EvaluationFits, ObjectiveValueFits, ReducedCostFits, adjoint_parts, gap_parts_of}
 use Rattle.certificates.specs.declared.certificate.Certificate.{Certificate}
 use Rattle.certificates.specs.Duals.{adjoint_of_rows, groups_with, reduced_cost, rows_with}
 use Rattle.certificates.specs.Points.{addresses_of, at_point, objective_coefficient, sense_of}
 use Rattle.dual_laws.specs.Held.{DualRow}
-use Rattle.equality_form.specs.ReadBack.{Answer, infeasible, optimal, unbounded}
+use Rattle.equality_form.specs.ReadBack.{AnswerByAddress, infeasible, optimal, unbounded}
 use Rattle.expansion.specs.Bridged.{Bridged, EachBridgedIn, by, each_in, natively, none_in}
 use Rattle.expansion.specs.Rules.{Rules}
 use Rattle.fresh_bridging.specs.Entries.{Entry, function_in}
 use Rattle.fresh_bridging.specs.FreshBridging.{FreshBridging}
 use Rattle.fresh_bridging.specs.TheRules.{Setting, edge_at}
 use Rattle.item_core.specs.declared.item.Item.{Item}
-use Rattle.tree_laws.specs.Carried.{LeafDuals, backs}
+use Rattle.tree_laws.specs.Carried.{LeafAnswerDuals, backs}
 use Rattle.tree_laws.specs.Certificate.{certificate_of, infeasible_duals, optimal_duals, rows_of}
 use Rattle.user_model.specs.Model.{ModelValue, variables}
 use Rattle.user_model.specs.declared.group.Group.{Group}
-use Rattle.adjoint_core.specs.Told.{FirstNot, Tells}
+use Rattle.adjoint_core.specs.Told.{FirstNot, TellsCarried}
 use Rattle.adjoint_core.specs.Walk.{row_place}
 use Rattle.adjoint_core.specs.declared.fault.BackFault.{BackFault}
 
@@ -39,7 +39,7 @@ Then not_now now not_later = not_now ⊎ (now × not_later)
 
 -- ---- rows
 
-module _ {rules : Rules Item Entry} (d : LeafDuals) where
+module _ {rules : Rules Item Entry} (d : LeafAnswerDuals) where
   unfoldable mutual
     -- what is carried back to a row, and to each row below it
     pub RowFits : {item : Item} {entries : List Entry} → Bridged rules item entries → Type 0
@@ -101,14 +101,14 @@ users model = addresses_of (variables model)
 -- by its variables' expressions
 module _ (model : ModelValue) (expression : Address → Function) where
   -- a variable's value, and what it is along a ray
-  abbrev pub ValueFits : (Address → Rational) → Address → Type 0
-  ValueFits x v = EvaluationFits one_ℚ (expression v) x
+  abbrev pub VariableValueFits : (Address → Rational) → Address → Type 0
+  VariableValueFits x v = EvaluationFits one_ℚ (expression v) x
 
   abbrev pub EntryFits : (Address → Rational) → Address → Type 0
   EntryFits d v = EvaluationFits zero_ℚ (expression v) d
 
-  abbrev pub BothFit : (Address → Rational) → (Address → Rational) → Address → Type 0
-  BothFit x d v = ValueFits x v × EntryFits d v
+  abbrev pub PointAndRayFit : (Address → Rational) → (Address → Rational) → Address → Type 0
+  PointAndRayFit x d v = VariableValueFits x v × EntryFits d v
 
   abbrev pub point : (Address → Rational) → List Rational
   point x = map (λ v. value_of (expression v) x) (users model)
@@ -122,8 +122,8 @@ module _ (model : ModelValue) (rows : List (List Rational)) where
   abbrev pub AdjointFits : Address → Type 0
   AdjointFits v = AddUp zero_ℚ (adjoint_parts (rows_with rows model.rows) v)
 
-  abbrev pub DualFits : Address → Type 0
-  DualFits v = AdjointFits v × ReducedCostFits model rows v
+  abbrev pub VariableDualFits : Address → Type 0
+  VariableDualFits v = AdjointFits v × ReducedCostFits model rows v
 
   abbrev pub reduced : List Rational
   reduced =
@@ -140,25 +140,25 @@ module _ (model : ModelValue) (rows : List (List Rational)) where
 module _ (model : ModelValue) (rows : List (List Rational)) (RowsFit : Type 0)
     (IsUnfitRow : Address → Type 0) where
   -- values, duals of rows, duals of variables, and the objective's value
-  abbrev pub OptimalFits : (Address → Function) → (Address → Rational) → Type 0
-  OptimalFits expression x =
-      All (ValueFits model expression x) (users model)
-      × (RowsFit × (All (DualFits model rows) (users model)
-      × ObjectiveFits model one_ℚ (point model expression x)))
+  abbrev pub OptimalBackFits : (Address → Function) → (Address → Rational) → Type 0
+  OptimalBackFits expression x =
+      All (VariableValueFits model expression x) (users model)
+      × (RowsFit × (All (VariableDualFits model rows) (users model)
+      × ObjectiveValueFits model one_ℚ (point model expression x)))
 
   abbrev pub IsUnfitOptimal : (Address → Function) → (Address → Rational) → Address → Type 0
   IsUnfitOptimal expression x at =
-      Then (FirstNot (ValueFits model expression x) (λ v. v) (users model) at)
-      (All (ValueFits model expression x) (users model))
+      Then (FirstNot (VariableValueFits model expression x) (λ v. v) (users model) at)
+      (All (VariableValueFits model expression x) (users model))
       (Then (IsUnfitRow at) RowsFit
-      (Then (FirstNot (DualFits model rows) (λ v. v) (users model) at)
-      (All (DualFits model rows) (users model))
-      (¬ (ObjectiveFits model one_ℚ (point model expression x))
+      (Then (FirstNot (VariableDualFits model rows) (λ v. v) (users model) at)
+      (All (VariableDualFits model rows) (users model))
+      (¬ (ObjectiveValueFits model one_ℚ (point model expression x))
       × (root_address root.Objective 0 ≡ at))))
 
   -- duals of rows, duals of variables, and the gap
-  abbrev pub InfeasibleFits : Type 0
-  InfeasibleFits =
+  abbrev pub InfeasibleBackFits : Type 0
+  InfeasibleBackFits =
       RowsFit × (All (AdjointFits model rows) (users model)
       × GapFits zero_ℚ (gap_parts_placed model rows))
 
@@ -175,34 +175,34 @@ module _ {setting : Setting} {model : ModelValue} (bridging : FreshBridging sett
   abbrev expression : Address → Function
   expression = function_in bridging.made.entries
 
-  abbrev pub AllRowsFit : LeafDuals → Type 0
+  abbrev pub AllRowsFit : LeafAnswerDuals → Type 0
   AllRowsFit d = RowsFit d (length model.rows) bridging.made.others
 
-  abbrev pub IsUnfitRow : LeafDuals → Address → Type 0
+  abbrev pub IsUnfitRow : LeafAnswerDuals → Address → Type 0
   IsUnfitRow d at = UnfitRow d (length model.rows) bridging.made.others at
 
   -- everything fits
-  abbrev pub AllFits : Answer → Type 0
+  abbrev pub AllFits : AnswerByAddress → Type 0
   AllFits (optimal x y) =
       let d = optimal_duals bridging y in
-      OptimalFits model (rows_of bridging d) (AllRowsFit d) (IsUnfitRow d) expression x
+      OptimalBackFits model (rows_of bridging d) (AllRowsFit d) (IsUnfitRow d) expression x
   AllFits (infeasible y) =
       let d = infeasible_duals bridging y in
-      InfeasibleFits model (rows_of bridging d) (AllRowsFit d) (IsUnfitRow d)
-  AllFits (unbounded x d) = All (BothFit model expression x d) (users model)
+      InfeasibleBackFits model (rows_of bridging d) (AllRowsFit d) (IsUnfitRow d)
+  AllFits (unbounded x d) = All (PointAndRayFit model expression x d) (users model)
 
   -- the first that doesn't is reported at the address
-  abbrev pub IsFirstUnfit : Answer → Address → Type 0
-  IsFirstUnfit (optimal x y) at =
+  abbrev pub IsFirstUnfitAddress : AnswerByAddress → Address → Type 0
+  IsFirstUnfitAddress (optimal x y) at =
       let d = optimal_duals bridging y in
       IsUnfitOptimal model (rows_of bridging d) (AllRowsFit d) (IsUnfitRow d) expression x at
-  IsFirstUnfit (infeasible y) at =
+  IsFirstUnfitAddress (infeasible y) at =
       let d = infeasible_duals bridging y in
       IsUnfitInfeasible model (rows_of bridging d) (AllRowsFit d) (IsUnfitRow d) at
-  IsFirstUnfit (unbounded x d) at =
-      FirstNot (BothFit model expression x d) (λ v. v) (users model) at
+  IsFirstUnfitAddress (unbounded x d) at =
+      FirstNot (PointAndRayFit model expression x d) (λ v. v) (users model) at
 
   -- the certificate exactly where everything fits, and else the first address at which it doesn't
-  abbrev pub CarriesBack : Answer → Result Certificate BackFault → Type 0
-  CarriesBack answer result =
-      Tells result (AllFits answer) (λ c. c ≡ certificate_of bridging answer) (IsFirstUnfit answer)
+  abbrev pub CarriesAnswerBack : AnswerByAddress → Result Certificate BackFault → Type 0
+  CarriesAnswerBack answer result =
+      TellsCarried result (AllFits answer) (λ c. c ≡ certificate_of bridging answer) (IsFirstUnfitAddress answer)

@@ -3,14 +3,14 @@ use Rattle.std.specs.Prelude.{List, [], unwrap_or}
 use Rattle.std.specs.FinMap as finite
 use Rattle.std.specs.FinMap.{FinMap}
 use Rattle.std.specs.Ordering.{nat_cmp}
-use Rattle.address_map.specs.AddressMap.{AddressMap, Expressions}
+use Rattle.address_map.specs.AddressMap.{AddressMap, ExpressionsByAddress}
 use Rattle.aff_core.specs.Address.{Address}
 use Rattle.aff_core.specs.Function.{Function, variable}
 use Rattle.ratio_core.specs.Rational.{Rational, zero_ℚ}
 use Rattle.std_form.specs.Answers.{at_address}
 
 -- a variable's expression: one that has none stands for itself
-abbrev pub expression_at : Expressions → Address → Function
+abbrev pub expression_at : ExpressionsByAddress → Address → Function
 expression_at exprs v = unwrap_or (finite.get exprs v) (variable v)
 
 -- the numbers of leaf variables, which are 0 elsewhere

@@ -8,15 +8,17 @@ use Rattle.adjoint_core.specs.declared.fault.BackFault.TheVariants.{Memory, Over
 
 -- a value with Q exactly where P holds, and else an overflow at this address; of running out of
 -- memory nothing is said
-abbrev pub Tells : {T : Type 0} → Result T BackFault → Type 0 → (T → Type 0) → (Address → Type 0)
+abbrev pub TellsCarried : {T : Type 0} → Result T BackFault → Type 0 → (T → Type 0)
+    → (Address → Type 0)
     → Type 0
-Tells (Ok x) P Q Told = P × Q x
-Tells (Err (Overflow at)) P Q Told = Told at
-Tells (Err Memory) P Q Told = Unit {0}
+TellsCarried (Ok x) P Q Told = P × Q x
+TellsCarried (Err (Overflow at)) P Q Told = Told at
+TellsCarried (Err Memory) P Q Told = Unit {0}
 
 -- the overflow is at this address
-abbrev pub TellsAt : {T : Type 0} → Result T BackFault → Type 0 → (T → Type 0) → Address → Type 0
-TellsAt result P Q place = Tells result P Q (λ at. ¬ P × (place ≡ at))
+abbrev pub TellsCarriedAt : {T : Type 0} → Result T BackFault → Type 0 → (T → Type 0) → Address
+    → Type 0
+TellsCarriedAt result P Q place = TellsCarried result P Q (λ at. ¬ P × (place ≡ at))
 
 -- the first of the things that isn't P is at the address
 unfoldable pub FirstNot : {X : Type 0} → (X → Type 0) → (X → Address) → List X → Address → Type 0

@@ -5,7 +5,7 @@ ghost use Rattle.certificates.specs.Good.{Good};
 ghost use Rattle.certificates.specs.Points.{objective_value};
 ghost use Rattle.certificates.specs.declared.certificate.Certificate.TheVariants.{Infeasible, Optimal, Unbounded};
 ghost use Rattle.certificates.specs.Duals.{dual_gap};
-ghost use Rattle.cert_core.specs.Folds.{ObjectiveFits};
+ghost use Rattle.cert_core.specs.Folds.{ObjectiveValueFits};
 ghost use Rattle.equality_form.specs.Right.{IsRight};
 ghost use Rattle.fresh_bridging.specs.FreshBridging.{leaves_of};
 ghost use Rattle.ratio_core.specs.Rational.{one_ℚ};
@@ -13,10 +13,10 @@ ghost use Rattle.aff_core.specs.Address.{root_address};
 ghost use Rattle.aff_core.specs.declared.root.Root.TheVariants.{Objective};
 ghost use Rattle.std_form.specs.Answers.{answer_of};
 ghost use Rattle.adjoint_core.specs.CanCarry.{CanCarry};
-ghost use Rattle.adjoint_core.specs.CarriedBack.{BothFit, CarriesBack, InfeasibleFits, IsUnfitInfeasible, IsUnfitOptimal, OptimalFits, cancelled, point, ray, reduced, users};
+ghost use Rattle.adjoint_core.specs.CarriedBack.{CarriesAnswerBack, InfeasibleBackFits, IsUnfitInfeasible, IsUnfitOptimal, OptimalBackFits, PointAndRayFit, cancelled, point, ray, reduced, users};
 ghost use Rattle.adjoint_core.specs.Read.{duals_by, expression_at, numbers_by};
-ghost use Rattle.adjoint_core.specs.Told.{FirstNot, Tells, TellsAt};
-ghost use Rattle.adjoint_core.specs.Walk.{AreWithin, IsUnfitAmong, RowDualFits, row_dual};
+ghost use Rattle.adjoint_core.specs.Told.{FirstNot, TellsCarried, TellsCarriedAt};
+ghost use Rattle.adjoint_core.specs.Walk.{AreRowsWithin, IsUnfitAmong, RowDualFits, row_dual};
 
 use crate::BackFault;
 use crate::costs::{cancelling, reduced_costs};
@@ -27,7 +27,7 @@ use crate::values::{values, values_and_entries};
 use address_map::AddressMap;
 use aff_core::{Address, Root};
 use bridge_face::Bridge;
-use cert_core::{Certificate, Point, ValueOrSlope, Variables, reading_of};
+use cert_core::{Certificate, ModelPoint, ValueOrSlope, Variables, reading_of};
 use lists::Sequence;
 use model_store::UserModel;
 use ratio_core::{Ratio, Ratios};
@@ -49,7 +49,7 @@ pub fn carry_back<B: Bridge>(
         (answer_of map.now a.now) }
     ensures carried { (can : CanCarry (prelude.map B.state bridges.now) map.now model.now.model
         (answer_of map.now a.now))
-        → CarriesBack can.bridging (answer_of map.now a.now) result }
+        → CarriesAnswerBack can.bridging (answer_of map.now a.now) result }
     ensures right { (can : CanCarry (prelude.map B.state bridges.now) map.now model.now.model
         (answer_of map.now a.now))
         → IsRight (leaves_of can.bridging) (answer_of map.now a.now)
@@ -72,7 +72,7 @@ fn optimal<B: Bridge>(
     x: &LeafPoint,
     y: &LeafDuals,
 ) -> Result<Certificate, BackFault>
-    requires { AreWithin (prelude.map B.state bridges.now) (duals_by places.now y.now)
+    requires { AreRowsWithin (prelude.map B.state bridges.now) (duals_by places.now y.now)
         model.now.model.rows }
     ensures { let m = model.now.model in let f = expression_at places.now.exprs in
         let states = prelude.map B.state bridges.now in let leaf = duals_by places.now y.now in
@@ -80,7 +80,7 @@ fn optimal<B: Bridge>(
         let fit = prelude.All (RowDualFits states leaf) m.rows in
         let unfit = IsUnfitAmong states leaf m.rows in
         let values = numbers_by places.now x.now in
-        Tells result (OptimalFits m duals fit unfit f values)
+        TellsCarried result (OptimalBackFits m duals fit unfit f values)
         (λ c. c ≡ Optimal (objective_value m (point m f values)) (point m f values) duals
         (reduced m duals))
         (IsUnfitOptimal m duals fit unfit f values) }
@@ -102,13 +102,13 @@ fn optimal<B: Bridge>(
 // The objective's value at a point.
 fn value_at(model: &UserModel, variables: &Variables, x: &[Ratio]) -> Result<Ratio, BackFault>
     requires { variables.now ≡ users model.now.model }
-    ensures { TellsAt result (ObjectiveFits model.now.model one_ℚ x.now)
+    ensures { TellsCarriedAt result (ObjectiveValueFits model.now.model one_ℚ x.now)
         (λ q. q ≡ objective_value model.now.model x.now) (root_address Objective 0) }
 {
     match reading_of(
         model.objective(),
         ValueOrSlope::Value,
-        &Point::new(variables, x),
+        &ModelPoint::new(variables, x),
     ) {
         Ok(value) => Ok(value),
         Err(fault) => Err(BackFault::of_number(&Address::root(Root::Objective, 0), fault)),
@@ -122,14 +122,14 @@ fn infeasible<B: Bridge>(
     model: &UserModel,
     y: &LeafDuals,
 ) -> Result<Certificate, BackFault>
-    requires { AreWithin (prelude.map B.state bridges.now) (duals_by places.now y.now)
+    requires { AreRowsWithin (prelude.map B.state bridges.now) (duals_by places.now y.now)
         model.now.model.rows }
     ensures { let m = model.now.model in
         let states = prelude.map B.state bridges.now in let leaf = duals_by places.now y.now in
         let duals = prelude.map (row_dual states leaf) m.rows in
         let fit = prelude.All (RowDualFits states leaf) m.rows in
         let unfit = IsUnfitAmong states leaf m.rows in
-        Tells result (InfeasibleFits m duals fit unfit)
+        TellsCarried result (InfeasibleBackFits m duals fit unfit)
         (λ c. c ≡ Infeasible (dual_gap m duals (cancelled m duals)) duals (cancelled m duals))
         (IsUnfitInfeasible m duals fit unfit) }
 {
@@ -153,9 +153,9 @@ fn unbounded(
 ) -> Result<Certificate, BackFault>
     ensures { let m = model.now.model in let f = expression_at places.now.exprs in
         let values = numbers_by places.now x.now in let along = numbers_by places.now d.now in
-        Tells result (prelude.All (BothFit m f values along) (users m))
+        TellsCarried result (prelude.All (PointAndRayFit m f values along) (users m))
         (λ c. c ≡ Unbounded (point m f values) (ray m f along))
-        (FirstNot (BothFit m f values along) (λ v. v) (users m)) }
+        (FirstNot (PointAndRayFit m f values along) (λ v. v) (users m)) }
 {
     let users = Variables::of(alloc, model.groups())?;
     let leaf = LeafNumbers::of(alloc, places, x)?;

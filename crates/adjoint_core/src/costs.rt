@@ -11,7 +11,7 @@ ghost use Rattle.ratio_core.specs.Folds.{sum_from};
 ghost use Rattle.ratio_core.specs.Rational.{neg_ℚ, zero_ℚ};
 ghost use Rattle.ratio_core.specs.Answers.{ExactWhere};
 ghost use Rattle.adjoint_core.specs.Prefix.{IsAsFarAs};
-ghost use Rattle.adjoint_core.specs.Told.{FirstNot, Tells, TellsAt};
+ghost use Rattle.adjoint_core.specs.Told.{FirstNot, TellsCarried, TellsCarriedAt};
 
 use crate::BackFault;
 use aff_core::Address;
@@ -33,7 +33,7 @@ pub(crate) fn reduced_costs(
     ensures { let hs = dual.rows_with duals.now rows.now.items in
         let sense = sense_of objective.now in
         let cost = coefficient (objective_function objective.now) in
-        Tells result
+        TellsCarried result
         (All (λ v. AddUp zero_ℚ (adjoint_parts hs v) × CostFits sense (cost v) (adjoint hs v))
         users.now)
         (λ vars. vars.items ≡ map (λ v. dual.reduced_cost sense (cost v) (adjoint hs v)) users.now)
@@ -55,7 +55,7 @@ pub(crate) fn reduced_costs(
 fn cost_left(objective: &Objective, user: &Address, adjoint: &Ratio) -> Result<Ratio, BackFault>
     ensures { let sense = sense_of objective.now in
         let cost = coefficient (objective_function objective.now) user.now in
-        TellsAt result (CostFits sense cost adjoint.now)
+        TellsCarriedAt result (CostFits sense cost adjoint.now)
         (λ q. q ≡ dual.reduced_cost sense cost adjoint.now) user.now }
 {
     match reduced_cost(sense(objective), &cost(objective, user), adjoint) {
@@ -73,7 +73,7 @@ pub(crate) fn cancelling(
 ) -> Result<Vec<Ratio>, BackFault>
     requires { HasRowDuals rows.now.items duals.now }
     ensures { let hs = dual.rows_with duals.now rows.now.items in
-        Tells result (All (λ v. AddUp zero_ℚ (adjoint_parts hs v)) users.now)
+        TellsCarried result (All (λ v. AddUp zero_ℚ (adjoint_parts hs v)) users.now)
         (λ vars. vars.items ≡ map (λ v. neg_ℚ (adjoint hs v)) users.now)
         (FirstNot (λ v. AddUp zero_ℚ (adjoint_parts hs v)) (λ v. v) users.now) }
 {

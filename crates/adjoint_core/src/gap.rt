@@ -11,7 +11,7 @@ ghost use Rattle.ratio_core.specs.Folds.{sum_from};
 ghost use Rattle.ratio_core.specs.Rational.{Rational, zero_ℚ};
 ghost use Rattle.user_model.specs.Model.{variables};
 ghost use Rattle.adjoint_core.specs.CarriedBack.{GapFits, UnfitGap, group_place, placed};
-ghost use Rattle.adjoint_core.specs.Told.{Tells, TellsAt};
+ghost use Rattle.adjoint_core.specs.Told.{TellsCarried, TellsCarriedAt};
 ghost use Rattle.adjoint_core.specs.Walk.{row_place};
 
 use crate::BackFault;
@@ -26,7 +26,7 @@ pub(crate) fn gap(model: &UserModel, rows: &[Ratios], vars: &[Ratio]) -> Result<
     requires entries { HasRowDuals model.now.model.rows rows.now }
     requires size { length vars.now ≡ length (variables model.now.model) }
     ensures { let all = placed model.now.model rows.now vars.now in
-        Tells result (GapFits zero_ℚ all) (λ q. q ≡ dual_gap model.now.model rows.now vars.now)
+        TellsCarried result (GapFits zero_ℚ all) (λ q. q ≡ dual_gap model.now.model rows.now vars.now)
         (UnfitGap zero_ℚ all) }
 {
     let of_rows = gap_of_rows(model.rows(), rows)?;
@@ -38,7 +38,7 @@ fn gap_of_rows(rows: &Rows, duals: &[Ratios]) -> Result<Ratio, BackFault>
     requires entries { HasRowDuals rows.now.items duals.now }
     ensures { let hs = rows_with duals.now rows.now.items in
         let all = zip (map row_place rows.now.items) hs in
-        Tells result (GapFits zero_ℚ all) (λ q. q ≡ sum_from zero_ℚ (gap_parts hs))
+        TellsCarried result (GapFits zero_ℚ all) (λ q. q ≡ sum_from zero_ℚ (gap_parts hs))
         (UnfitGap zero_ℚ all) }
 {
     let mut sum = Ratio::zero();
@@ -52,7 +52,7 @@ fn with_row(sum: &Ratio, row: &Row, duals: &[Ratio]) -> Result<Ratio, BackFault>
     requires set { HasRowSet row.now }
     requires size { length duals.now ≡ length (functions_of row.now.func) }
     ensures { let parts = gap_parts_of (row_with duals.now row.now) in
-        TellsAt result (AddUp sum.now parts) (λ q. q ≡ sum_from sum.now parts)
+        TellsCarriedAt result (AddUp sum.now parts) (λ q. q ≡ sum_from sum.now parts)
         (row_place row.now) }
 {
     match plus_row(sum, row, duals) {
@@ -68,7 +68,7 @@ fn plus_each_group(of_rows: &Ratio, groups: &Groups, duals: &[Ratio]) -> Result<
     ensures { (w : Address → Rational) → map w (all_addresses groups.now.items) ≡ duals.now
         → let hs = groups_with w groups.now.items in
         let all = zip (map group_place groups.now.items) hs in
-        Tells result (GapFits of_rows.now all) (λ q. q ≡ sum_from of_rows.now (gap_parts hs))
+        TellsCarried result (GapFits of_rows.now all) (λ q. q ≡ sum_from of_rows.now (gap_parts hs))
         (UnfitGap of_rows.now all) }
 {
     let mut sum = *of_rows;
@@ -86,7 +86,7 @@ fn with_group(sum: &Ratio, group: &Group, duals: &[Ratio]) -> Result<Ratio, Back
     requires size { length duals.now ≡ length group.now.vars }
     ensures { (w : Address → Rational) → map w (addresses_of group.now.vars) ≡ duals.now
         → let parts = gap_parts_of (group_with w group.now) in
-        TellsAt result (AddUp sum.now parts) (λ q. q ≡ sum_from sum.now parts)
+        TellsCarriedAt result (AddUp sum.now parts) (λ q. q ≡ sum_from sum.now parts)
         (group_place group.now) }
 {
     match plus_group(sum, group, duals) {

@@ -7,7 +7,7 @@ ghost use Rattle.cert_core.specs.Points.{numbers_in};
 ghost use Rattle.adjoint_core.specs.Read.{numbers_by};
 
 use address_map::AddressMap;
-use cert_core::{Point, Variables};
+use cert_core::{ModelPoint, Variables};
 use lists::Memory;
 use ratio_core::Ratio;
 use solver_store::LeafPoint;
@@ -41,10 +41,10 @@ impl LeafNumbers {
         })
     }
 
-    pub(crate) fn point(&self) -> Point<'_>
+    pub(crate) fn point(&self) -> ModelPoint<'_>
         ensures { numbers_in result ≡ spread self.now.variables self.now.numbers.items }
     {
-        Point::new(&self.variables, &self.numbers)
+        ModelPoint::new(&self.variables, &self.numbers)
     }
 }
 

@@ -2,10 +2,10 @@
 ghost use Rattle.std.specs.Prelude.{◌≡◌, ◌<◌, ◌≤◌, All, IfOk, IsNone, MatchOption, Some, map};
 ghost use Rattle.std.specs.Option.{option_map};
 ghost use Rattle.ratio_core.specs.Answers.{ExactWhere};
-ghost use Rattle.bridge_face.specs.State.{child_rows_of, found};
+ghost use Rattle.bridge_face.specs.BridgeState.{child_rows_of, found};
 ghost use Rattle.adjoint_core.specs.Read.{duals_by};
-ghost use Rattle.adjoint_core.specs.Told.{Tells, TellsAt};
-ghost use Rattle.adjoint_core.specs.Walk.{AreWithin, DualFits, IsUnfitAmong, IsWithin, RowDualFits, dual_at, kept_at, levels, row_dual, row_place};
+ghost use Rattle.adjoint_core.specs.Told.{TellsCarried, TellsCarriedAt};
+ghost use Rattle.adjoint_core.specs.Walk.{AreRowsWithin, DualBelowFits, IsRowWithin, IsUnfitAmong, RowDualFits, dual_at, kept_at, levels, row_dual, row_place};
 
 use crate::BackFault;
 use address_map::AddressMap;
@@ -29,9 +29,9 @@ pub(crate) fn row_duals<B: Bridge>(
     y: &LeafDuals,
     rows: &Rows,
 ) -> Result<Vec<Ratios>, BackFault>
-    requires { AreWithin (map B.state bridges.now) (duals_by places.now y.now) rows.now.items }
+    requires { AreRowsWithin (map B.state bridges.now) (duals_by places.now y.now) rows.now.items }
     ensures { let states = map B.state bridges.now in let leaf = duals_by places.now y.now in
-        Tells result (All (RowDualFits states leaf) rows.now.items)
+        TellsCarried result (All (RowDualFits states leaf) rows.now.items)
         (λ duals. duals.items ≡ map (row_dual states leaf) rows.now.items)
         (IsUnfitAmong states leaf rows.now.items) }
 {
@@ -50,10 +50,10 @@ fn user_dual<B: Bridge>(
     y: &LeafDuals,
     row: &Row,
 ) -> Result<Ratios, BackFault>
-    requires { IsWithin (map B.state bridges.now) (duals_by places.now y.now) levels
+    requires { IsRowWithin (map B.state bridges.now) (duals_by places.now y.now) levels
         (row_place row.now) }
     ensures { let states = map B.state bridges.now in let leaf = duals_by places.now y.now in
-        TellsAt result (RowDualFits states leaf row.now)
+        TellsCarriedAt result (RowDualFits states leaf row.now)
         (λ dual. dual ≡ row_dual states leaf row.now) (row_place row.now) }
 {
     let at = Address::root(Root::Row, row.id);
@@ -72,9 +72,9 @@ fn dual_below<B: Bridge>(
     at: &Address,
     levels: u8,
 ) -> Result<Ratios, NumberFault>
-    requires { IsWithin (map B.state bridges.now) (duals_by places.now y.now) levels at.now }
+    requires { IsRowWithin (map B.state bridges.now) (duals_by places.now y.now) levels at.now }
     ensures { let states = map B.state bridges.now in let leaf = duals_by places.now y.now in
-        ExactWhere result (DualFits states leaf levels at.now)
+        ExactWhere result (DualBelowFits states leaf levels at.now)
         (λ dual. dual ≡ dual_at states leaf levels at.now) }
 {
     let Some(keeper) = find_keeper(bridges, at) else {

@@ -7,12 +7,12 @@ ghost use Rattle.cert_core.specs.Readings.{one_of};
 ghost use Rattle.ratio_core.specs.Rational.{one_ℚ, zero_ℚ};
 ghost use Rattle.ratio_core.specs.Answers.{ExactWhere};
 ghost use Rattle.adjoint_core.specs.Read.{expression_at};
-ghost use Rattle.adjoint_core.specs.Told.{FirstNot, Tells, TellsAt};
+ghost use Rattle.adjoint_core.specs.Told.{FirstNot, TellsCarried, TellsCarriedAt};
 
 use crate::BackFault;
 use address_map::AddressMap;
 use aff_core::Address;
-use cert_core::{Point, ValueOrSlope};
+use cert_core::{ModelPoint, ValueOrSlope};
 use ratio_core::{NumberFault, Ratio};
 use std::alloc::Global;
 
@@ -21,10 +21,10 @@ pub(crate) fn values(
     alloc: Global,
     places: &AddressMap,
     users: &[Address],
-    at: &Point,
+    at: &ModelPoint,
 ) -> Result<Vec<Ratio>, BackFault>
     ensures { let f = expression_at places.now.exprs in let x = numbers_in at.now in
-        Tells result (All (λ v. EvaluationFits one_ℚ (f v) x) users.now)
+        TellsCarried result (All (λ v. EvaluationFits one_ℚ (f v) x) users.now)
         (λ values. values.items ≡ map (λ v. evaluated one_ℚ (f v) x) users.now)
         (FirstNot (λ v. EvaluationFits one_ℚ (f v) x) (λ v. v) users.now) }
 {
@@ -47,12 +47,12 @@ pub(crate) fn values_and_entries(
     alloc: Global,
     places: &AddressMap,
     users: &[Address],
-    at: &Point,
-    along: &Point,
+    at: &ModelPoint,
+    along: &ModelPoint,
 ) -> Result<PointAndRay, BackFault>
     ensures { let f = expression_at places.now.exprs in
         let x = numbers_in at.now in let d = numbers_in along.now in
-        Tells result
+        TellsCarried result
         (All (λ v. EvaluationFits one_ℚ (f v) x × EvaluationFits zero_ℚ (f v) d) users.now)
         (λ both. (both.values.items ≡ map (λ v. evaluated one_ℚ (f v) x) users.now)
         × (both.entries.items ≡ map (λ v. evaluated zero_ℚ (f v) d) users.now))
@@ -73,10 +73,10 @@ fn value(
     reading: ValueOrSlope,
     places: &AddressMap,
     user: &Address,
-    at: &Point,
+    at: &ModelPoint,
 ) -> Result<Ratio, BackFault>
     ensures { let f = expression_at places.now.exprs user.now in let x = numbers_in at.now in
-        TellsAt result (EvaluationFits (one_of reading) f x)
+        TellsCarriedAt result (EvaluationFits (one_of reading) f x)
         (λ q. q ≡ evaluated (one_of reading) f x) user.now }
 {
     match read(reading, places, user, at) {
@@ -89,7 +89,7 @@ fn read(
     reading: ValueOrSlope,
     places: &AddressMap,
     user: &Address,
-    at: &Point,
+    at: &ModelPoint,
 ) -> Result<Ratio, NumberFault>
     ensures { let f = expression_at places.now.exprs user.now in let x = numbers_in at.now in
         ExactWhere result (EvaluationFits (one_of reading) f x)

@@ -6,7 +6,7 @@ use Rattle.aff_core.specs.Address.{Address}
 use Rattle.aff_core.specs.Function.{Function, terms_of}
 
 -- the term at place n is that of the address
-pub record IsPlaceOf (f : Function) (at : Address) (n : ℕ) : Type 0 where
+pub record IsTermPlace (f : Function) (at : Address) (n : ℕ) : Type 0 where
   pub in_range : n < length (terms_of f)
   pub found : (d : Address × Rational) → get f.terms at ≡ Some (slice_index_or (terms_of f) n d).1
 

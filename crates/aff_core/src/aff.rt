@@ -16,7 +16,7 @@ use std::alloc::Global;
 pub type Aff = AffineFunction<Address>;
 
 impl Aff {
-    ghost use Rattle.aff_core.specs.Kept.{IsPlaceOf, IsAbsent, IsSpanOf};
+    ghost use Rattle.aff_core.specs.Kept.{IsTermPlace, IsAbsent, IsSpanOf};
 
     /// The function that is a number everywhere.
     pub fn constant_function(alloc: Global, constant: Ratio) -> Aff
@@ -78,7 +78,7 @@ impl Aff {
 
     // Where the address stands among the terms, or where it would.
     pub(crate) fn place(&self, at: &Address) -> Result<usize, usize>
-        ensures found { IfOk result (IsPlaceOf self.now at.now) }
+        ensures found { IfOk result (IsTermPlace self.now at.now) }
         ensures absent { OnErr result (IsAbsent self.now at.now) }
         ensures span { MatchResult result
             (λ n. IsSpanOf self.now at.now n 1) (λ n. IsSpanOf self.now at.now n 0) }

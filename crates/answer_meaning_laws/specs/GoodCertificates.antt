@@ -14,14 +14,14 @@ use Rattle.user_model.specs.Valid.{IsValid}
 
 module _ (model : ModelValue) where
   -- the point is feasible and has this value, and no feasible point has a better one
-  pub record IsBest (value : Rational) (x : List Rational) : Type 0 where
+  pub record IsBestPoint (value : Rational) (x : List Rational) : Type 0 where
     pub feasible : IsFeasible model x
     pub reached : value ≡ objective_value model x
     pub best : (y : List Rational) → IsFeasible model y
         → ¬ (IsBetter (sense_of model.objective) (objective_value model y) value)
 
   abbrev pub Shows : Certificate → Type 0
-  Shows (Optimal value x rows vars) = IsBest value x
+  Shows (Optimal value x rows vars) = IsBestPoint value x
   Shows (Infeasible gap rows vars) = (y : List Rational) → ¬ (IsFeasible model y)
   Shows (Unbounded x d) = (b : Rational) → BetterPoint model b
 

@@ -9,10 +9,10 @@ use Rattle.simplex_core.specs.declared.answer.SolverAnswer.{SolverAnswer}
 use Rattle.simplex_core.specs.declared.answer.SolverAnswer.TheVariants.{Infeasible, Optimal, Unbounded}
 use Rattle.simplex_core.specs.declared.fault.SolveFault.{SolveFault}
 use Rattle.simplex_core.specs.declared.fault.SolveFault.TheVariants.{Limit, Memory, Overflow}
-use Rattle.simplex_form.specs.Basis.{State, start}
+use Rattle.simplex_form.specs.Basis.{BasisState, start}
 use Rattle.simplex_form.specs.Fit.{start_fits, turn_fits}
 use Rattle.simplex_form.specs.Form.{Form}
-use Rattle.simplex_form.specs.Outcome.{HasTrail, IsOutcome, ended, limited, overflowing}
+use Rattle.simplex_form.specs.TrailOutcome.{HasTrail, IsOutcome, ended, limited, overflowing}
 use Rattle.simplex_form.specs.Readings.{readings}
 use Rattle.simplex_form.specs.Trail.{ends, reached, trail}
 use Rattle.simplex_form.specs.Turns.{turn}
@@ -60,17 +60,17 @@ AnswersEndTrails =
     → IsAlongTrail F n result
 
 module _ (F : Form) (n : ℕ) where
-  last_of : (k : ℕ) (s : State) (basis : List ℕ) → HasTrail F k → s ≡ reached F k
+  last_of : (k : ℕ) (s : BasisState) (basis : List ℕ) → HasTrail F k → s ≡ reached F k
       → basis ≡ s.basis → IsLastBasis F k basis
   last_of k s basis has is same = record {
     phase = (reached F k).phase;
     long = has.long;
     last = trail-reached F k k has (omega arith)
         ∙ ap (λ b. Some ((reached F k).phase, b))
-        (sym (same ∙ ap (λ (r : State). r.basis) is));
+        (sym (same ∙ ap (λ (r : BasisState). r.basis) is));
   }
 
-  read_basis : (s : State) (t : Turn) (answer : SolverAnswer) → IsReadOff F s t answer
+  read_basis : (s : BasisState) (t : Turn) (answer : SolverAnswer) → IsReadOff F s t answer
       → basis_of answer ≡ s.basis
   read_basis s t (Optimal x y basis) h = h.3
   read_basis s t (Infeasible y basis) h = h.2
@@ -99,7 +99,7 @@ module _ (F : Form) (n : ℕ) where
       by (subst (IsOutcome F n) is (outcome_is F n))
     where
       by : IsOutcome F n (overflowing s) → IsAlongTrail F n (Err (Overflow basis))
-      by (inl (unfit, first)) = inl (unfit, same ∙ ap (λ (r : State). r.basis) first)
+      by (inl (unfit, first)) = inl (unfit, same ∙ ap (λ (r : BasisState). r.basis) first)
       by (inr (k, less, has, is, goes, unfit)) = inr (
         k,
         less,

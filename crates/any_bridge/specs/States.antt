@@ -2,15 +2,15 @@
 use Rattle.std.specs.FinMap as finite
 use Rattle.any_bridge.specs.declared.bridge.AnyBridge.{AnyBridge}
 use Rattle.any_bridge.specs.declared.bridge.AnyBridge.TheVariants as bridges
-use Rattle.bridge_face.specs.State.{State, state_of}
+use Rattle.bridge_face.specs.BridgeState.{BridgeState, state_of}
 use Rattle.item_core.specs.declared.family.Family.{Family}
 use Rattle.item_core.specs.declared.family.Family.TheVariants as families
 
 -- of a bridge that was just made
-abbrev pub fresh : Family → State
+abbrev pub fresh : Family → BridgeState
 fresh family = record { family = family; kept = finite.empty; turns = 0 }
 
-abbrev pub state_of_any : AnyBridge → State
+abbrev pub state_of_any : AnyBridge → BridgeState
 state_of_any (bridges.GreaterLess b) = state_of families.GreaterLess b
 state_of_any (bridges.OrthantFlip b) = state_of families.OrthantFlip b
 state_of_any (bridges.NonposVar b) = state_of families.NonposVar b

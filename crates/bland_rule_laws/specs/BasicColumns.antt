@@ -7,7 +7,7 @@ use Rattle.std.proofs.lemmas.Grind.{get_or_default_zero}
 use Rattle.std.proofs.lemmas.List.Elements.{Contains-get_or}
 use Rattle.ratio_core.specs.Rational.{Rational, zero_ℚ, ◌*ℚ◌, ◌-ℚ◌}
 use Rattle.rational_laws.specs.Field.{+ℚ-neg_ℚ, one_not_zero}
-use Rattle.simplex_form.specs.Basis.{IsBasis, State, basic}
+use Rattle.simplex_form.specs.Basis.{BasisState, IsBasis, basic}
 use Rattle.simplex_form.specs.Board.{entry, price}
 use Rattle.simplex_form.specs.BoundedSums.{delta}
 use Rattle.simplex_form.specs.Form.{Form}
@@ -16,10 +16,10 @@ use Rattle.simplex_laws.specs.BoundedSumLaws.{delta_other, delta_same, delta_sym
 use Rattle.simplex_laws.specs.SearchLaws.{some_below_false, some_below_true}
 
 -- whether column j is basic
-abbrev pub is_basic : Form → State → ℕ → Bool
+abbrev pub is_basic : Form → BasisState → ℕ → Bool
 is_basic F s j = some_below F.rows (λ i. nat_eq (basic s i) j)
 
-module _ (F : Form) (s : State) (j : ℕ) where
+module _ (F : Form) (s : BasisState) (j : ℕ) where
   -- the row of a basic column
   pub basic_row : is_basic F s j ≡ true → (i : ℕ) × (i < F.rows) × (basic s i ≡ j)
   basic_row e =
@@ -44,7 +44,7 @@ module _ (F : Form) (s : State) (j : ℕ) where
           in absurd (none found.0 found.1 found.2)
       by_test false h = h
 
-module _ (F : Form) (s : State) (basis : IsBasis F s) where
+module _ (F : Form) (s : BasisState) (basis : IsBasis F s) where
   -- two rows have two basic columns
   pub basic_distinct : (i k : ℕ) → i < F.rows → k < F.rows → basic s i ≡ basic s k → i ≡ k
   basic_distinct i k b c e =

@@ -7,13 +7,13 @@ use Rattle.simplex_form.specs.declared.turn.Phase.{Phase}
 use Rattle.simplex_form.specs.declared.turn.Phase.TheVariants.{First, Second, Sweep}
 use Rattle.simplex_form.specs.declared.turn.Turn.{Turn}
 use Rattle.simplex_form.specs.declared.turn.Turn.TheVariants.{Infeasible, Optimal, Pivot, Stuck, Unbounded}
-use Rattle.simplex_form.specs.Basis.{State, basic}
+use Rattle.simplex_form.specs.Basis.{BasisState, basic}
 use Rattle.simplex_form.specs.Board.{pivot}
 use Rattle.simplex_form.specs.Fit.{turn_fits}
 use Rattle.simplex_form.specs.Form.{Form, IsStandard}
-use Rattle.simplex_form.specs.Outcome.{IsOutcome}
+use Rattle.simplex_form.specs.TrailOutcome.{IsOutcome}
 use Rattle.simplex_form.specs.Readings.{Readings, readings}
-use Rattle.simplex_form.specs.Standing.{Says, Stands}
+use Rattle.simplex_form.specs.Standing.{StandsAtBasis, TurnSays}
 use Rattle.simplex_form.specs.Trail.{IsWithinPhase, after, pivot_phase, reached}
 use Rattle.simplex_form.specs.Turns.{entering, enters, leaving, second_turn, sweep_turn, swept_entry, turn, turn_in}
 use Rattle.simplex_laws.specs.BoardLaws.{basic-pivot_at}
@@ -23,11 +23,11 @@ use Rattle.simplex_laws.specs.TrailLaws.{reached_stands, trail-goes_on}
 use Rattle.simplex_laws.specs.TurnLaws.{turn_says}
 use Rattle.bland_rule_laws.specs.BasicColumns.{is_basic}
 use Rattle.bland_rule_laws.specs.Counting.{number_of, number_of-below, number_of-same, pigeonhole, two_lem}
-use Rattle.bland_rule_laws.specs.Cycles.{IsBounded, IsUnlimited, most_steps}
+use Rattle.bland_rule_laws.specs.Cycles.{IsTrailBounded, IsUnlimited, most_steps}
 use Rattle.bland_rule_laws.specs.NeverRepeats.{never_equal}
 use Rattle.bland_rule_laws.specs.PhaseSteps.{moves_of, phase_step}
 use Rattle.bland_rule_laws.specs.Sequences.{carried}
-use Rattle.bland_rule_laws.specs.Steps.{Moves}
+use Rattle.bland_rule_laws.specs.Steps.{ReplacesBasic}
 
 -- ---- the phase of a turn, also of one that ends the trail
 
@@ -87,7 +87,7 @@ pivot-phase (Unbounded q) e = absurd (true≢false (sym e))
 pivot-phase Optimal e = absurd (true≢false (sym e))
 
 -- the basis after a pivot is of its phase
-after-phase : (F : Form) (s : State) (t : Turn) → is_some (pivot_phase t) ≡ true
+after-phase : (F : Form) (s : BasisState) (t : Turn) → is_some (pivot_phase t) ≡ true
     → (after F s t).phase ≡ phase_of t
 unfolding pivot
 after-phase F s (Pivot phase r q) e = refl
@@ -103,7 +103,7 @@ row_of (Pivot phase r q) = r
 row_of t = 0
 
 -- its artificial column gives way to a real one
-record SweepsRow (F : Form) (s t : State) (r : ℕ) : Type 0 where
+record SweepsRow (F : Form) (s t : BasisState) (r : ℕ) : Type 0 where
   within : r < F.rows
   artificial : F.reals ≤ basic s r
   real : basic t r < F.reals
@@ -111,7 +111,8 @@ record SweepsRow (F : Form) (s t : State) (r : ℕ) : Type 0 where
 other_phase : (p o : Phase) → ¬ (rank p ≡ rank o) → ¬ (p ≡ o)
 other_phase p o n e = n (ap rank e)
 
-sweeps_row : (F : Form) (s : State) → Stands F s → (t : Turn) → Says F s t → phase_of t ≡ Sweep
+sweeps_row : (F : Form) (s : BasisState) → StandsAtBasis F s → (t : Turn) → TurnSays F s t
+    → phase_of t ≡ Sweep
     → SweepsRow F s (after F s t) (row_of t)
 sweeps_row F s h (Pivot First r q) k e = absurd (other_phase First Sweep (λ g. omega (arith, g)) e)
 sweeps_row F s h (Pivot Sweep r q) k e = record {
@@ -184,7 +185,7 @@ module _ (F : Form) (standard : IsStandard F) (n : ℕ)
   abbrev row_at : ℕ → ℕ
   row_at k = row_of (turn F (reached F k))
 
-  abbrev stands : (k : ℕ) → Stands F (reached F k)
+  abbrev stands : (k : ℕ) → StandsAtBasis F (reached F k)
   stands k = reached_stands F standard k
 
   phase-later : (k : ℕ) → k < n → rank (phase_at k) ≤ rank (phase_at (suc k))
@@ -238,7 +239,7 @@ module _ (F : Form) (standard : IsStandard F) (n : ℕ)
       clash : (x c : ℕ) → x < c → c ≤ x → ⊥
       clash x c h k = absurd (omega (arith, h, k))
 
-      stays_real : (r : ℕ) (s t : State) → Moves F s t → basic s r < F.reals
+      stays_real : (r : ℕ) (s t : BasisState) → ReplacesBasic F s t → basic s r < F.reals
           → basic t r < F.reals
       stays_real r s t m real =
           same_or_other (basic t r < F.reals) r m.row
@@ -293,7 +294,7 @@ module _ (F : Form) (standard : IsStandard F) (n : ℕ)
       from_count n w m p e h = omega (arith, e, h)
 
 -- a trail has fewer pivots than the bound
-pub bounded : (F : Form) → IsStandard F → IsBounded F
+pub bounded : (F : Form) → IsStandard F → IsTrailBounded F
 bounded F standard n h =
     below_bound F standard n (λ k b. (and_parts (is_some (pivot_phase (turn F (reached F k))))
     (turn_fits (readings F (reached F k)) (turn F (reached F k)))

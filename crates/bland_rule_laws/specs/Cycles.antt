@@ -2,13 +2,13 @@
 use Rattle.std.specs.Prelude.{◌≡◌, ℕ, ◌+◌, ◌<◌, ◌≤◌, ◌^◌, ◌⊎◌}
 use Rattle.std.specs.List.{Contains}
 use Rattle.simplex_form.specs.declared.turn.Phase.{Phase}
-use Rattle.simplex_form.specs.Basis.{State}
+use Rattle.simplex_form.specs.Basis.{BasisState}
 use Rattle.simplex_form.specs.Form.{Form}
-use Rattle.simplex_form.specs.Outcome.{HasTrail, limited, outcome}
+use Rattle.simplex_form.specs.TrailOutcome.{HasTrail, limited, outcome}
 use Rattle.simplex_form.specs.Trail.{IsWithinPhase, reached}
 
 -- some column is basic at one of the two and not at the other
-abbrev pub DifferInAColumn : State → State → Type 0
+abbrev pub DifferInAColumn : BasisState → BasisState → Type 0
 DifferInAColumn s t = (j : ℕ)
     × ((Contains s.basis j × ¬ (Contains t.basis j)) ⊎ (¬ (Contains s.basis j) × Contains t.basis j))
 
@@ -24,9 +24,9 @@ abbrev pub most_steps : Form → ℕ
 most_steps F = 2 ^ (F.reals + F.rows + 1) + F.rows
 
 -- a trail has fewer pivots than that
-abbrev pub IsBounded : Form → Type 0
-IsBounded F = (n : ℕ) → HasTrail F n → n < most_steps F
+abbrev pub IsTrailBounded : Form → Type 0
+IsTrailBounded F = (n : ℕ) → HasTrail F n → n < most_steps F
 
 -- with an allowance of as many pivots no trail is cut off before its end
 abbrev pub IsUnlimited : Form → Type 0
-IsUnlimited F = (n : ℕ) (s : State) → most_steps F ≤ n → ¬ (outcome F n ≡ limited s)
+IsUnlimited F = (n : ℕ) (s : BasisState) → most_steps F ≤ n → ¬ (outcome F n ≡ limited s)

@@ -4,17 +4,17 @@ use Rattle.std.specs.Prelude.{◌≡◌, ℕ, suc, ◌+◌, ◌<◌, ◌≤◌, 
 use Rattle.std.proofs.Common.{sym, ◌∙◌, ap, arith}
 use Rattle.ratio_core.specs.Rational.{Rational, zero_ℚ, ◌≤ℚ◌}
 use Rattle.rational_laws.specs.Order.{≤ℚ_antisymm, ≤ℚ_from_≡, ≤ℚ_refl, ≤ℚ_trans}
-use Rattle.simplex_form.specs.Basis.{State, basic}
+use Rattle.simplex_form.specs.Basis.{BasisState, basic}
 use Rattle.simplex_form.specs.Board.{right_side}
 use Rattle.simplex_form.specs.Form.{Form}
-use Rattle.simplex_form.specs.Standing.{Stands}
+use Rattle.simplex_form.specs.Standing.{StandsAtBasis}
 use Rattle.bland_rule_laws.specs.BasicColumns.{basic_if, is_basic, price-is_basic}
 use Rattle.bland_rule_laws.specs.Exchange.{value, value-same}
 use Rattle.bland_rule_laws.specs.Sequences.{carried}
 use Rattle.bland_rule_laws.specs.Steps.{IsStep, degenerate, never_dearer}
 
-module _ (F : Form) (cost : ℕ → Rational) (S : ℕ → State) (a b : ℕ)
-    (stands : (k : ℕ) → Stands F (S k))
+module _ (F : Form) (cost : ℕ → Rational) (S : ℕ → BasisState) (a b : ℕ)
+    (stands : (k : ℕ) → StandsAtBasis F (S k))
     (step : (k : ℕ) → a ≤ k → k < b → IsStep F cost (S k) (S (suc k))) where
   value-falls : (x y : ℕ) → a ≤ x → x ≤ y → y ≤ b → value F cost (S y) ≤ℚ value F cost (S x)
   value-falls x y c d e =

@@ -5,7 +5,7 @@ use Rattle.std.proofs.Common.{sym, ◌∙◌, ap}
 use Rattle.ratio_core.specs.Rational.{Rational, zero_ℚ, ◌*ℚ◌, ◌+ℚ◌, ◌-ℚ◌}
 use Rattle.rational_laws.specs.Field.{zero-*ℚ, zero-+ℚ}
 use Rattle.rational_laws.specs.Ring.{as_expression, by_ring, ring₂, ring₃}
-use Rattle.simplex_form.specs.Basis.{IsBasis, State, basic, times}
+use Rattle.simplex_form.specs.Basis.{BasisState, IsBasis, basic, times}
 use Rattle.simplex_form.specs.Board.{entry, multiplier, price, right_side}
 use Rattle.simplex_form.specs.BoundedSums.{sum_to}
 use Rattle.simplex_form.specs.Form.{Form, column, weighted}
@@ -14,10 +14,10 @@ use Rattle.simplex_laws.specs.PivotLaws.{products_regrouped}
 use Rattle.simplex_laws.specs.ValueLaws.{price_by_multipliers, weighted-multiplier}
 
 -- what the point costs
-abbrev pub value : Form → (ℕ → Rational) → State → Rational
+abbrev pub value : Form → (ℕ → Rational) → BasisState → Rational
 value F cost s = sum_to F.rows (λ i. cost (basic s i) *ℚ right_side F s i)
 
-module _ (F : Form) (s t : State) (left : IsBasis F s) (right : IsBasis F t)
+module _ (F : Form) (s t : BasisState) (left : IsBasis F s) (right : IsBasis F t)
     (cost : ℕ → Rational) where
   back_lem : (c w : Rational) → c ≡ (c -ℚ w) +ℚ w
   back_lem = ring₂ _ (λ ρ. simp as_expression (by_ring ρ _ _ refl))

@@ -8,13 +8,13 @@ use Rattle.ratio_core.specs.Rational.{Rational, inverse_ℚ, rational_eq, zero_�
 use Rattle.ratio_core.specs.RationalLaws.{rational_eq-false, rational_eq-true}
 use Rattle.rational_laws.specs.Field.{*ℚ_comm, zero-*ℚ}
 use Rattle.rational_laws.specs.Order.{nonneg_from_≤ℚ, nonpos_mul, not_‹ℚ_from_≤ℚ, ‹ℚ_from_not_≤ℚ, ≤ℚ_from_‹ℚ, ≤ℚ_refl, ≤ℚ_trans}
-use Rattle.simplex_form.specs.Basis.{State, basic}
+use Rattle.simplex_form.specs.Basis.{BasisState, basic}
 use Rattle.simplex_form.specs.Board.{entry, price, right_side}
 use Rattle.simplex_form.specs.BoundedSums.{sum_to}
 use Rattle.simplex_form.specs.Form.{Form}
 use Rattle.simplex_form.specs.Readings.{readings}
 use Rattle.simplex_form.specs.Search.{some_below}
-use Rattle.simplex_form.specs.Standing.{ComesFirst, Stands}
+use Rattle.simplex_form.specs.Standing.{IsRatioBefore, StandsAtBasis}
 use Rattle.simplex_form.specs.Turns.{ratio}
 use Rattle.simplex_laws.specs.SearchLaws.{some_below_false, some_below_true}
 use Rattle.bland_rule_laws.specs.BasicColumns.{basic_distinct, basic_if, is_basic, price-is_basic}
@@ -49,15 +49,15 @@ zero_product p x e k =
     not_below_itself zero_ℚ (subst (λ y. zero_ℚ ‹ℚ y) (ap (λ y. y *ℚ x) e ∙ zero-*ℚ x) k)
 
 -- of two ratios that are 0 that of the lower column comes first
-no_later : (p q : Rational) (i j : ℕ) → p ≡ zero_ℚ → q ≡ zero_ℚ → ComesFirst p i q j → i ≤ j
+no_later : (p q : Rational) (i j : ℕ) → p ≡ zero_ℚ → q ≡ zero_ℚ → IsRatioBefore p i q j → i ≤ j
 no_later p q i j e g (inl h) =
     absurd (not_below_itself zero_ℚ (subst (λ x. x ‹ℚ zero_ℚ) e (subst (λ x. p ‹ℚ x) g h)))
 no_later p q i j e g (inr h) = h.1
 
 -- ---- between two equal sets
 
-module _ (F : Form) (cost : ℕ → Rational) (S : ℕ → State) (a b : ℕ)
-    (stands : (k : ℕ) → Stands F (S k))
+module _ (F : Form) (cost : ℕ → Rational) (S : ℕ → BasisState) (a b : ℕ)
+    (stands : (k : ℕ) → StandsAtBasis F (S k))
     (step : (k : ℕ) → a ≤ k → k < b → IsStep F cost (S k) (S (suc k))) (ordered : a < b)
     (same : (j : ℕ) → j < F.reals + F.rows → is_basic F (S a) j ≡ is_basic F (S b) j) where
   -- column j is basic at the k-th basis

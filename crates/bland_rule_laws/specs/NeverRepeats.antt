@@ -4,10 +4,10 @@ use Rattle.std.specs.List.{Contains}
 use Rattle.std.proofs.Common.{inl, inr, sym, ◌∙◌, arith, true≢false}
 use Rattle.simplex_form.specs.declared.turn.Phase.{Phase}
 use Rattle.simplex_form.specs.declared.turn.Phase.TheVariants.{First, Second, Sweep}
-use Rattle.simplex_form.specs.Basis.{IsBasis, State, basic}
+use Rattle.simplex_form.specs.Basis.{BasisState, IsBasis, basic}
 use Rattle.simplex_form.specs.Form.{Form, IsStandard, first_cost, second_cost}
 use Rattle.simplex_form.specs.Search.{some_below}
-use Rattle.simplex_form.specs.Standing.{Stands}
+use Rattle.simplex_form.specs.Standing.{StandsAtBasis}
 use Rattle.simplex_form.specs.Trail.{IsWithinPhase, reached}
 use Rattle.simplex_laws.specs.SearchLaws.{some_below_false, some_below_true}
 use Rattle.simplex_laws.specs.TrailLaws.{reached_stands}
@@ -22,7 +22,7 @@ module _ (F : Form) (standard : IsStandard F) where
   abbrev at : ℕ → ℕ → Bool
   at j k = is_basic F (reached F k) j
 
-  abbrev stands : (k : ℕ) → Stands F (reached F k)
+  abbrev stands : (k : ℕ) → StandsAtBasis F (reached F k)
   stands k = reached_stands F standard k
 
   -- in the sweep what leaves is artificial, and never enters again
@@ -60,10 +60,11 @@ module _ (F : Form) (standard : IsStandard F) where
 
   -- ---- so some column is basic at one and not at the other
 
-  outside : (s : State) → IsBasis F s → (j : ℕ) → is_basic F s j ≡ false → ¬ (Contains s.basis j)
+  outside : (s : BasisState) → IsBasis F s → (j : ℕ) → is_basic F s j ≡ false
+      → ¬ (Contains s.basis j)
   outside s basis j e h = true≢false (sym (basic-Contains F s basis j h) ∙ e)
 
-  differ_at : (s t : State) → IsBasis F s → IsBasis F t → (j : ℕ)
+  differ_at : (s t : BasisState) → IsBasis F s → IsBasis F t → (j : ℕ)
       → differ (is_basic F s j) (is_basic F t j) ≡ true → DifferInAColumn s t
   differ_at s t left right j e = by_tests (is_basic F s j) (is_basic F t j) refl refl e
     where

@@ -5,11 +5,11 @@ use Rattle.ratio_core.specs.Rational.{Rational, inverse_ℚ, zero_ℚ, ◌*ℚ�
 use Rattle.rational_laws.specs.Field.{*ℚ-zero, *ℚ_assoc, *ℚ_comm, +ℚ-zero, +ℚ_cancel, ring_ℚ, zero-*ℚ, zero-+ℚ}
 use Rattle.rational_laws.specs.Order.{above_inverse, nonneg_mul, nonpos_mul, not_‹ℚ_from_≤ℚ, ≤ℚ-+ℚ_left, ≤ℚ_from_‹ℚ, ≤ℚ_refl}
 use Rattle.simplex_form.specs.declared.turn.Phase.{Phase}
-use Rattle.simplex_form.specs.Basis.{IsBasis, State, basic, pivoted}
+use Rattle.simplex_form.specs.Basis.{BasisState, IsBasis, basic, pivoted}
 use Rattle.simplex_form.specs.Board.{entry, pivot, price, right_side}
 use Rattle.simplex_form.specs.Form.{Form}
 use Rattle.simplex_form.specs.Readings.{readings}
-use Rattle.simplex_form.specs.Standing.{Enters, Leaves, Stands}
+use Rattle.simplex_form.specs.Standing.{Enters, LeavesBasis, StandsAtBasis}
 use Rattle.simplex_form.specs.Turns.{ratio}
 use Rattle.simplex_laws.specs.BoardLaws.{basic-pivot_at, basic-pivot_off, cost-pivot, right_side-pivot}
 use Rattle.simplex_laws.specs.BoundedSumLaws.{same_or_other, sum_to_same}
@@ -19,7 +19,7 @@ use Rattle.bland_rule_laws.specs.BasicColumns.{basic_distinct, basic_if, basic_r
 use Rattle.bland_rule_laws.specs.Exchange.{value}
 
 -- a real column takes the place of the basic column of a row
-pub record Moves (F : Form) (s t : State) : Type 0 where
+pub record ReplacesBasic (F : Form) (s t : BasisState) : Type 0 where
   pub row : ℕ
   pub column : ℕ
   pub within : row < F.rows
@@ -29,17 +29,17 @@ pub record Moves (F : Form) (s t : State) : Type 0 where
 
 -- by the rule at these costs; the point then costs less by the price times the ratio, and where the
 -- row's right side is 0, no right side moves
-pub record IsStep (F : Form) (cost : ℕ → Rational) (s t : State) : Type 0 where
-  pub moves : Moves F s t
+pub record IsStep (F : Form) (cost : ℕ → Rational) (s t : BasisState) : Type 0 where
+  pub moves : ReplacesBasic F s t
   pub enters : Enters (readings F s) (price F s cost) moves.column
-  pub leaves : Leaves (readings F s) moves.column moves.row
+  pub leaves : LeavesBasis (readings F s) moves.column moves.row
   pub costs : value F cost t
       ≡ value F cost s +ℚ price F s cost moves.column *ℚ ratio (readings F s) moves.column moves.row
   pub still : right_side F s moves.row ≡ zero_ℚ → (i : ℕ) → right_side F t i ≡ right_side F s i
 
 -- ---- what moves
 
-module _ (F : Form) (s t : State) (m : Moves F s t) (j : ℕ) where
+module _ (F : Form) (s t : BasisState) (m : ReplacesBasic F s t) (j : ℕ) where
   -- what wasn't basic and is, is the entering column
   pub entering_column : is_basic F s j ≡ false → is_basic F t j ≡ true → m.column ≡ j
   entering_column e g =
@@ -58,7 +58,7 @@ module _ (F : Form) (s t : State) (m : Moves F s t) (j : ℕ) where
       (λ n. absurd (true≢false (sym (basic_if F t j found.0 found.1
       (m.off found.0 n ∙ found.2)) ∙ g)))
 
-module _ (F : Form) (s t : State) (m : Moves F s t) where
+module _ (F : Form) (s t : BasisState) (m : ReplacesBasic F s t) where
   pub entered : is_basic F t m.column ≡ true
   entered = basic_if F t m.column m.row m.within m.at
 
@@ -89,7 +89,7 @@ module _ (F : Form) (s t : State) (m : Moves F s t) where
 
 -- ---- a step by the rule
 
-module _ (F : Form) (cost : ℕ → Rational) (s t : State) (h : Stands F s)
+module _ (F : Form) (cost : ℕ → Rational) (s t : BasisState) (h : StandsAtBasis F s)
     (step : IsStep F cost s t) where
   -- the entering column wasn't basic
   pub enters_from_outside : is_basic F s step.moves.column ≡ false
@@ -153,9 +153,9 @@ module _ (F : Form) (cost : ℕ → Rational) (s t : State) (h : Stands F s)
 
 -- ---- a pivot by the rule is one
 
-module _ (F : Form) (cost : ℕ → Rational) (s : State) (h : Stands F s) (phase : Phase)
+module _ (F : Form) (cost : ℕ → Rational) (s : BasisState) (h : StandsAtBasis F s) (phase : Phase)
     (r q : ℕ) where
-  unfoldable pub pivot_moves : r < F.rows → q < F.reals → Moves F s (pivot F s phase r q)
+  unfoldable pub pivot_moves : r < F.rows → q < F.reals → ReplacesBasic F s (pivot F s phase r q)
   pivot_moves b c = record {
     row = r;
     column = q;
@@ -165,7 +165,7 @@ module _ (F : Form) (cost : ℕ → Rational) (s : State) (h : Stands F s) (phas
     off = λ i n. basic-pivot_off F s phase r q i n;
   }
 
-  pub pivot_steps : Enters (readings F s) (price F s cost) q → Leaves (readings F s) q r
+  pub pivot_steps : Enters (readings F s) (price F s cost) q → LeavesBasis (readings F s) q r
       → IsStep F cost s (pivot F s phase r q)
   unfolding pivot_moves
   pivot_steps e l = record {

@@ -8,12 +8,12 @@ use Rattle.bland_rule_laws.specs.Cycles.{most_steps}
 use Rattle.simplex_core.specs.declared.answer.SolverAnswer.{SolverAnswer}
 use Rattle.simplex_core.specs.declared.fault.SolveFault.{SolveFault}
 use Rattle.simplex_core.specs.declared.fault.SolveFault.TheVariants as solve
-use Rattle.simplex_core.specs.Answer.{IsReadOff, SaysOutcome, Tells}
+use Rattle.simplex_core.specs.Answer.{IsReadOff, SaysOutcome, TellsOutcome}
 use Rattle.simplex_form.specs.declared.turn.Turn.{Turn}
-use Rattle.simplex_form.specs.Basis.{State}
+use Rattle.simplex_form.specs.Basis.{BasisState}
 use Rattle.simplex_form.specs.Fit.{turn_fits}
 use Rattle.simplex_form.specs.Form.{Form, IsStandard}
-use Rattle.simplex_form.specs.Outcome.{IsOutcome, Outcome, ended, outcome, overflowing}
+use Rattle.simplex_form.specs.TrailOutcome.{IsOutcome, TrailOutcome, ended, outcome, overflowing}
 use Rattle.simplex_form.specs.Readings.{readings}
 use Rattle.simplex_form.specs.Trail.{ends}
 use Rattle.simplex_form.specs.Turns.{turn}
@@ -25,7 +25,8 @@ use Rattle.bland_run.specs.Small.{EndsTrail, TellsSmall, small_fault_of}
 -- ---- no Limit
 
 module _ (F : Form) (standard : IsStandard F) (n : ℕ) (same : n ≡ most_steps F) where
-  not_limited : (fault : SolveFault) → Tells F (most_steps F) (outcome F (most_steps F)) (Err fault)
+  not_limited : (fault : SolveFault)
+      → TellsOutcome F (most_steps F) (outcome F (most_steps F)) (Err fault)
       → IsSome (small_fault_of fault)
   not_limited (solve.Limit basis pivots) h =
       absurd (unlimited F standard (most_steps F) h.0 (same_lem (most_steps F)) h.1)
@@ -39,9 +40,9 @@ module _ (F : Form) (standard : IsStandard F) (n : ℕ) (same : n ≡ most_steps
       → IsSome (small_fault_of fault)
   no_limit fault h = not_limited fault (subst (λ k. SaysOutcome F k (Err fault)) same h)
 
-module _ (F : Form) (o : Outcome) (m : ℕ) where
+module _ (F : Form) (o : TrailOutcome) (m : ℕ) where
   -- a fault is reported as it is
-  told_lem : (fault : SolveFault) (small : SmallFault) → Tells F m o (Err fault)
+  told_lem : (fault : SolveFault) (small : SmallFault) → TellsOutcome F m o (Err fault)
       → small_fault_of fault ≡ Some small → TellsSmall F o (Err small)
   told_lem (solve.Limit basis pivots) small h e = absurd (none-some small e)
   told_lem (solve.Overflow basis) small h e =
@@ -62,9 +63,9 @@ answered_small F n answer same h = subst (λ k. SaysOutcome F k (Ok answer)) sam
 
 -- ---- the end of the trail
 
-module _ (F : Form) (n : ℕ) (o : Outcome) (is : IsOutcome F n o) where
+module _ (F : Form) (n : ℕ) (o : TrailOutcome) (is : IsOutcome F n o) where
   -- an answer is read off after some number of pivots
-  read_off_after : (answer : SolverAnswer) (s : State) (t : Turn) → o ≡ ended s t
+  read_off_after : (answer : SolverAnswer) (s : BasisState) (t : Turn) → o ≡ ended s t
       → IsReadOff F s t answer → EndsTrail F (Ok answer)
   read_off_after answer s t e h =
       let at : IsOutcome F n (ended s t) = subst (IsOutcome F n) e is in (
@@ -78,7 +79,7 @@ module _ (F : Form) (n : ℕ) (o : Outcome) (is : IsOutcome F n o) where
       )
 
   -- a step that doesn't fit comes at the start or after some number of pivots
-  stops_after : (basis : List ℕ) (s : State) → o ≡ overflowing s → basis ≡ s.basis
+  stops_after : (basis : List ℕ) (s : BasisState) → o ≡ overflowing s → basis ≡ s.basis
       → EndsTrail F (Err (Overflow basis))
   stops_after basis s e h = by_cause (subst (IsOutcome F n) e is)
     where

@@ -1,9 +1,8 @@
 -- What is taken before a fault.
 use Rattle.std.proofs.Common.{◌≡◌, ℕ, ◌+◌, ◌-◌, ◌≤◌, List, ◌++◌, length, arith, length-append}
 use Rattle.std.specs.Prelude.{Option}
-use Rattle.io_face.specs.Source.{Takes}
+use Rattle.io_face.specs.Source.{Takes, TakesAtMost}
 use Rattle.io_face.specs.SourceLaws.{Takes-append}
-use Rattle.bland_run.specs.Input.{TakesAtMost}
 
 -- a text that is short enough, and then no more than is left
 pub taken_after : (first second third : Option (List ℕ)) (text : List ℕ) (most : ℕ)

@@ -22,11 +22,11 @@ PrintsOverflow F wrote = (basis : List ℕ)
 
 -- the answer to a form, or to a text that writes none, is a refusal or not; and what is said of its
 -- text
-abbrev pub Answers : Option StdForm → Bool → (List ℕ → Type 0) → Type 0
-Answers None refused wrote = (refused ≡ true) × wrote (codes "refused 1 BadForm\n")
-Answers (Some form) refused wrote =
+abbrev pub AnswersForm : Option StdForm → Bool → (List ℕ → Type 0) → Type 0
+AnswersForm None refused wrote = (refused ≡ true) × wrote (codes "refused 1 BadForm\n")
+AnswersForm (Some form) refused wrote =
     ((refused ≡ false) × PrintsAnswer (equality_form form) wrote)
     ⊎ ((refused ≡ true) × PrintsOverflow (equality_form form) wrote)
 
 abbrev pub IsReplyTo : Option StdForm → Reply → Type 0
-IsReplyTo form reply = Answers form reply.is_refusal (λ text. reply.text.items ≡ text)
+IsReplyTo form reply = AnswersForm form reply.is_refusal (λ text. reply.text.items ≡ text)

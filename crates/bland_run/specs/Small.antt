@@ -5,10 +5,10 @@ use Rattle.simplex_core.specs.declared.fault.SolveFault.{SolveFault}
 use Rattle.simplex_core.specs.declared.fault.SolveFault.TheVariants as solve
 use Rattle.simplex_core.specs.Answer.{IsReadOff}
 use Rattle.simplex_form.specs.declared.turn.Turn.{Turn}
-use Rattle.simplex_form.specs.Basis.{State, start}
+use Rattle.simplex_form.specs.Basis.{BasisState, start}
 use Rattle.simplex_form.specs.Fit.{start_fits, turn_fits}
 use Rattle.simplex_form.specs.Form.{Form}
-use Rattle.simplex_form.specs.Outcome.{HasTrail, Outcome, ended, overflowing}
+use Rattle.simplex_form.specs.TrailOutcome.{HasTrail, TrailOutcome, ended, overflowing}
 use Rattle.simplex_form.specs.Readings.{readings}
 use Rattle.simplex_form.specs.Trail.{ends, reached}
 use Rattle.simplex_form.specs.Turns.{turn}
@@ -35,9 +35,9 @@ EndsTrail F (Err (Overflow basis)) =
 EndsTrail F (Err Memory) = Unit {0}
 
 -- the result tells the outcome of a trail with an allowance, which it never runs out of
-abbrev pub TellsSmall : Form → Outcome → Result SolverAnswer SmallFault → Type 0
-TellsSmall F o (Ok answer) = (s : State) × (t : Turn) × (o ≡ ended s t) × IsReadOff F s t answer
-TellsSmall F o (Err (Overflow basis)) = (s : State) × (o ≡ overflowing s) × (basis ≡ s.basis)
+abbrev pub TellsSmall : Form → TrailOutcome → Result SolverAnswer SmallFault → Type 0
+TellsSmall F o (Ok answer) = (s : BasisState) × (t : Turn) × (o ≡ ended s t) × IsReadOff F s t answer
+TellsSmall F o (Err (Overflow basis)) = (s : BasisState) × (o ≡ overflowing s) × (basis ≡ s.basis)
 TellsSmall F o (Err Memory) = Unit {0}
 
 -- what a fault is with an allowance that doesn't run out

@@ -23,14 +23,14 @@ has_refused SomeRefused = true
 has_refused status = false
 
 -- the work ended with an answer or a refusal
-abbrev pub IsEnded : Status → Type 0
-IsEnded Done = Unit {0}
-IsEnded SomeRefused = Unit {0}
-IsEnded Usage = ⊥
-IsEnded ReadFault = ⊥
-IsEnded WriteFault = ⊥
-IsEnded Memory = ⊥
-IsEnded TooLong = ⊥
+abbrev pub IsFormAnswered : Status → Type 0
+IsFormAnswered Done = Unit {0}
+IsFormAnswered SomeRefused = Unit {0}
+IsFormAnswered Usage = ⊥
+IsFormAnswered ReadFault = ⊥
+IsFormAnswered WriteFault = ⊥
+IsFormAnswered Memory = ⊥
+IsFormAnswered TooLong = ⊥
 
 abbrev pub status_of_read : FetchFault → Status
 status_of_read read.Failed = ReadFault

@@ -2,9 +2,9 @@
 ghost use Rattle.std.specs.Prelude.{◌≡◌, ◌≤◌, ◌<◌, ◌+◌, ◌-◌, ◌++◌, [], IfOk, IfSome, length, OnOk, OnErr, IsErrOf};
 ghost use Rattle.std.specs.Io.KnownBytes.{IsAtEnd};
 ghost use Rattle.io_face.specs.Fault.{HasFaulted};
-ghost use Rattle.io_face.specs.Source.{Takes};
+ghost use Rattle.io_face.specs.Source.{Takes, TakesAtMost};
 ghost use Rattle.io_face.specs.Whole.{Grows};
-ghost use Rattle.bland_run.specs.Input.{TakesAtMost, input_limit};
+ghost use Rattle.bland_run.specs.Input.{input_limit};
 
 use io_face::{FetchFault, Source};
 

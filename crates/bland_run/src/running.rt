@@ -1,13 +1,14 @@
 //! The program's call.
 ghost use Rattle.std.specs.Prelude.{◌≡◌, ◌≤◌, ◌<◌, ◌+◌, ◌↔◌, ◌⊎◌, Bool, [], IfSome, length};
 ghost use Rattle.std.specs.Io.KnownBytes.{IsAtEnd};
-ghost use Rattle.io_face.specs.Fault.{HasFaulted};
+ghost use Rattle.io_face.specs.Fault.{CountsNoFault, HasFaulted};
 ghost use Rattle.io_face.specs.Sink.{Adds, AddsPrefix};
-ghost use Rattle.bland_run.specs.Answering.{Answers};
-ghost use Rattle.bland_run.specs.Input.{TakesAtMost, input_limit};
+ghost use Rattle.bland_run.specs.Answering.{AnswersForm};
+ghost use Rattle.bland_run.specs.Input.{input_limit};
+ghost use Rattle.io_face.specs.Source.{TakesAtMost};
 ghost use Rattle.bland_run.specs.Reading.{form_in};
-ghost use Rattle.bland_run.specs.Run.{IsReadable, IsSound};
-ghost use Rattle.bland_run.specs.Status.{IsEnded, has_refused};
+ghost use Rattle.bland_run.specs.Run.{IsInputReadable};
+ghost use Rattle.bland_run.specs.Status.{IsFormAnswered, has_refused};
 
 use crate::answering::reply_to;
 use crate::input::read_input;
@@ -33,18 +34,18 @@ pub fn run<I: Source, O: Sink>(
 
     // Once the work ended, what was written is the answer to the form that the input writes, or the
     // refusal, and the input was read to its end.
-    ensures text { IsEnded result → IfSome (I.left input.old) (λ bytes.
-        Answers (form_in bytes) (has_refused result)
+    ensures text { IsFormAnswered result → IfSome (I.left input.old) (λ bytes.
+        AnswersForm (form_in bytes) (has_refused result)
         (Adds (O.written output.old) (O.written output.new))) }
-    ensures to_the_end { IsEnded result → IsAtEnd (I.left input.new) }
-    ensures within_limit { IsEnded result
+    ensures to_the_end { IsFormAnswered result → IsAtEnd (I.left input.new) }
+    ensures within_limit { IsFormAnswered result
         → IfSome (I.left input.old) (λ bytes. length bytes ≤ input_limit) }
 
     // However it ended, what was written begins that text. At most one byte past the limit was
     // taken.
     ensures prefix { let begun = AddsPrefix (O.written output.old) (O.written output.new) in
         IfSome (I.left input.old) (λ bytes.
-        begun [] ⊎ ((refused : Bool) × Answers (form_in bytes) refused begun)) }
+        begun [] ⊎ ((refused : Bool) × AnswersForm (form_in bytes) refused begun)) }
     ensures taken { TakesAtMost (input_limit + 1) (I.left input.old) (I.left input.new) }
 
     // Where reading failed or the input is too long, nothing is written.
@@ -58,10 +59,10 @@ pub fn run<I: Source, O: Sink>(
         → IfSome (I.left input.old) (λ bytes. input_limit < length bytes) }
 
     // With nothing against it, the work ends, unless memory runs out.
-    ensures complete { length words.now ≡ 0 → IsReadable (I.left input.old)
-        → IsSound (I.faults input.old) (I.faults input.new)
-        → IsSound (O.faults output.old) (O.faults output.new)
-        → IsEnded result ⊎ (result ≡ Status.Memory) }
+    ensures complete { length words.now ≡ 0 → IsInputReadable (I.left input.old)
+        → CountsNoFault (I.faults input.old) (I.faults input.new)
+        → CountsNoFault (O.faults output.old) (O.faults output.new)
+        → IsFormAnswered result ⊎ (result ≡ Status.Memory) }
 {
     if !words.is_empty() {
         return Status::Usage;
@@ -75,13 +76,14 @@ pub fn run<I: Source, O: Sink>(
 
 // Writes what a text is answered.
 fn answer<O: Sink>(alloc: Global, text: &[u8], output: &mut O) -> Status
-    ensures text { IsEnded result → Answers (form_in text.now) (has_refused result)
+    ensures text { IsFormAnswered result → AnswersForm (form_in text.now) (has_refused result)
         (Adds (O.written output.old) (O.written output.new)) }
     ensures prefix { let begun = AddsPrefix (O.written output.old) (O.written output.new) in
-        begun [] ⊎ ((refused : Bool) × Answers (form_in text.now) refused begun) }
+        begun [] ⊎ ((refused : Bool) × AnswersForm (form_in text.now) refused begun) }
     ensures write_fault { result ≡ Status.WriteFault
         → HasFaulted (O.faults output.old) (O.faults output.new) }
-    ensures no_other { (IsEnded result ⊎ (result ≡ Status.Memory)) ⊎ (result ≡ Status.WriteFault) }
+    ensures no_other { (IsFormAnswered result ⊎ (result ≡ Status.Memory))
+        ⊎ (result ≡ Status.WriteFault) }
 {
     let Ok(reply) = reply_to(alloc, text) else {
         return Status::Memory;

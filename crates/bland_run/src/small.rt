@@ -1,9 +1,9 @@
 //! Bland's rule, to the end of its trail.
 ghost use Rattle.std.specs.Prelude.{◌≡◌, ◌+◌, ◌≤◌, ◌^◌, IfOk, IsSome, Some};
-ghost use Rattle.bland_rule_laws.specs.Cycles.{IsBounded, IsUnlimited, NeverRepeats, most_steps};
+ghost use Rattle.bland_rule_laws.specs.Cycles.{IsTrailBounded, IsUnlimited, NeverRepeats, most_steps};
 ghost use Rattle.simplex_core.specs.Answer.{IsRightAnswer};
 ghost use Rattle.simplex_core.specs.StdForm.{IsWellShaped, equality_form};
-ghost use Rattle.simplex_form.specs.Outcome.{outcome};
+ghost use Rattle.simplex_form.specs.TrailOutcome.{outcome};
 ghost use Rattle.bland_run.specs.Small.{EndsTrail, TellsSmall, small_fault_of};
 
 use crate::fault::SmallFault;
@@ -30,7 +30,7 @@ pub fn solve_small(alloc: Global, form: &StdForm) -> Result<SolverAnswer, SmallF
     // Within a phase no set of basic columns comes twice. So a trail has fewer pivots than there
     // are sets in both phases and rows to sweep, and with such an allowance none is cut off.
     ensures never_repeats { NeverRepeats (equality_form form.now) }
-    ensures bounded { IsBounded (equality_form form.now) }
+    ensures bounded { IsTrailBounded (equality_form form.now) }
     ensures unlimited { IsUnlimited (equality_form form.now) }
 {
     solve_to_end(alloc, form)

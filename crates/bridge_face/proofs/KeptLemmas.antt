@@ -8,7 +8,7 @@ use Rattle.item_core.specs.declared.family.Family.{Family}
 use Rattle.item_core.specs.declared.item.Item.{Item}
 use Rattle.bridge_face.specs.declared.kept_item.KeptItem.{KeptItem}
 use Rattle.bridge_face.specs.Law.{IsItemFor}
-use Rattle.bridge_face.specs.State.{AllKept, IsKeptAt, Kept, kept_item}
+use Rattle.bridge_face.specs.BridgeState.{AllKept, IsKeptAt, KeptByAddress, kept_item}
 
 some_is : {x y : KeptItem} → Some x ≡ Some y → x ≡ y
 some_is e = cc
@@ -22,7 +22,8 @@ module _ {family : Family} where
       none_is {C = IsKeptAt family at item} {x = item}
       (sym (finite.get-empty {X = KeptItem} address_cmp at) ∙ e)
 
-  pub kept_given : (m : Kept) (a : Address) (k : KeptItem) → AllKept family m → IsKeptAt family a k
+  pub kept_given : (m : KeptByAddress) (a : Address) (k : KeptItem) → AllKept family m
+      → IsKeptAt family a k
       → AllKept family (finite.insert m a k)
   kept_given m a k all own at item e =
       by_test (eq_by_cmp address_cmp at a) refl (sym (finite.get-insert address_total m a k at) ∙ e)
@@ -34,7 +35,7 @@ module _ {family : Family} where
           (subst (IsKeptAt family a) (some_is f) own)
       by_test false h f = all at item f
 
-  pub kept_removed : (m : Kept) (a : Address) → AllKept family m
+  pub kept_removed : (m : KeptByAddress) (a : Address) → AllKept family m
       → AllKept family (finite.remove m a)
   kept_removed m a all at item e =
       by_test (eq_by_cmp address_cmp at a) (sym (finite.get-remove address_total m a at) ∙ e)
@@ -44,7 +45,7 @@ module _ {family : Family} where
       by_test false f = all at item f
 
   -- after a call that keeps an item, or refuses
-  pub kept_or_not : {T E : Type 0} (r : Result T E) (m n : Kept) (a : Address) (k : KeptItem)
+  pub kept_or_not : {T E : Type 0} (r : Result T E) (m n : KeptByAddress) (a : Address) (k : KeptItem)
       → OnOk r (n ≡ finite.insert m a k) → OnErr r (n ≡ m) → AllKept family m → IsKeptAt family a k
       → AllKept family n
   kept_or_not (Ok x) m n a k ok err all own =
@@ -52,7 +53,7 @@ module _ {family : Family} where
   kept_or_not (Err x) m n a k ok err all own = subst (AllKept family) (sym err) all
 
   -- after an item has taken the place of another
-  pub kept_replaced : (m n : Kept) (item : Item)
+  pub kept_replaced : (m n : KeptByAddress) (item : Item)
       → IsSomeAnd (finite.get m item.at) (λ kept. IsItemFor kept.edge item)
       → IfSome (finite.get m item.at) (λ kept. n ≡ finite.insert m item.at (kept_item item kept))
       → AllKept family m → AllKept family n

@@ -126,8 +126,8 @@ variable-difference v f absent =
 abbrev pub Subtracts : (Function → Rational) → Type 0
 Subtracts g = (f h : Function) → g (difference f h) ≡ g f -ℚ g h
 
-abbrev pub Adds : (Function → Rational) → Type 0
-Adds g = (f h : Function) → g (sum_of f h) ≡ g f +ℚ g h
+abbrev pub IsAdditive : (Function → Rational) → Type 0
+IsAdditive g = (f h : Function) → g (sum_of f h) ≡ g f +ℚ g h
 
 -- what is made of the functions at equal places: `differences` and `sums` are such lists
 abbrev pub paired : (Function → Function → Function) → List Function → List Function → List Function
@@ -173,7 +173,7 @@ numbers-differences g s fs hs =
     numbers-paired difference g g (λ h. neg_ℚ (g h)) s fs hs
     ∙ ap (plus (map g fs)) (sym (map-map neg_ℚ g hs))
 
-pub numbers-sums : (g : Function → Rational) → Adds g → (fs hs : List Function)
+pub numbers-sums : (g : Function → Rational) → IsAdditive g → (fs hs : List Function)
     → map g (sums fs hs) ≡ plus (map g fs) (map g hs)
 numbers-sums g s fs hs = numbers-paired sum_of g g g s fs hs
 

@@ -19,9 +19,9 @@ use Rattle.item_core.specs.Item.{functions_of}
 use Rattle.item_core.specs.Valid.{IsValidItem}
 use Rattle.bridge_face.specs.BackOf.{BackFits, BackFitsBy, back_by, back_of, tail_of}
 use Rattle.bridge_face.specs.ImageOf.{FitsBy, ImageFits, image_by, image_of}
-use Rattle.bridge_face.specs.Law.{EdgeLaw, IsItemFor, IsLawful, LeadsTo}
+use Rattle.bridge_face.specs.Law.{EdgeLaw, IsItemFor, IsLawful, LeadsToKind}
 use Rattle.bridge_face.specs.Sources.{OfKind, of_kind}
-use Rattle.bridge_face.specs.State.{TakesDuals, child_rows_of}
+use Rattle.bridge_face.specs.BridgeState.{TakesDuals, child_rows_of}
 use Rattle.bridge_face.specs.declared.child_rows.ChildRows.{ChildRows}
 use Rattle.bridge_face.specs.declared.kept_item.KeptItem.{KeptItem}
 
@@ -100,7 +100,7 @@ module _ {f : Family} {Source : Edge → Body → Type 0} {make : Edge → Item 
 pub record Sourced (Source : Body → Type 0) (made : Body → Body) (edge : Edge) (b : Body)
     : Type 0 where
   pub source : Source b
-  pub leads : LeadsTo edge (made b)
+  pub leads : LeadsToKind edge (made b)
 
 -- ---- where nothing is summed, nothing has to fit
 

@@ -29,8 +29,8 @@ use Rattle.bridge_face.specs.GroupLaws.{child_group_valid, group_gap, group_numb
 use Rattle.bridge_face.specs.ImageOf.{group_at, inner}
 use Rattle.bridge_face.specs.Images.{child_at}
 use Rattle.bridge_face.specs.ChildDualLaws.{carries_duals}
-use Rattle.bridge_face.specs.Law.{Balances, CarriesValues, ChildDuals, EdgeLaw, GrowsBy, HasComponents, HoldsAt, IsCovered, IsValidWithin, LeadsTo, MentionsKnown, Miss, growth, held_body, held_children, held_item}
-use Rattle.bridge_face.specs.OneRowLaws.{IsRow, held_row, row_held, row_stands, row_values}
+use Rattle.bridge_face.specs.Law.{Balances, CarriesValues, ChildDuals, EdgeLaw, GrowsBy, HasComponents, HoldsAt, IsCovered, IsValidWithin, LeadsToKind, MentionsKnown, Miss, growth, held_body, held_children, held_item}
+use Rattle.bridge_face.specs.OneRowLaws.{IsRowBody, held_row, row_held, row_stands, row_values}
 use Rattle.item_core.specs.declared.image.Expression.{Expression}
 
 -- the numbers that the row's duals leave for the components
@@ -41,8 +41,8 @@ left_over y fs vs = negated (weighed y fs vs)
 pub record GroupAndRow
     (edge : Edge) (item : Item) (set : Set) (n : ℕ) (child : Body) : Type 0 where
   pub item_valid : IsValidItem item
-  pub source : IsRow item.body
-  pub made : IsRow child
+  pub source : IsRowBody item.body
+  pub made : IsRowBody child
   pub values :
       (one : Rational) (x : Address → Rational) → zero_ℚ ≤ℚ one
       → In (multiplied one set) (map x (inner item n)) → Holds one (row_held child []) x
@@ -64,14 +64,14 @@ pub record GroupAndRow
   pub some : 1 ≤ n
   pub fits : IsSetOf n set
   pub grows : n ≤ growth (family_of edge) * length (functions_of item.body)
-  pub leads : LeadsTo edge (Group set (inner item n))
+  pub leads : LeadsToKind edge (Group set (inner item n))
   pub row_shaped : FitsItsFunction child
   pub row_some : 1 ≤ length (functions_of child)
   pub row_fits : IsSetOf (length (functions_of child)) (set_of child)
   pub row_apart : All (NamesNothingBelow (child_of item.at 1)) (functions_of child)
   pub row_grows :
       length (functions_of child) ≤ growth (family_of edge) * length (functions_of item.body)
-  pub row_leads : LeadsTo edge child
+  pub row_leads : LeadsToKind edge child
   pub mentioned :
       (v : Address) → Miss (functions_of item.body) v → ¬ (Contains (inner item n) v)
       → Miss (functions_of child) v
@@ -237,7 +237,7 @@ module _
         (subst (λ m. m ≤ growth (family_of edge) * length (functions_of item.body))
         (sym (length-map ss variable ∙ length-components (child_of item.at 0) n)) o.grows)
         o.row_grows;
-    kinds = both (λ child. LeadsTo edge child.body) o.leads o.row_leads;
+    kinds = both (λ child. LeadsToKind edge child.body) o.leads o.row_leads;
     components =
         All-cons HasComponents group [] (has_components item set n) (All-nil HasComponents);
     mentioned = All-cons (MentionsKnown item image) row []

@@ -37,8 +37,8 @@ use Rattle.bridge_face.specs.FamilyLaws.{Rule, back_is, back_one, child_rows_are
 use Rattle.bridge_face.specs.ImageOf.{bridged, group_at, inner}
 use Rattle.bridge_face.specs.Images.{group_by}
 use Rattle.bridge_face.specs.ChildDualLaws.{carries_duals}
-use Rattle.bridge_face.specs.Law.{Balances, CarriesValues, ChildDuals, EdgeLaw, GrowsBy, HasComponents, HoldsAt, IsCovered, IsItemFor, IsLawful, IsValidWithin, LeadsTo, MentionsKnown, Miss, expressed, growth, held_children, held_item, inner_of, row_functions, row_set}
-use Rattle.bridge_face.specs.State.{TakesDuals, child_rows_of}
+use Rattle.bridge_face.specs.Law.{Balances, CarriesValues, ChildDuals, EdgeLaw, GrowsBy, HasComponents, HoldsAt, IsCovered, IsItemFor, IsLawful, IsValidWithin, LeadsToKind, MentionsKnown, Miss, expressed, growth, held_children, held_item, inner_of, row_functions, row_set}
+use Rattle.bridge_face.specs.BridgeState.{TakesDuals, child_rows_of}
 use Rattle.bridge_face.specs.declared.child_rows.ChildRows.{ChildRows}
 
 -- a group in a set of such a shape, from which the edge makes one of numbers at least 0
@@ -46,7 +46,7 @@ pub record GroupSourced (shape : ℕ → Set) (edge : Edge) (b : Body) : Type 0 
   pub count : ℕ
   pub set : set_of b ≡ shape count
   pub group : is_group b ≡ true
-  pub leads : (n : ℕ) (vars : List Address) → LeadsTo edge (Group (Nonnegatives n) vars)
+  pub leads : (n : ℕ) (vars : List Address) → LeadsToKind edge (Group (Nonnegatives n) vars)
 
 -- ---- of groups
 
@@ -128,7 +128,7 @@ pub record OneGroup
   pub some : 1 ≤ n
   pub fits : IsSetOf n set
   pub grows : n ≤ growth (family_of edge) * length (functions_of item.body)
-  pub leads : LeadsTo edge (Group set (inner item n))
+  pub leads : LeadsToKind edge (Group set (inner item n))
 
 module _
     (edge : Edge) (item : Item) (set : Set) (n : ℕ) (fs : List Function)
@@ -224,8 +224,8 @@ module _
         (subst (λ m. m ≤ growth (family_of edge) * length (functions_of item.body))
         (sym (length-map ss variable ∙ length-components (child_of item.at 0) n)) o.grows)
         (All-nil (GrowsBy (growth (family_of edge)) item));
-    kinds = All-cons (λ child. LeadsTo edge child.body) group [] o.leads
-        (All-nil (λ child. LeadsTo edge child.body));
+    kinds = All-cons (λ child. LeadsToKind edge child.body) group [] o.leads
+        (All-nil (λ child. LeadsToKind edge child.body));
     components =
         All-cons HasComponents group [] (has_components item set n) (All-nil HasComponents);
     mentioned = All-nil (MentionsKnown item image);

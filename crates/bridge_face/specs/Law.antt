@@ -188,8 +188,8 @@ abbrev pub Miss : List Function → Address → Type 0
 Miss fs v = All (λ f. coefficient f v ≡ zero_ℚ) fs
 
 -- a body's kind is one of those that the edge leads to
-abbrev pub LeadsTo : Edge → Body → Type 0
-LeadsTo edge b = list_any (kind_eq (kind_of_body b)) (children_of edge) ≡ true
+abbrev pub LeadsToKind : Edge → Body → Type 0
+LeadsToKind edge b = list_any (kind_eq (kind_of_body b)) (children_of edge) ≡ true
 
 -- a child mentions variables of the item and of the child groups alone
 abbrev pub MentionsKnown : Item → Image → Item → Type 0
@@ -218,7 +218,7 @@ pub record EdgeLaw (edge : Edge) (item : Item) (image : Image) : Type 0 where
   pub positions : StandsInOrder item image
   pub valid : length item.at.positions < 38 → All IsValidWithin (children image)
   pub sizes : All (GrowsBy (growth (family_of edge)) item) (children image)
-  pub kinds : All (λ child. LeadsTo edge child.body) (children image)
+  pub kinds : All (λ child. LeadsToKind edge child.body) (children image)
   pub components : All HasComponents image.groups
   pub mentioned : All (MentionsKnown item image) (image.rows ++ listed image.objective)
   -- there is an expression for each component, which mentions variables of the child groups

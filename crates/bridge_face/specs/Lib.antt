@@ -3,7 +3,7 @@ pub mod BackOf
 pub mod ImageOf
 pub mod Law
 pub mod ChildDualLaws
-pub mod State
+pub mod BridgeState
 pub mod Sources
 pub mod FamilyLaws
 pub mod ZippedLaws

@@ -24,7 +24,7 @@ use Rattle.bridge_face.specs.GroupLaws.{held_of}
 use Rattle.bridge_face.specs.ImageOf.{objective_at}
 use Rattle.bridge_face.specs.Images.{child_at}
 use Rattle.bridge_face.specs.ChildDualLaws.{carries_duals}
-use Rattle.bridge_face.specs.Law.{CarriesValues, EdgeLaw, GrowsBy, HasComponents, IsCovered, IsLawful, IsValidWithin, LeadsTo, MentionsKnown, Miss, cost_of, expressed, growth, held_body, held_item, is_objective, row_functions, row_set}
+use Rattle.bridge_face.specs.Law.{CarriesValues, EdgeLaw, GrowsBy, HasComponents, IsCovered, IsLawful, IsValidWithin, LeadsToKind, MentionsKnown, Miss, cost_of, expressed, growth, held_body, held_item, is_objective, row_functions, row_set}
 use Rattle.set_core.specs.Shapes.{IsSetOf}
 use Rattle.bridge_face.specs.ComponentLaws.{all_unnamed_below, each_at}
 use Rattle.item_core.specs.declared.item.Body.TheVariants as body
@@ -96,7 +96,7 @@ pub record Replaces (b child : Body) : Type 0 where
   pub mentioned : (v : Address) → Miss (functions_of b) v → Miss (functions_of child) v
 
 module _ (edge : Edge) (item : Item) (child : Body) (valid : IsValidItem item)
-    (no_growth : growth (family_of edge) ≡ 1) (leads : LeadsTo edge child)
+    (no_growth : growth (family_of edge) ≡ 1) (leads : LeadsToKind edge child)
     (o : Replaces item.body child) where
   abbrev image : Image
   image = objective_at item child
@@ -160,8 +160,8 @@ module _ (edge : Edge) (item : Item) (child : Body) (valid : IsValidItem item)
         unnamed) room) (All-nil IsValidWithin);
     sizes = All-cons (GrowsBy (growth (family_of edge)) item) (child_at item 0 child) [] no_more
         (All-nil (GrowsBy (growth (family_of edge)) item));
-    kinds = All-cons (λ child. LeadsTo edge child.body) (child_at item 0 child) [] leads
-        (All-nil (λ child. LeadsTo edge child.body));
+    kinds = All-cons (λ child. LeadsToKind edge child.body) (child_at item 0 child) [] leads
+        (All-nil (λ child. LeadsToKind edge child.body));
     components = All-nil HasComponents;
     mentioned = All-cons (MentionsKnown item image) (child_at item 0 child) []
         (λ v m n. o.mentioned v m) (All-nil (MentionsKnown item image));

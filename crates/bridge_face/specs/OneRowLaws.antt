@@ -25,15 +25,15 @@ use Rattle.bridge_face.specs.FamilyLaws.{Rule, Sourced, back_is, dual_count, dua
 use Rattle.bridge_face.specs.ImageOf.{FitsBy, ImageFits}
 use Rattle.bridge_face.specs.Images.{child_at, row_at}
 use Rattle.bridge_face.specs.ChildDualLaws.{carries_duals}
-use Rattle.bridge_face.specs.Law.{CarriesValues, ChildrenHold, EdgeLaw, GrowsBy, HasComponents, HoldsAt, IsCovered, IsLawful, IsValidWithin, LeadsTo, MentionsKnown, Miss, cost_of, expressed, growth, held_body, held_item, is_objective, listed, row_functions, row_set}
-use Rattle.bridge_face.specs.State.{IsDualOf, TakesDuals}
+use Rattle.bridge_face.specs.Law.{CarriesValues, ChildrenHold, EdgeLaw, GrowsBy, HasComponents, HoldsAt, IsCovered, IsLawful, IsValidWithin, LeadsToKind, MentionsKnown, Miss, cost_of, expressed, growth, held_body, held_item, is_objective, listed, row_functions, row_set}
+use Rattle.bridge_face.specs.BridgeState.{IsCarriedBack, TakesDuals}
 
 -- a row is neither a group nor an objective
-pub record IsRow (b : Body) : Type 0 where
+pub record IsRowBody (b : Body) : Type 0 where
   pub no_group : is_group b ≡ false
   pub no_objective : is_objective b ≡ false
 
-pub row : {b : Body} → is_group b ≡ false → is_objective b ≡ false → IsRow b
+pub row : {b : Body} → is_group b ≡ false → is_objective b ≡ false → IsRowBody b
 row no_group no_objective = record { no_group = no_group; no_objective = no_objective }
 
 -- a body with duals
@@ -42,8 +42,8 @@ row_held b w = record { duals = w; functions = functions_of b; set = set_of b }
 
 -- what an edge owes that makes this row of the item
 pub record OneRow (edge : Edge) (item : Item) (child : Body) : Type 0 where
-  pub source : IsRow item.body
-  pub made : IsRow child
+  pub source : IsRowBody item.body
+  pub made : IsRowBody child
   pub values : (one : Rational) (x : Address → Rational) → zero_ℚ ≤ℚ one
       → Holds one (row_held child []) x → Holds one (row_held item.body []) x
   pub holds : (y : List Rational) → IsHeld (row_held child y)
@@ -57,13 +57,13 @@ pub record OneRow (edge : Edge) (item : Item) (child : Body) : Type 0 where
       → IsValidItem (child_at item 0 child)
   pub sizes : length (functions_of child)
       ≤ growth (family_of edge) * length (functions_of item.body)
-  pub leads : LeadsTo edge child
+  pub leads : LeadsToKind edge child
   pub mentioned : (v : Address) → Miss (functions_of item.body) v → Miss (functions_of child) v
 
 abbrev record_of : List Rational → List Function → Set → DualRow
 record_of w fs set = record { duals = w; functions = fs; set = set }
 
-pub held_row : (bound : Rational) (b : Body) (w : List Rational) → IsRow b
+pub held_row : (bound : Rational) (b : Body) (w : List Rational) → IsRowBody b
     → held_body bound b w ≡ row_held b w
 held_row bound (body.Group set vars) w r = absurd (true≢false r.no_group)
 held_row bound (body.Free vars) w r = absurd (true≢false r.no_group)
@@ -74,7 +74,8 @@ held_row bound (body.AffineVec funcs set) w r = refl
 held_row bound (body.PlainObj sense var) w r = absurd (true≢false r.no_objective)
 held_row bound (body.AffineObj sense func) w r = absurd (true≢false r.no_objective)
 
-pub source_held : (bound : Rational) (b : Body) (w : List Rational) (fs : List Function) → IsRow b
+pub source_held : (bound : Rational) (b : Body) (w : List Rational) (fs : List Function)
+    → IsRowBody b
     → record_of w (cond (is_group b) fs (row_functions b)) (row_set bound b) ≡ row_held b w
 source_held bound (body.Group set vars) w fs r = absurd (true≢false r.no_group)
 source_held bound (body.Free vars) w fs r = absurd (true≢false r.no_group)
@@ -87,11 +88,11 @@ source_held bound (body.AffineObj sense func) w fs r = absurd (true≢false r.no
 
 -- a row stands over its children as itself
 pub row_stands : (bound : Rational) (item : Item) (image : Image) (w : List Rational)
-    → IsRow item.body → held_item bound item image w ≡ row_held item.body w
+    → IsRowBody item.body → held_item bound item image w ≡ row_held item.body w
 row_stands bound item image w r = source_held bound item.body w (map expressed image.exprs) r
 
 -- so values are carried to it where it holds with them
-pub row_values : (item : Item) (image : Image) → IsRow item.body → image.objective ≡ None
+pub row_values : (item : Item) (image : Image) → IsRowBody item.body → image.objective ≡ None
     → ((one : Rational) (x : Address → Rational) → zero_ℚ ≤ℚ one → ChildrenHold one x image
     → Holds one (row_held item.body []) x)
     → CarriesValues item image
@@ -145,8 +146,8 @@ module _ (edge : Edge) (item : Item) (child : Body) (o : OneRow edge item child)
         (All-nil IsValidWithin);
     sizes = All-cons (GrowsBy (growth (family_of edge)) item) (child_at item 0 child) [] o.sizes
         (All-nil (GrowsBy (growth (family_of edge)) item));
-    kinds = All-cons (λ child. LeadsTo edge child.body) (child_at item 0 child) [] o.leads
-        (All-nil (λ child. LeadsTo edge child.body));
+    kinds = All-cons (λ child. LeadsToKind edge child.body) (child_at item 0 child) [] o.leads
+        (All-nil (λ child. LeadsToKind edge child.body));
     components = All-nil HasComponents;
     mentioned = All-cons (MentionsKnown item image) (child_at item 0 child) []
         (λ v m n. o.mentioned v m) (All-nil (MentionsKnown item image));
@@ -228,7 +229,7 @@ module _ {f : Family} {Source : Body → Type 0} {made : Body → Body} {Fits : 
       -- what is answered to it is answered to the item's duals
       pub dual_answer : (answer : Result (List Rational) NumberFault)
           → ExactWhere answer (CarryFits item.body y) (λ dual. dual ≡ carry item.body y)
-          → IsDualOf answer ys (kept_by edge item)
+          → IsCarriedBack answer ys (kept_by edge item)
       dual_answer answer said =
           exact_as answer (CarryFits item.body y) (BackFits edge item ys)
           (λ dual. dual ≡ carry item.body y) (λ dual. dual ≡ back_of edge item ys)

@@ -20,8 +20,8 @@ use Rattle.item_core.specs.Valid.{FitsItsFunction, NamesNothingBelow}
 use Rattle.bridge_face.specs.BackOf.{back_of}
 use Rattle.bridge_face.specs.ComponentLaws.{all_unnamed_below}
 use Rattle.bridge_face.specs.Images.{child_at, children_from, rows_at}
-use Rattle.bridge_face.specs.Law.{Balances, CarriesValues, ChildDuals, EdgeLaw, GrowsBy, HasComponents, HoldsAt, IsCovered, IsValidWithin, LeadsTo, MentionsKnown, Miss, StandsInOrder, children, growth, held, held_children, held_item}
-use Rattle.bridge_face.specs.OneRowLaws.{IsRow, held_row, row_held, row_stands, row_values}
+use Rattle.bridge_face.specs.Law.{Balances, CarriesValues, ChildDuals, EdgeLaw, GrowsBy, HasComponents, HoldsAt, IsCovered, IsValidWithin, LeadsToKind, MentionsKnown, Miss, StandsInOrder, children, growth, held, held_children, held_item}
+use Rattle.bridge_face.specs.OneRowLaws.{IsRowBody, held_row, row_held, row_stands, row_values}
 
 -- rows with their duals
 abbrev pub rows_held : List Body → List (List Rational) → List DualRow
@@ -29,19 +29,19 @@ rows_held bodies ys = map (λ p. row_held p.0 p.1) (zip bodies ys)
 
 -- a row that is made of the item
 pub record IsRowOf (edge : Edge) (item : Item) (child : Body) : Type 0 where
-  pub made : IsRow child
+  pub made : IsRowBody child
   pub shaped : FitsItsFunction child
   pub some : 1 ≤ length (functions_of child)
   pub fits : IsSetOf (length (functions_of child)) (set_of child)
   pub unnamed : All (NamesNothingBelow item.at) (functions_of child)
   pub grows : length (functions_of child)
       ≤ growth (family_of edge) * length (functions_of item.body)
-  pub leads : LeadsTo edge child
+  pub leads : LeadsToKind edge child
   pub mentioned : (v : Address) → Miss (functions_of item.body) v → Miss (functions_of child) v
 
 -- what an edge owes that makes these rows of the item
 pub record MadeOfRows (edge : Edge) (item : Item) (bodies : List Body) : Type 0 where
-  pub source : IsRow item.body
+  pub source : IsRowBody item.body
   pub each : All (IsRowOf edge item) bodies
   pub values :
       (one : Rational) (x : Address → Rational) → zero_ℚ ≤ℚ one
@@ -86,24 +86,24 @@ module _ (item : Item) where
       ∙ length-enumerate_from k bodies
 
   held_from : (bound : Rational) (k : ℕ) (bodies : List Body) (ys : List (List Rational))
-      → All IsRow bodies
+      → All IsRowBody bodies
       → held bound (children_from item k bodies) ys ≡ rows_held bodies ys
   held_from bound k [] ys made = refl
   held_from bound k (b ∷ bodies) [] made = refl
   held_from bound k (b ∷ bodies) (y ∷ ys) made =
-      ap₂ ◌∷◌ (held_row bound b y (All-head IsRow b bodies made))
-      (held_from bound (k + 1) bodies ys (All-tail IsRow b bodies made))
+      ap₂ ◌∷◌ (held_row bound b y (All-head IsRowBody b bodies made))
+      (held_from bound (k + 1) bodies ys (All-tail IsRowBody b bodies made))
 
   hold_from : (one : Rational) (x : Address → Rational) (k : ℕ) (bodies : List Body)
-      → All IsRow bodies
+      → All IsRowBody bodies
       → All (HoldsAt one x) (children_from item k bodies)
       → All (λ b. Holds one (row_held b []) x) bodies
   hold_from one x k [] made h = All-nil (λ b. Holds one (row_held b []) x)
   hold_from one x k (b ∷ bodies) made h =
       All-cons (λ b. Holds one (row_held b []) x) b bodies
-      (subst (λ k. Holds one k x) (held_row zero_ℚ b [] (All-head IsRow b bodies made))
+      (subst (λ k. Holds one k x) (held_row zero_ℚ b [] (All-head IsRowBody b bodies made))
       (All-head (HoldsAt one x) (child_at item k b) (children_from item (k + 1) bodies) h))
-      (hold_from one x (k + 1) bodies (All-tail IsRow b bodies made)
+      (hold_from one x (k + 1) bodies (All-tail IsRowBody b bodies made)
       (All-tail (HoldsAt one x) (child_at item k b) (children_from item (k + 1) bodies) h))
 
 -- ---- the law
@@ -127,8 +127,8 @@ module _ (edge : Edge) (item : Item) (bodies : List Body) (o : MadeOfRows edge i
   abbrev rows : List Item
   rows = children_from item 0 bodies
 
-  made : All IsRow bodies
-  made = All-weaker (IsRowOf edge item) IsRow (λ b r. r.made) bodies o.each
+  made : All IsRowBody bodies
+  made = All-weaker (IsRowOf edge item) IsRowBody (λ b r. r.made) bodies o.each
 
   values : CarriesValues item image
   values = row_values item image o.source refl
@@ -186,7 +186,7 @@ module _ (edge : Edge) (item : Item) (bodies : List Body) (o : MadeOfRows edge i
     positions = in_order;
     valid = λ room. of_all IsValidWithin (λ k b r. child_row_valid edge item k b room r);
     sizes = of_all (GrowsBy (growth (family_of edge)) item) (λ k b r. r.grows);
-    kinds = of_all (λ child. LeadsTo edge child.body) (λ k b r. r.leads);
+    kinds = of_all (λ child. LeadsToKind edge child.body) (λ k b r. r.leads);
     components = All-nil HasComponents;
     mentioned = of_all (MentionsKnown item image) (λ k b r v m n. r.mentioned v m);
     exprs = λ group. absurd (true≢false (sym group ∙ o.source.no_group));

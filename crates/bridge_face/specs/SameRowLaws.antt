@@ -15,20 +15,20 @@ use Rattle.item_core.specs.Item.{functions_of, set_of}
 use Rattle.item_core.specs.Valid.{FitsItsFunction, IsValidItem, NamesNothingBelow}
 use Rattle.bridge_face.specs.BackOf.{back_of}
 use Rattle.bridge_face.specs.ComponentLaws.{all_unnamed_below}
-use Rattle.bridge_face.specs.Law.{LeadsTo, Miss, growth}
-use Rattle.bridge_face.specs.OneRowLaws.{IsRow, OneRow, row_held}
+use Rattle.bridge_face.specs.Law.{LeadsToKind, Miss, growth}
+use Rattle.bridge_face.specs.OneRowLaws.{IsRowBody, OneRow, row_held}
 
 -- what an edge owes that makes this row of the item
 pub record SameRow (edge : Edge) (item : Item) (child : Body) : Type 0 where
   pub item_valid : IsValidItem item
-  pub source : IsRow item.body
-  pub made : IsRow child
+  pub source : IsRowBody item.body
+  pub made : IsRowBody child
   pub shaped : FitsItsFunction child
   pub functions : functions_of child ≡ functions_of item.body
   pub set : set_of child ≡ set_of item.body
   pub back : (y : List Rational) → back_of edge item (y ∷ []) ≡ y
   pub no_growth : growth (family_of edge) ≡ 1
-  pub leads : LeadsTo edge child
+  pub leads : LeadsToKind edge child
 
 module _ (edge : Edge) (item : Item) (child : Body) (s : SameRow edge item child) where
   child_is : (y : List Rational) → row_held child y ≡ row_held item.body y

@@ -7,8 +7,8 @@ ghost use Rattle.item_core.specs.Edge.{family_of};
 ghost use Rattle.bridge_face.specs.ImageOf.{image_of, ImageFits};
 ghost use Rattle.bridge_face.specs.ItemAddresses.{is_of};
 ghost use Rattle.bridge_face.specs.Law.{IsItemFor, IsLawful};
-ghost use Rattle.bridge_face.specs.State.{IsDualOf, TakesDuals, all_gone, child_rows_of, found, given, gone};
-ghost use Rattle.bridge_face.specs.State.{kept_item, tried};
+ghost use Rattle.bridge_face.specs.BridgeState.{IsCarriedBack, TakesDuals, all_gone, child_rows_of, found, given, gone};
+ghost use Rattle.bridge_face.specs.BridgeState.{kept_item, tried};
 
 use crate::ChildRows;
 use aff_core::Address;
@@ -22,9 +22,9 @@ use ratio_core::{NumberFault, Ratios};
 /// `turns` counts the calls that work, `image`, `keep`, `alter`, `let_go` and `let_all_go`, also
 /// those that were refused, and stays at its last value.
 pub trait Bridge: Drop {
-    ghost use Rattle.bridge_face.specs.State.{State};
+    ghost use Rattle.bridge_face.specs.BridgeState.{BridgeState};
 
-    ghost state: { Self → State };
+    ghost state: { Self → BridgeState };
 
     /// The family. Each of its edges keeps the law.
     fn family(&self) -> Family
@@ -83,5 +83,5 @@ pub trait Bridge: Drop {
     /// that the edge names doesn't fit.
     fn back(&self, at: &Address, duals: &[Ratios]) -> Result<Ratios, NumberFault>
         requires { IsSomeAnd (found (state self.now) at.now) (λ kept. TakesDuals kept duals.now) }
-        ensures { IfSome (found (state self.now) at.now) (IsDualOf result duals.now) };
+        ensures { IfSome (found (state self.now) at.now) (IsCarriedBack result duals.now) };
 }

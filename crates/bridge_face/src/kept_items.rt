@@ -1,7 +1,7 @@
 //! What all bridges share: the items that they keep, and the count of their turns.
 ghost use Rattle.std.specs.Prelude.{◌≡◌};
 ghost use Rattle.std.specs.FinMap as finite;
-ghost use Rattle.bridge_face.specs.State.{one_more};
+ghost use Rattle.bridge_face.specs.BridgeState.{one_more};
 
 use crate::kept_map::KeptMap;
 use crate::{Bridge, ChildRows, KeptItem, Rewriting};
@@ -22,7 +22,7 @@ pub struct KeptItems<F: Rewriting> {
 }
 
 impl<F: Rewriting> Model for KeptItems<F> {
-    ghost use Rattle.bridge_face.specs.State.{AllKept, Keeping, keeping_code};
+    ghost use Rattle.bridge_face.specs.BridgeState.{AllKept, Keeping, keeping_code};
 
     ghost Value = { Keeping };
 
@@ -55,7 +55,7 @@ fn turned(turns: u64) -> u64
 }
 
 impl<F: Rewriting> Bridge for KeptItems<F> {
-    ghost use Rattle.bridge_face.specs.State.{state_of};
+    ghost use Rattle.bridge_face.specs.BridgeState.{state_of};
 
     ghost state = { λ b. state_of F.family b };
 

@@ -3,7 +3,7 @@ ghost use Rattle.std.specs.Prelude.{◌≡◌, IfErr, IfSome, IsSome, OnErr, OnO
 ghost use Rattle.std.specs.Option.{option_copied};
 ghost use Rattle.std.specs.FinMap as finite;
 ghost use Rattle.item_map.specs.ItemAddresses.{is_of};
-ghost use Rattle.bridge_face.specs.State.{kept_item};
+ghost use Rattle.bridge_face.specs.BridgeState.{kept_item};
 
 use crate::KeptItem;
 use aff_core::Address;
@@ -20,9 +20,9 @@ pub(crate) struct KeptMap {
 }
 
 impl Model for KeptMap {
-    ghost use Rattle.bridge_face.specs.State.{Kept, kept_code};
+    ghost use Rattle.bridge_face.specs.BridgeState.{KeptByAddress, kept_code};
 
-    ghost Value = { Kept };
+    ghost Value = { KeptByAddress };
 
     ghost coded = { kept_code };
 

@@ -4,7 +4,7 @@ ghost use Rattle.ratio_core.specs.Answers.{ExactWhere};
 ghost use Rattle.item_core.specs.Edge.{family_of};
 ghost use Rattle.bridge_face.specs.ImageOf.{image_of, ImageFits};
 ghost use Rattle.bridge_face.specs.Law.{IsItemFor, IsLawful};
-ghost use Rattle.bridge_face.specs.State.{IsDualOf, TakesDuals, child_rows_of};
+ghost use Rattle.bridge_face.specs.BridgeState.{IsCarriedBack, TakesDuals, child_rows_of};
 
 use crate::{ChildRows, KeptItem};
 use item_core::{Edge, Family, Image, Item};
@@ -39,7 +39,7 @@ pub trait Rewriting: Drop {
         requires own { family_of kept.now.edge ≡ family }
         requires suits { IsItemFor kept.now.edge kept.now.item }
         requires duals { TakesDuals kept.now duals.now }
-        ensures { IsDualOf result duals.now kept.now };
+        ensures { IsCarriedBack result duals.now kept.now };
 
     ghost lawful: { IsLawful family };
 }

@@ -14,7 +14,7 @@ use Rattle.bridge_graph.specs.declared.settling.Plan.{Plan}
 use Rattle.bridge_graph.specs.declared.settling.Plan.TheVariants.{Open, Native, By}
 use Rattle.bridge_graph.specs.declared.settling.Step.{Step}
 use Rattle.bridge_graph.specs.Hypergraph.{Hypergraph, children_of, IsCostly, is_edge_cost, has_kinds_below}
-use Rattle.bridge_graph.specs.Plan.{plan_at, cost_of, AreWithin, start_at, IsPlan}
+use Rattle.bridge_graph.specs.Plan.{plan_at, cost_of, ArePlansWithin, start_at, IsLeastPlan}
 use Rattle.bridge_graph.specs.Candidate.{with_children, IsCheapest}
 use Rattle.bridge_graph.proofs.Trees.{IsPlanSoFar, IsSettling, IsStep, open_tree, best_of_step}
 
@@ -83,7 +83,7 @@ open_count-set plans kind edge cost within unsettled =
     let one : f (plan_at plans kind) ≡ 1 = ap f unsettled in
     omega (arith, e, one)
 
-total_within : (plans : List Plan) (limit : ℕ) → AreWithin plans limit
+total_within : (plans : List Plan) (limit : ℕ) → ArePlansWithin plans limit
     → (kinds : List ℕ) (total sum : ℕ) → with_children plans total kinds ≡ Some sum
     → sum ≤ total + length kinds * limit
 total_within plans limit within [] total sum e =
@@ -116,10 +116,10 @@ three_at_most : (cost children limit : ℕ) → cost ≤ 1000 → children ≤ 3
 three_at_most cost children limit small few = grind arith
 
 pub within_set : (graph : Hypergraph) {plans : List Plan} {step : Step} (n : ℕ)
-    → AreWithin plans (limit_of n) → IsStep graph plans step → step.kind < length plans
+    → ArePlansWithin plans (limit_of n) → IsStep graph plans step → step.kind < length plans
     → IsTrue (list_all (has_kinds_below (length plans)) graph.edges)
     → IsTrue (list_all is_edge_cost graph.costs)
-    → AreWithin (slice_set plans step.kind (By step.edge step.cost)) (limit_of (n + 1))
+    → ArePlansWithin (slice_set plans step.kind (By step.edge step.cost)) (limit_of (n + 1))
 unfolding limit_of
 within_set graph {plans} {step} n within c kind rows costs =
     let small = (edge_cost c.cost (all_at is_edge_cost graph.costs step.edge c.cost costs
@@ -139,10 +139,10 @@ within_set graph {plans} {step} n within c kind rows costs =
     (λ other ne. let was = within other in rw add-one (omega (arith, was)))
 
 pub within_step : (graph : Hypergraph) {plans : List Plan} {step : Step}
-    → AreWithin plans (limit_of (length plans - open_count plans)) → IsStep graph plans step
+    → ArePlansWithin plans (limit_of (length plans - open_count plans)) → IsStep graph plans step
     → step.kind < length plans → IsTrue (list_all (has_kinds_below (length plans)) graph.edges)
     → IsTrue (list_all is_edge_cost graph.costs)
-    → AreWithin (slice_set plans step.kind (By step.edge step.cost))
+    → ArePlansWithin (slice_set plans step.kind (By step.edge step.cost))
     (limit_of (length (slice_set plans step.kind (By step.edge step.cost)) - open_count
     (slice_set plans step.kind (By step.edge step.cost))))
 within_step graph {plans} {step} within c kind rows costs =
@@ -153,13 +153,13 @@ within_step graph {plans} {step} within c kind rows costs =
     let same : length after ≡ length plans = length-set plans step.kind (By step.edge step.cost) in
     let n : (length plans - open_count plans) + 1 ≡ length after - open_count after =
     omega (arith, one_less, at_most, at_most_before, same) in
-    subst (λ n. AreWithin after (limit_of n)) n (within_set graph (length plans - open_count plans)
+    subst (λ n. ArePlansWithin after (limit_of n)) n (within_set graph (length plans - open_count plans)
     within c kind rows costs)
 
 -- where there is no step, an open kind has no tree
 all_settled : (graph : Hypergraph) (plans : List Plan) (kind : ℕ) → IsSettling graph plans
     → ((step : Step) → IsStep graph plans step → ⊥) → (plan : Plan) → plan_at plans kind ≡ plan
-    → IsPlanSoFar graph kind plan → IsPlan graph kind plan
+    → IsPlanSoFar graph kind plan → IsLeastPlan graph kind plan
 all_settled graph plans kind settling no_step Open is right =
     λ cost tree. let h : suc cost ≤ cost = open_tree graph plans (suc cost) settling (λ step c.
     absurd (no_step step c)) tree is in absurd (omega arith)
@@ -168,7 +168,7 @@ all_settled graph plans kind settling no_step (By edge cost) is right = right
 
 pub settled : {graph : Hypergraph} {plans : List Plan} → IsSettling graph plans
     → ((step : Step) → IsStep graph plans step → ⊥) → (kind : ℕ)
-    → IsPlan graph kind (plan_at plans kind)
+    → IsLeastPlan graph kind (plan_at plans kind)
 settled {graph} {plans} settling no_step kind =
     all_settled graph plans kind settling no_step (plan_at plans kind) refl (settling.plan kind)
 
@@ -193,7 +193,7 @@ free true limit = omega arith
 free false limit = omega arith
 
 pub starts_within : (supported : List Bool) (plans : List Plan) (limit : ℕ)
-    → ((kind : ℕ) → plan_at plans kind ≡ start_at supported kind) → AreWithin plans limit
+    → ((kind : ℕ) → plan_at plans kind ≡ start_at supported kind) → ArePlansWithin plans limit
 starts_within supported plans limit start kind =
     subst (λ plan. unwrap_or (cost_of plan) 0 ≤ limit) (sym (start kind))
     (free (slice_index_or supported kind false) limit)

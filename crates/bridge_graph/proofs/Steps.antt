@@ -5,26 +5,26 @@ use Rattle.std.proofs.lemmas.Bool.Decides.{nat_tests}
 use Rattle.bridge_graph.specs.declared.EdgeRow.{EdgeRow}
 use Rattle.bridge_graph.specs.declared.settling.Plan.{Plan}
 use Rattle.bridge_graph.specs.declared.settling.Step.{Step}
-use Rattle.bridge_graph.specs.Candidate.{IsCandidate, IsCheapest, ComesFirst, cheaper_of}
+use Rattle.bridge_graph.specs.Candidate.{IsCandidateStep, IsCheapest, IsStepBefore, cheaper_of}
 
 -- a candidate with an edge below n, before every such candidate
 pub record IsBest (edges : List EdgeRow) (costs : List ℕ) (on : List Bool) (plans : List Plan)
     (n : ℕ) (step : Step) : Type 0 where
-  pub candidate : IsCandidate edges costs on plans step
+  pub candidate : IsCandidateStep edges costs on plans step
   pub below : step.edge < n
   pub kind : step.kind < length plans
-  pub first : (other : Step) → IsCandidate edges costs on plans other → other.edge < n
-      → ComesFirst step other
+  pub first : (other : Step) → IsCandidateStep edges costs on plans other → other.edge < n
+      → IsStepBefore step other
 
 -- the best step below n, or none where there is no candidate
 pub record IsBestBelow (edges : List EdgeRow) (costs : List ℕ) (on : List Bool) (plans : List Plan)
     (n : ℕ) (best : Option Step) : Type 0 where
-  pub absent : best ≡ None → (step : Step) → IsCandidate edges costs on plans step
+  pub absent : best ≡ None → (step : Step) → IsCandidateStep edges costs on plans step
       → step.edge < n → ⊥
   pub present : (step : Step) → best ≡ Some step → IsBest edges costs on plans n step
 
 pub same_cost : {edges : List EdgeRow} {costs : List ℕ} {on : List Bool} {plans : List Plan}
-    {a b : Step} → IsCandidate edges costs on plans a → IsCandidate edges costs on plans b
+    {a b : Step} → IsCandidateStep edges costs on plans a → IsCandidateStep edges costs on plans b
     → a.edge ≡ b.edge → a.cost ≡ b.cost
 same_cost p q e =
     let row : p.row ≡ q.row = cc (p.usable.row_is, q.usable.row_is) in
@@ -43,7 +43,7 @@ none_below = record { absent = λ _ s c l. absurd (omega arith); present = λ s 
 
 pub best_kept : {edges : List EdgeRow} {costs : List ℕ} {on : List Bool} {plans : List Plan} {n : ℕ}
     {best : Option Step} → IsBestBelow edges costs on plans n best
-    → ((step : Step) → step.edge ≡ n → IsCandidate edges costs on plans step → ⊥) → IsBestBelow
+    → ((step : Step) → step.edge ≡ n → IsCandidateStep edges costs on plans step → ⊥) → IsBestBelow
     edges costs on plans (n + 1) best
 best_kept {n = n} known here = record {
   absent = λ e s c l. at_or_below s.edge n l (λ e'. here s e' c)
@@ -59,9 +59,9 @@ best_kept {n = n} known here = record {
 
 -- a candidate with edge n is the best below n + 1, where it comes before each with an edge below n
 newest : {edges : List EdgeRow} {costs : List ℕ} {on : List Bool} {plans : List Plan} {n : ℕ}
-    (step : Step) → step.edge ≡ n → step.kind < length plans → IsCandidate edges costs on plans step
-    → ((other : Step) → IsCandidate edges costs on plans other → other.edge < n
-    → ComesFirst step other) → IsBest edges costs on plans (n + 1) step
+    (step : Step) → step.edge ≡ n → step.kind < length plans → IsCandidateStep edges costs on plans step
+    → ((other : Step) → IsCandidateStep edges costs on plans other → other.edge < n
+    → IsStepBefore step other) → IsBest edges costs on plans (n + 1) step
 newest {n = n} step here kind candidate earlier = record {
   candidate = candidate;
   below = omega arith;
@@ -75,7 +75,7 @@ newest {n = n} step here kind candidate earlier = record {
 -- of two candidates, the second by a higher edge, the one that is taken comes before the other
 taken : (edges : List EdgeRow) (costs : List ℕ) (on : List Bool) (plans : List Plan) (n : ℕ)
     (best step : Step) → IsBest edges costs on plans n best → step.edge ≡ n
-    → step.kind < length plans → IsCandidate edges costs on plans step → (b : Bool)
+    → step.kind < length plans → IsCandidateStep edges costs on plans step → (b : Bool)
     → nat_le best.cost step.cost ≡ b → IsBest edges costs on plans (n + 1)
     (if b then best else step)
 taken edges costs on plans n best step was here kind candidate true e = record {
@@ -97,7 +97,7 @@ taken edges costs on plans n best step was here kind candidate false e =
 
 pub best_next : {edges : List EdgeRow} {costs : List ℕ} {on : List Bool} {plans : List Plan} {n : ℕ}
     (best : Option Step) (step : Step) → IsBestBelow edges costs on plans n best → step.edge ≡ n
-    → step.kind < length plans → IsCandidate edges costs on plans step
+    → step.kind < length plans → IsCandidateStep edges costs on plans step
     → IsBestBelow edges costs on plans (n + 1) (Some (cheaper_of best step))
 best_next {edges} {costs} {on} {plans} {n} None step known here kind candidate = record {
   absent = λ e. absurd (cc);
@@ -114,12 +114,12 @@ best_next {edges} {costs} {on} {plans} {n} (Some best) step known here kind cand
 }
 
 in_edges : {edges : List EdgeRow} {costs : List ℕ} {on : List Bool} {plans : List Plan}
-    {step : Step} → IsCandidate edges costs on plans step → step.edge < length edges
+    {step : Step} → IsCandidateStep edges costs on plans step → step.edge < length edges
 in_edges {edges} {step = step} c = slice_get_within edges step.edge c.row c.usable.row_is
 
 pub best_absent : {edges : List EdgeRow} {costs : List ℕ} {on : List Bool} {plans : List Plan}
     (best : Option Step) → IsBestBelow edges costs on plans (length edges) best → IsNone best
-    → (step : Step) → IsCandidate edges costs on plans step → ⊥
+    → (step : Step) → IsCandidateStep edges costs on plans step → ⊥
 best_absent None known none step c = known.absent refl step c (in_edges c)
 best_absent (Some b) known none step c = absurd (cc)
 

@@ -10,7 +10,7 @@ use Rattle.bridge_graph.specs.declared.settling.Step.{Step}
 use Rattle.bridge_graph.specs.Hypergraph.{Hypergraph, children_of, IsSupported, IsUsable, IsCostly}
 use Rattle.bridge_graph.specs.Tree.{Tree, native, by, TreeBy, via, Trees, none, each, BeginsLeast}
 use Rattle.bridge_graph.specs.Plan.{plan_at, cost_of}
-use Rattle.bridge_graph.specs.Candidate.{with_children, IsCandidate, IsCheapest}
+use Rattle.bridge_graph.specs.Candidate.{with_children, IsCandidateStep, IsCheapest}
 
 -- what a plan says while other kinds may be open
 abbrev pub IsPlanSoFar : Hypergraph → ℕ → Plan → Type 0
@@ -24,7 +24,7 @@ pub record IsSettling (graph : Hypergraph) (plans : List Plan) : Type 0 where
 
 -- a step of this graph
 abbrev pub IsStep : Hypergraph → List Plan → Step → Type 0
-IsStep graph plans step = IsCandidate graph.edges graph.costs graph.on plans step
+IsStep graph plans step = IsCandidateStep graph.edges graph.costs graph.on plans step
 
 -- trees of the kinds that a total adds up
 TreesOf : Hypergraph → List ℕ → ℕ → ℕ → Type 0

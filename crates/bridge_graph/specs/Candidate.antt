@@ -15,7 +15,7 @@ with_children plans total (kind ∷ kinds) =
     (cost_of (plan_at plans kind))
 
 -- the step settles an open kind by an edge that is on, whose children are settled
-pub record IsCandidate (edges : List EdgeRow) (costs : List ℕ) (on : List Bool) (plans : List Plan)
+pub record IsCandidateStep (edges : List EdgeRow) (costs : List ℕ) (on : List Bool) (plans : List Plan)
     (step : Step) : Type 0 where
   pub row : EdgeRow
   pub cost : ℕ
@@ -30,12 +30,12 @@ cheaper_of None step = step
 cheaper_of (Some best) step = if nat_le best.cost step.cost then best else step
 
 -- the first step costs less, or as much by an edge that is not above the other's
-pub record ComesFirst (step other : Step) : Type 0 where
+pub record IsStepBefore (step other : Step) : Type 0 where
   pub cheaper : step.cost ≤ other.cost
   pub lower : step.cost ≡ other.cost → step.edge ≤ other.edge
 
 -- a candidate that comes before every other
 pub record IsCheapest (edges : List EdgeRow) (costs : List ℕ) (on : List Bool) (plans : List Plan)
     (step : Step) : Type 0 where
-  pub candidate : IsCandidate edges costs on plans step
-  pub first : (other : Step) → IsCandidate edges costs on plans other → ComesFirst step other
+  pub candidate : IsCandidateStep edges costs on plans step
+  pub first : (other : Step) → IsCandidateStep edges costs on plans other → IsStepBefore step other

@@ -10,14 +10,14 @@ abbrev pub plan_at : List Plan → ℕ → Plan
 plan_at plans kind = slice_index_or plans kind Open
 
 -- the plan says how the kind is reached at least cost
-abbrev pub IsPlan : Hypergraph → ℕ → Plan → Type 0
-IsPlan graph kind Open = IsTreeless graph kind
-IsPlan graph kind Native = IsSupported graph kind
-IsPlan graph kind (By edge cost) = BeginsLeast graph kind edge cost
+abbrev pub IsLeastPlan : Hypergraph → ℕ → Plan → Type 0
+IsLeastPlan graph kind Open = IsTreeless graph kind
+IsLeastPlan graph kind Native = IsSupported graph kind
+IsLeastPlan graph kind (By edge cost) = BeginsLeast graph kind edge cost
 
 -- each kind has its plan, and no edge is free
-pub record IsSolved (graph : Hypergraph) (plans : List Plan) : Type 0 where
-  pub plan : (kind : ℕ) → IsPlan graph kind (plan_at plans kind)
+pub record IsGraphSolved (graph : Hypergraph) (plans : List Plan) : Type 0 where
+  pub plan : (kind : ℕ) → IsLeastPlan graph kind (plan_at plans kind)
   pub costly : IsCostly graph
 
 -- what reaching the kind costs, where that is known
@@ -27,8 +27,8 @@ cost_of Native = Some 0
 cost_of (By edge cost) = Some cost
 
 -- no plan costs more than this
-abbrev pub AreWithin : List Plan → ℕ → Type 0
-AreWithin plans limit = (kind : ℕ) → unwrap_or (cost_of (plan_at plans kind)) 0 ≤ limit
+abbrev pub ArePlansWithin : List Plan → ℕ → Type 0
+ArePlansWithin plans limit = (kind : ℕ) → unwrap_or (cost_of (plan_at plans kind)) 0 ≤ limit
 
 -- a kind before any edge is used
 abbrev pub start_at : List Bool → ℕ → Plan

@@ -48,20 +48,20 @@ pub struct Graph<const K: usize, const E: usize> {
 
 impl<const K: usize, const E: usize> Model for Graph<K, E> {
     ghost use Rattle.bridge_graph.specs.Hypergraph.{Hypergraph, hypergraph_of};
-    ghost use Rattle.bridge_graph.specs.Plan.{IsSolved};
+    ghost use Rattle.bridge_graph.specs.Plan.{IsGraphSolved};
 
     ghost Value = { Hypergraph };
 
     ghost view = { λ g. hypergraph_of g.edges g.costs g.supported g.on };
 
-    ghost invariant = { λ g. IsSolved (hypergraph_of g.edges g.costs g.supported g.on) g.plans };
+    ghost invariant = { λ g. IsGraphSolved (hypergraph_of g.edges g.costs g.supported g.on) g.plans };
 }
 
 impl<const K: usize, const E: usize> Graph<K, E> {
     ghost use Rattle.bridge_graph.specs.Hypergraph.{hypergraph_of, has_kinds_below, is_edge_cost};
     ghost use Rattle.bridge_graph.specs.Hypergraph.{IsSupported};
     ghost use Rattle.bridge_graph.specs.Tree.{IsTreeless, IsLeastCost, IsFirstEdge, LeadsBelow};
-    ghost use Rattle.bridge_graph.specs.Plan.{IsPlan, IsSolved};
+    ghost use Rattle.bridge_graph.specs.Plan.{IsGraphSolved, IsLeastPlan};
 
     /// The graph of these edges with their costs of 1 to 1,000, of which those that are `on` may be
     /// used.
@@ -118,8 +118,8 @@ impl<const K: usize, const E: usize> Graph<K, E> {
     }
 
     fn plan(&self, kind: u8) -> Plan
-        ensures plan { IsPlan self.now kind result }
-        ensures solved { (plans : List Plan) × IsSolved self.now plans }
+        ensures plan { IsLeastPlan self.now kind result }
+        ensures solved { (plans : List Plan) × IsGraphSolved self.now plans }
     {
         self.plans.get(kind as usize).copied().unwrap_or(Plan::Open)
     }

@@ -7,8 +7,8 @@
 ghost use Rattle.std.specs.Prelude.{◌≡◌, ◌<◌, ◌≤◌, ◌^◌, ◌↔◌, ℕ, IsTrue, length, IsNone, IfSome};
 ghost use Rattle.std.specs.List.{list_all};
 ghost use Rattle.bridge_graph.specs.Hypergraph.{hypergraph_of, children_of, has_kinds_below, is_edge_cost};
-ghost use Rattle.bridge_graph.specs.Plan.{plan_at, cost_of, AreWithin, IsSolved, start_at};
-ghost use Rattle.bridge_graph.specs.Candidate.{with_children, cheaper_of, IsCandidate, IsCheapest};
+ghost use Rattle.bridge_graph.specs.Plan.{plan_at, cost_of, ArePlansWithin, IsGraphSolved, start_at};
+ghost use Rattle.bridge_graph.specs.Candidate.{with_children, cheaper_of, IsCandidateStep, IsCheapest};
 
 use crate::EdgeRow;
 
@@ -60,7 +60,7 @@ pub fn settle(edges: &[EdgeRow], costs: &[u32], supported: &[bool], on: &[bool],
     requires on { length on.now ≡ length edges.now }
     requires kinds { IsTrue (list_all (has_kinds_below (length plans.old)) edges.now) }
     requires edge_costs { IsTrue (list_all is_edge_cost costs.now) }
-    ensures { IsSolved (hypergraph_of edges.now costs.now supported.now on.now) plans.new }
+    ensures { IsGraphSolved (hypergraph_of edges.now costs.now supported.now on.now) plans.new }
 {
     start(supported, plans);
     while let Some(step) = cheapest(edges, costs, on, plans) {
@@ -91,9 +91,9 @@ fn cheapest(edges: &[EdgeRow], costs: &[u32], on: &[bool], plans: &[Plan]) -> Op
     requires costs { length costs.now ≡ length edges.now }
     requires on { length on.now ≡ length edges.now }
     requires kinds { IsTrue (list_all (has_kinds_below (length plans.now)) edges.now) }
-    requires within { AreWithin plans.now (2 ^ 120) }
+    requires within { ArePlansWithin plans.now (2 ^ 120) }
     ensures none { IsNone result → (step : Step)
-        → IsCandidate edges.now costs.now on.now plans.now step → ⊥ }
+        → IsCandidateStep edges.now costs.now on.now plans.now step → ⊥ }
     ensures cheapest { IfSome result (IsCheapest edges.now costs.now on.now plans.now) }
     ensures kind { IfSome result (λ step. step.kind < length plans.now) }
 {
@@ -128,11 +128,11 @@ fn candidate(
     requires costs { length costs.now ≡ length edges.now }
     requires on { length on.now ≡ length edges.now }
     requires kinds { IsTrue (list_all (has_kinds_below (length plans.now)) edges.now) }
-    requires within { AreWithin plans.now (2 ^ 120) }
+    requires within { ArePlansWithin plans.now (2 ^ 120) }
     requires edge { edge < length edges.now }
     ensures none { IsNone result → (step : Step) → step.edge ≡ edge
-        → IsCandidate edges.now costs.now on.now plans.now step → ⊥ }
-    ensures step { IfSome result (IsCandidate edges.now costs.now on.now plans.now) }
+        → IsCandidateStep edges.now costs.now on.now plans.now step → ⊥ }
+    ensures step { IfSome result (IsCandidateStep edges.now costs.now on.now plans.now) }
     ensures place { IfSome result (λ step. (step.edge ≡ edge) × (step.kind < length plans.now)) }
 {
     let row = edges[edge];
@@ -150,7 +150,7 @@ fn candidate(
 /// What an edge costs with its children, if each of them is settled.
 fn total(row: &EdgeRow, cost: u32, plans: &[Plan]) -> Option<u128>
     requires kinds { IsTrue (has_kinds_below (length plans.now) row.now) }
-    requires within { AreWithin plans.now (2 ^ 120) }
+    requires within { ArePlansWithin plans.now (2 ^ 120) }
     ensures { result ≡ with_children plans.now cost (children_of row.now) }
 {
     let mut total = u128::from(cost);

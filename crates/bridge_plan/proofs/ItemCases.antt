@@ -12,15 +12,15 @@ use Rattle.item_core.specs.Kind.{kind_number}
 use Rattle.item_core.specs.KindOf.{kind_of_body}
 use Rattle.fresh_bridging.specs.Entries.{Entry}
 use Rattle.fresh_bridging.specs.TheRules.{own_entries}
-use Rattle.bridge_plan.specs.Adds.{Adds}
-use Rattle.bridge_plan.specs.Worked.{IsWithin, worked, worked_node}
+use Rattle.bridge_plan.specs.AddsHeld.{AddsHeld}
+use Rattle.bridge_plan.specs.Worked.{IsItemWithinLevels, worked, worked_node}
 use Rattle.bridge_plan.specs.declared.plan.Plan.{Plan}
 use Rattle.bridge_plan.proofs.Opened.{worked_natively, worked_opened}
 
-module _ (choice : ℕ → Choice) (n : ℕ) (item : Item) (within : IsWithin choice n item)
+module _ (choice : ℕ → Choice) (n : ℕ) (item : Item) (within : IsItemWithinLevels choice n item)
     (plan after : Plan) (es fs : List Entry) where
   abbrev Planned : Held Item Entry → Type 0
-  Planned h = IsTrue h.fits × Adds plan after es fs h
+  Planned h = IsTrue h.fits × AddsHeld plan after es fs h
 
   pub planned_natively : choice (kind_number (kind_of_body item.body)) ≡ Native
       → after.leaves.items ≡ plan.leaves.items ++ item ∷ [] → after.nodes ≡ plan.nodes
@@ -38,9 +38,9 @@ module _ (choice : ℕ → Choice) (n : ℕ) (item : Item) (within : IsWithin ch
   pub planned_by : {T : Type 0} (edge : ℕ) → choice (kind_number (kind_of_body item.body)) ≡ By edge
       → (answer : Result T NumberFault)
       → ExactWhere answer (IsTrue (worked_node choice (worked choice (n - 1)) edge item).fits)
-      (λ _. Adds plan after es fs (worked_node choice (worked choice (n - 1)) edge item))
+      (λ _. AddsHeld plan after es fs (worked_node choice (worked choice (n - 1)) edge item))
       → ExactWhere answer (IsTrue (worked choice n item).fits)
-      (λ _. Adds plan after es fs (worked choice n item))
+      (λ _. AddsHeld plan after es fs (worked choice n item))
   planned_by edge by answer said =
       subst (λ (h : Held Item Entry). ExactWhere answer (IsTrue h.fits)
-      (λ _. Adds plan after es fs h)) (sym (worked_opened choice item n edge within by)) said
+      (λ _. AddsHeld plan after es fs h)) (sym (worked_opened choice item n edge within by)) said

@@ -17,9 +17,9 @@ use Rattle.bridge_face.specs.Law.{listed}
 use Rattle.bridge_face.specs.declared.kept_item.KeptItem.{KeptItem}
 use Rattle.fresh_bridging.specs.Entries.{Entry, expression_in, put_in, put_into, put_into_fits}
 use Rattle.fresh_bridging.specs.TheRules.{edge_at, image_fits}
-use Rattle.bridge_plan.specs.Adds.{Adds, kept_of}
+use Rattle.bridge_plan.specs.AddsHeld.{AddsHeld, kept_of}
 use Rattle.bridge_plan.specs.Means.{Means}
-use Rattle.bridge_plan.specs.Worked.{IsWithin, Splits, worked, worked_each, worked_in}
+use Rattle.bridge_plan.specs.Worked.{IsItemWithinLevels, Splits, worked, worked_each, worked_in}
 use Rattle.bridge_plan.specs.declared.plan.Plan.{Plan}
 use Rattle.bridge_plan.proofs.Nodes.{groups_held, needs_others, needs_outer, node, node_planned, others_held, others_within, placed}
 
@@ -28,7 +28,7 @@ module _ (first : Means) (n edge : ℕ) (item : Item) where
   below child = worked first.choice n child
 
   abbrev pub SplitsHere : Type 0
-  SplitsHere = Splits first.choice (worked first.choice n) (IsWithin first.choice n) edge item
+  SplitsHere = Splits first.choice (worked first.choice n) (IsItemWithinLevels first.choice n) edge item
 
   module _ (means : Means) (same : means ≡ first) (image : Image)
       (is : image ≡ image_of (edge_at edge) item) where
@@ -54,11 +54,11 @@ module _ (first : Means) (n edge : ℕ) (item : Item) where
       pub others_ready : SplitsHere
           → expression_in standing
           ≡ expression_in (groups_held first.choice (worked first.choice n) edge item).entries
-          → All (λ child. IsWithin means.choice n (put_in standing child)) others
+          → All (λ child. IsItemWithinLevels means.choice n (put_in standing child)) others
       others_ready h alike =
-          subst (λ (m : Means). All (λ child. IsWithin m.choice n (put_in standing child)) others)
+          subst (λ (m : Means). All (λ child. IsItemWithinLevels m.choice n (put_in standing child)) others)
           (sym same)
-          (subst (All (λ child. IsWithin first.choice n (put_in standing child)))
+          (subst (All (λ child. IsItemWithinLevels first.choice n (put_in standing child)))
           (sym listed_children)
           (others_within first.choice (worked first.choice n) edge item standing alike h))
 
@@ -83,17 +83,17 @@ module _ (first : Means) (n edge : ℕ) (item : Item) (image : Image)
     (is : image ≡ image_of (edge_at edge) item) (one_means : Means) (one_same : one_means ≡ first)
     (one two : Plan) (none inner standing : List Entry) (empty : none ≡ [])
     (groups : IsTrue (worked_each one_means.choice (worked one_means.choice n) image.groups).fits
-    × Adds one two none inner
+    × AddsHeld one two none inner
     (worked_each one_means.choice (worked one_means.choice n) image.groups))
     (stands : expression_in standing ≡ expression_in inner) where
   abbrev Here : Held Item Entry → Type 0
-  Here h = IsTrue h.fits × Adds one two [] inner h
+  Here h = IsTrue h.fits × AddsHeld one two [] inner h
 
   groups_here : Here (groups_held first.choice (worked first.choice n) edge item)
   groups_here =
       subst Here (groups_said first n edge item one_means one_same image is) (
         groups.0,
-        subst (λ l. Adds one two l inner
+        subst (λ l. AddsHeld one two l inner
             (worked_each one_means.choice (worked one_means.choice n) image.groups)) empty groups.1,
       )
 
@@ -114,10 +114,10 @@ module _ (first : Means) (n edge : ℕ) (item : Item) (image : Image)
         (leaves : one.leaves.items ≡ plan.leaves.items)
         (nodes : one.nodes.items ≡ plan.nodes.items ++ kept_of (edge, item) ∷ [])
         (further : IsTrue (worked_in two_means.choice (worked two_means.choice n) standing
-        others).fits × Adds two three [] []
+        others).fits × AddsHeld two three [] []
         (worked_in two_means.choice (worked two_means.choice n) standing others)) where
       abbrev There : Held Item Entry → Type 0
-      There h = IsTrue h.fits × Adds two three [] [] h
+      There h = IsTrue h.fits × AddsHeld two three [] [] h
 
       others_here : There (others_held first.choice (worked first.choice n) edge item standing)
       others_here =
@@ -134,7 +134,7 @@ module _ (first : Means) (n edge : ℕ) (item : Item) (image : Image)
       by_answer : {T : Type 0} (r : Result T NumberFault)
           → Said r standing item.body (image_of (edge_at edge) item).exprs
           → ExactWhere r (IsTrue (node first.choice (worked first.choice n) edge item).fits)
-          (λ _. Adds plan three es fs (node first.choice (worked first.choice n) edge item))
+          (λ _. AddsHeld plan three es fs (node first.choice (worked first.choice n) edge item))
       by_answer (Ok x) h =
           node_planned first.choice (worked first.choice n) edge item standing stands_alike fit
           leaves nodes groups_here.0 groups_here.1 others_here.0 others_here.1 h.0 h.1
@@ -148,7 +148,7 @@ module _ (first : Means) (n edge : ℕ) (item : Item) (image : Image)
           → exprs ≡ image.exprs → Said answer after body exprs
           → ExactWhere answer
           (IsTrue (node first.choice (worked first.choice n) edge item).fits)
-          (λ _. Adds plan three es fs (node first.choice (worked first.choice n) edge item))
+          (λ _. AddsHeld plan three es fs (node first.choice (worked first.choice n) edge item))
       node_answered answer after body exprs kept body_is exprs_are said =
           by_answer answer
           (subst (λ s. Said answer s item.body (image_of (edge_at edge) item).exprs) kept

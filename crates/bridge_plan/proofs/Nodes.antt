@@ -12,7 +12,7 @@ use Rattle.bridge_face.specs.declared.kept_item.KeptItem.{KeptItem}
 use Rattle.fresh_bridging.specs.Entries.{Entry, expression_in, put_in, put_into, put_into_fits}
 use Rattle.fresh_bridging.specs.TableLaws.{and_first, and_second}
 use Rattle.fresh_bridging.specs.TheRules.{children_by, edge_at, image_fits}
-use Rattle.bridge_plan.specs.Adds.{Adds, kept_of}
+use Rattle.bridge_plan.specs.AddsHeld.{AddsHeld, kept_of}
 use Rattle.bridge_plan.specs.Worked.{Splits, worked_each, worked_in, worked_node}
 use Rattle.bridge_plan.specs.declared.plan.Plan.{Plan}
 use Rattle.bridge_plan.specs.Alike.{into_alike, into_fits_alike, put_alike, worked_in_alike}
@@ -73,10 +73,10 @@ module _ (choice : ℕ → Choice) (below : Item → Held Item Entry) (edge : �
         → IsTrue (image_fits edge item)
         → one.leaves.items ≡ plan.leaves.items
         → one.nodes.items ≡ plan.nodes.items ++ kept_of (edge, item) ∷ []
-        → IsTrue groups_held.fits → Adds one two [] inner groups_held
-        → IsTrue (others_held standing).fits → Adds two three [] [] (others_held standing)
+        → IsTrue groups_held.fits → AddsHeld one two [] inner groups_held
+        → IsTrue (others_held standing).fits → AddsHeld two three [] [] (others_held standing)
         → IsTrue (outer_fits standing) → more ≡ entries ++ outer standing
-        → IsTrue node.fits × Adds plan three entries more node
+        → IsTrue node.fits × AddsHeld plan three entries more node
     node_planned {plan} {one} {two} {three} {inner} {entries} {more} image leaves nodes groups_fit
         groups others_fit others outer_fit put = (
           ap₂ ◌&&◌ image (ap₂ ◌&&◌ groups_fit (ap₂ ◌&&◌ (sym outer_fits_same ∙ outer_fit)

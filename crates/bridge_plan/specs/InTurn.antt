@@ -7,9 +7,9 @@ use Rattle.item_core.specs.declared.item.Item.{Item}
 use Rattle.fresh_bridging.specs.Entries.{Entry, put_in, put_in_fits}
 use Rattle.fresh_bridging.specs.TableLaws.{and_first, and_second}
 use Rattle.fresh_bridging.specs.TheRules.{rules_by}
-use Rattle.bridge_plan.specs.Adds.{Adds}
+use Rattle.bridge_plan.specs.AddsHeld.{AddsHeld}
 use Rattle.bridge_plan.specs.Means.{Means}
-use Rattle.bridge_plan.specs.Worked.{IsWithin, worked, worked_each, worked_in}
+use Rattle.bridge_plan.specs.Worked.{IsItemWithinLevels, worked, worked_each, worked_in}
 use Rattle.bridge_plan.specs.declared.plan.Plan.{Plan}
 use Rattle.bridge_plan.specs.SoFar.{SoFar, all_planned, needs_one, none_yet, one_more}
 
@@ -23,11 +23,11 @@ module _ (first : Means) (n : ℕ) where
   pub record EachSoFar (all left : List Item) (plan now : Plan) (es fs : List Entry)
       (means : Means) : Type 0 where
     pub so_far : SoFar (each_held all) (each_held left) plan now es fs
-    pub within : All (IsWithin first.choice n) left
+    pub within : All (IsItemWithinLevels first.choice n) left
     pub same : means ≡ first
 
   pub each_start : (all : List Item) (plan : Plan) (es : List Entry)
-      → All (IsWithin first.choice n) all → EachSoFar all all plan plan es es first
+      → All (IsItemWithinLevels first.choice n) all → EachSoFar all all plan plan es es first
   each_start all plan es within = record {
     so_far = none_yet (each_held all) plan es;
     within = within;
@@ -37,13 +37,13 @@ module _ (first : Means) (n : ℕ) where
   module _ (all left rest : List Item) (x : Item) (plan now : Plan) (es fs : List Entry)
       (means : Means) (h : EachSoFar all left plan now es fs means) (next : left ≡ x ∷ rest)
     where
-      all_within : All (IsWithin first.choice n) (x ∷ rest)
-      all_within = subst (All (IsWithin first.choice n)) next h.within
+      all_within : All (IsItemWithinLevels first.choice n) (x ∷ rest)
+      all_within = subst (All (IsItemWithinLevels first.choice n)) next h.within
 
-      pub each_within : IsWithin means.choice n x
+      pub each_within : IsItemWithinLevels means.choice n x
       each_within =
-          subst (λ (m : Means). IsWithin m.choice n x) (sym h.same)
-          (All-head (IsWithin first.choice n) x rest all_within)
+          subst (λ (m : Means). IsItemWithinLevels m.choice n x) (sym h.same)
+          (All-head (IsItemWithinLevels first.choice n) x rest all_within)
 
       opened : SoFar (each_held all) (joined (item_held x) (each_held rest)) plan now es fs
       unfolding worked_each
@@ -55,19 +55,20 @@ module _ (first : Means) (n : ℕ) where
           (needs_one (each_held all) (item_held x) (each_held rest) plan now es fs opened t)
 
       pub each_step : (after : Plan) (gs : List Entry) (later : Means)
-          → IsTrue (worked means.choice n x).fits → Adds now after fs gs (worked means.choice n x)
+          → IsTrue (worked means.choice n x).fits
+          → AddsHeld now after fs gs (worked means.choice n x)
           → later ≡ means → EachSoFar all rest plan after es gs later
       each_step after gs later fits adds same = record {
         so_far = one_more (each_held all) (item_held x) (each_held rest) plan now es fs opened after
             gs (subst (λ (m : Means). IsTrue (worked m.choice n x).fits) h.same fits)
-            (subst (λ (m : Means). Adds now after fs gs (worked m.choice n x)) h.same adds);
-        within = All-tail (IsWithin first.choice n) x rest all_within;
+            (subst (λ (m : Means). AddsHeld now after fs gs (worked m.choice n x)) h.same adds);
+        within = All-tail (IsItemWithinLevels first.choice n) x rest all_within;
         same = same ∙ h.same;
       }
 
   pub each_end : (all left : List Item) (plan now : Plan) (es fs : List Entry) (means : Means)
       → EachSoFar all left plan now es fs means → left ≡ []
-      → IsTrue (each_held all).fits × Adds plan now es fs (each_held all)
+      → IsTrue (each_held all).fits × AddsHeld plan now es fs (each_held all)
   unfolding worked_each
   each_end all left plan now es fs means h none =
       all_planned (each_held all) plan now es fs
@@ -84,7 +85,7 @@ module _ (first : Means) (n : ℕ) where
     in_held items = worked_in first.choice (worked first.choice n) inner items
 
     abbrev Within : Item → Type 0
-    Within item = IsWithin first.choice n (put_in inner item)
+    Within item = IsItemWithinLevels first.choice n (put_in inner item)
 
     pub record InSoFar (all left : List Item) (plan now : Plan) (means : Means)
         (standing : List Entry) : Type 0 where
@@ -108,10 +109,11 @@ module _ (first : Means) (n : ℕ) where
       in_within_all : All Within (x ∷ rest)
       in_within_all = subst (All Within) next h.within
 
-      pub in_within : (made : Item) → made ≡ put_in standing x → IsWithin means.choice n made
+      pub in_within : (made : Item) → made ≡ put_in standing x
+          → IsItemWithinLevels means.choice n made
       in_within made is =
-          subst (IsWithin means.choice n) (sym (is ∙ ap (λ s. put_in s x) h.stands))
-          (subst (λ (m : Means). IsWithin m.choice n (put_in inner x)) (sym h.same)
+          subst (IsItemWithinLevels means.choice n) (sym (is ∙ ap (λ s. put_in s x) h.stands))
+          (subst (λ (m : Means). IsItemWithinLevels m.choice n (put_in inner x)) (sym h.same)
           (All-head Within x rest in_within_all))
 
       in_opened : SoFar (in_held all) (joined (child_held x) (in_held rest)) plan now [] []
@@ -140,7 +142,7 @@ module _ (first : Means) (n : ℕ) where
       pub in_step : (made : Item) → made ≡ put_in standing x → IsTrue (put_in_fits standing x)
           → (after : Plan) (later : Means) (none left_over : List Entry)
           → IsTrue (worked means.choice n made).fits
-          → Adds now after none left_over (worked means.choice n made)
+          → AddsHeld now after none left_over (worked means.choice n made)
           → later ≡ means → InSoFar all rest plan after later standing
       in_step made is put after later none left_over fits adds same = record {
         so_far = one_more (in_held all) (child_held x) (in_held rest) plan now [] [] in_opened
@@ -153,7 +155,7 @@ module _ (first : Means) (n : ℕ) where
         where
           Made : Means → Item → Type 0
           Made m i =
-              IsTrue (worked m.choice n i).fits × Adds now after none left_over
+              IsTrue (worked m.choice n i).fits × AddsHeld now after none left_over
               (worked m.choice n i)
 
           here : Made first (put_in inner x)
@@ -166,7 +168,7 @@ module _ (first : Means) (n : ℕ) where
 
     pub in_end : (all left : List Item) (plan now : Plan) (means : Means) (standing : List Entry)
         → InSoFar all left plan now means standing → left ≡ []
-        → IsTrue (in_held all).fits × Adds plan now [] [] (in_held all)
+        → IsTrue (in_held all).fits × AddsHeld plan now [] [] (in_held all)
     unfolding worked_in
     in_end all left plan now means standing h none =
         all_planned (in_held all) plan now [] []

@@ -1,4 +1,4 @@
-pub mod Adds
+pub mod AddsHeld
 pub mod Alike
 pub mod EntryCode
 pub mod InTurn

@@ -6,7 +6,7 @@ use Rattle.expansion.specs.Grown.{Held, joined, nothing_held}
 use Rattle.item_core.specs.declared.item.Item.{Item}
 use Rattle.fresh_bridging.specs.Entries.{Entry}
 use Rattle.fresh_bridging.specs.TableLaws.{and_first, and_second}
-use Rattle.bridge_plan.specs.Adds.{Adds, kept_of}
+use Rattle.bridge_plan.specs.AddsHeld.{AddsHeld, kept_of}
 use Rattle.bridge_plan.specs.declared.plan.Plan.{Plan}
 
 and_assoc : (a b c : Bool) → ((a && b) && c) ≡ (a && (b && c))
@@ -35,7 +35,8 @@ joined_nothing a = λ i. record {
 
 -- what is added by two steps
 pub adds_both : (plan now after : Plan) (es fs gs : List Entry) (a b : Held Item Entry)
-    → Adds plan now es fs a → Adds now after fs gs b → Adds plan after es gs (joined a b)
+    → AddsHeld plan now es fs a → AddsHeld now after fs gs b
+    → AddsHeld plan after es gs (joined a b)
 adds_both plan now after es fs gs a b h k = record {
   leaves = k.leaves ∙ ap (λ l. l ++ b.leaves) h.leaves
       ∙ append_assoc plan.leaves.items a.leaves b.leaves;
@@ -49,7 +50,7 @@ pub record SoFar (all left : Held Item Entry) (plan now : Plan)
     (entries more : List Entry) : Type 0 where
   pub done : Held Item Entry
   pub good : done.fits ≡ true
-  pub adds : Adds plan now entries more done
+  pub adds : AddsHeld plan now entries more done
   pub whole : all ≡ joined done left
 
 pub none_yet : (all : Held Item Entry) (plan : Plan) (entries : List Entry)
@@ -68,7 +69,7 @@ none_yet all plan entries = record {
 module _ (all one left : Held Item Entry) (plan now : Plan) (entries more : List Entry)
     (so_far : SoFar all (joined one left) plan now entries more) where
   pub one_more : (after : Plan) (most : List Entry) → one.fits ≡ true
-      → Adds now after more most one → SoFar all left plan after entries most
+      → AddsHeld now after more most one → SoFar all left plan after entries most
   one_more after most fits adds = record {
     done = joined so_far.done one;
     good = ap₂ ◌&&◌ so_far.good fits;
@@ -85,9 +86,9 @@ module _ (all one left : Held Item Entry) (plan now : Plan) (entries more : List
 
 pub all_planned : (all : Held Item Entry) (plan now : Plan) (entries more : List Entry)
     → SoFar all nothing_held plan now entries more
-    → IsTrue all.fits × Adds plan now entries more all
+    → IsTrue all.fits × AddsHeld plan now entries more all
 all_planned all plan now entries more h =
     let same : h.done ≡ all = sym (h.whole ∙ joined_nothing h.done) in (
       sym (ap (λ (x : Held Item Entry). x.fits) same) ∙ h.good,
-      subst (Adds plan now entries more) same h.adds,
+      subst (AddsHeld plan now entries more) same h.adds,
     )

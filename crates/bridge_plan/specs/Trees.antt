@@ -16,7 +16,7 @@ use Rattle.item_core.specs.KindOf.{kind_of_body}
 use Rattle.bridge_face.specs.Law.{IsItemFor}
 use Rattle.fresh_bridging.specs.Entries.{Entry, put_in}
 use Rattle.fresh_bridging.specs.TheRules.{children_by, edge_at, rules_by}
-use Rattle.bridge_plan.specs.Worked.{IsWithin, Splits, StandsBy, worked, worked_by, worked_each, worked_in, worked_node}
+use Rattle.bridge_plan.specs.Worked.{IsItemWithinLevels, Splits, StandsBy, worked, worked_by, worked_each, worked_in, worked_node}
 
 module _ (choice : ℕ → Choice) where
   -- a bridging of the item, or of several, that holds this
@@ -100,12 +100,12 @@ module _ (choice : ℕ → Choice) where
     by_choice (By edge) item e h = node_bridged edge item e h
     by_choice Missing item e h = absurd h
 
-  pub within_bridged : (n : ℕ) (item : Item) → IsWithin choice n item
+  pub within_bridged : (n : ℕ) (item : Item) → IsItemWithinLevels choice n item
       → HasBridging item (worked choice n item)
-  unfolding IsWithin worked
+  unfolding IsItemWithinLevels worked
   within_bridged zero item h = absurd h
   within_bridged (suc n) item h =
-      by_choice (worked choice n) (IsWithin choice n) (within_bridged n)
+      by_choice (worked choice n) (IsItemWithinLevels choice n) (within_bridged n)
       (choice (kind_number (kind_of_body item.body))) item refl h
 
   -- ---- ranked items
@@ -117,32 +117,33 @@ module _ (choice : ℕ → Choice) where
       (lower : (item child : Item) → RanksBelow Can rank (rank item) child
       → level child < level item) where
     by_kind : (n : ℕ) (item : Item) → Can item
-        → ((child : Item) → RanksBelow Can rank (rank item) child → IsWithin choice n child)
+        → ((child : Item) → RanksBelow Can rank (rank item) child → IsItemWithinLevels choice n child)
         → (c : Choice) → choice (kind_number (kind_of_body item.body)) ≡ c
-        → StandsBy choice (worked choice n) (IsWithin choice n) c item
+        → StandsBy choice (worked choice n) (IsItemWithinLevels choice n) c item
     unfolding StandsBy
     by_kind n item can lowered Native e = tt
     by_kind n item can lowered (By edge) e =
-        let groups = All-weaker (RanksBelow Can rank (rank item)) (IsWithin choice n) lowered
+        let groups = All-weaker (RanksBelow Can rank (rank item)) (IsItemWithinLevels choice n) lowered
         (children_by edge item).groups (ranked.groups item edge can e) in
-        let trees = each_bridged (worked choice n) (IsWithin choice n) (within_bridged n)
+        let trees = each_bridged (worked choice n) (IsItemWithinLevels choice n) (within_bridged n)
         (children_by edge item).groups groups in
         let Within : Held Item Entry → Type 0 = λ w.
-        All (λ child. IsWithin choice n (put_in w.entries child)) (children_by edge item).others in
+        All (λ child. IsItemWithinLevels choice n (put_in w.entries child)) (children_by edge item).others in
         record {
           suits = suits item edge can e;
           groups = groups;
           others = subst Within trees.hold
               (All-weaker (λ child. RanksBelow Can rank (rank item) (put_in trees.entries child))
-              (λ child. IsWithin choice n (put_in trees.entries child))
+              (λ child. IsItemWithinLevels choice n (put_in trees.entries child))
               (λ child b. lowered (put_in trees.entries child) b)
               (children_by edge item).others
               (ranked.others item edge trees.entries can e trees.trees));
         }
     by_kind n item can lowered Missing e = absurd (ranked.chosen item can e)
 
-    pub ranked_within : (n : ℕ) (item : Item) → Can item → level item < n → IsWithin choice n item
-    unfolding IsWithin
+    pub ranked_within : (n : ℕ) (item : Item) → Can item → level item < n
+        → IsItemWithinLevels choice n item
+    unfolding IsItemWithinLevels
     ranked_within zero item can h = absurd (omega (arith, h))
     ranked_within (suc n) item can h =
         by_kind n item can

@@ -55,7 +55,7 @@ module _ (choice : ℕ → Choice) where
   StandsBy below P Missing item = ⊥
 
   -- the item and all below it are valid and have choices, no deeper than a number
-  unfoldable pub IsWithin : ℕ → Item → Type 0
-  IsWithin zero item = ⊥
-  IsWithin (suc n) item =
-      StandsBy (worked n) (IsWithin n) (choice (kind_number (kind_of_body item.body))) item
+  unfoldable pub IsItemWithinLevels : ℕ → Item → Type 0
+  IsItemWithinLevels zero item = ⊥
+  IsItemWithinLevels (suc n) item =
+      StandsBy (worked n) (IsItemWithinLevels n) (choice (kind_number (kind_of_body item.body))) item

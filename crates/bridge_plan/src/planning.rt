@@ -10,8 +10,8 @@ ghost use Rattle.item_core.specs.KindOf.{kind_of_body};
 ghost use Rattle.bridge_face.specs.Law.{listed};
 ghost use Rattle.fresh_bridging.specs.Entries.{put_in, put_into, put_into_fits};
 ghost use Rattle.fresh_bridging.specs.TheRules.{edge_at, own_entries};
-ghost use Rattle.bridge_plan.specs.Adds.{Adds};
-ghost use Rattle.bridge_plan.specs.Worked.{IsWithin, Splits, worked, worked_each, worked_in, worked_node};
+ghost use Rattle.bridge_plan.specs.AddsHeld.{AddsHeld};
+ghost use Rattle.bridge_plan.specs.Worked.{IsItemWithinLevels, Splits, worked, worked_each, worked_in, worked_node};
 
 use crate::{Entry, Plan, Rewriter, Standing};
 use aff_core::Address;
@@ -34,10 +34,10 @@ pub fn plan_item<R: Rewriter>(
     item: Item,
     levels: u8,
 ) -> Result<(), NumberFault>
-    requires { IsWithin (R.means rewriter.old).choice levels item }
+    requires { IsItemWithinLevels (R.means rewriter.old).choice levels item }
     ensures answer { let held = worked (R.means rewriter.old).choice levels item in
         ExactWhere result (IsTrue held.fits)
-        (λ _. Adds plan.old plan.new entries.old.items entries.new.items held) }
+        (λ _. AddsHeld plan.old plan.new entries.old.items entries.new.items held) }
     ensures means { R.means rewriter.new ≡ R.means rewriter.old }
     ensures turns { OnOk result (R.turns rewriter.new + length plan.old.nodes.items
         ≤ R.turns rewriter.old + length plan.new.nodes.items) }
@@ -64,11 +64,11 @@ fn plan_node<R: Rewriter>(
     requires chosen { (R.means rewriter.old).choice (kind_number (kind_of_body item.body))
         ≡ By edge }
     requires splits { let choice = (R.means rewriter.old).choice in
-        Splits choice (worked choice (levels - 1)) (IsWithin choice (levels - 1)) edge item }
+        Splits choice (worked choice (levels - 1)) (IsItemWithinLevels choice (levels - 1)) edge item }
     ensures answer { let choice = (R.means rewriter.old).choice in
         let held = worked_node choice (worked choice (levels - 1)) edge item in
         ExactWhere result (IsTrue held.fits)
-        (λ _. Adds plan.old plan.new entries.old.items entries.new.items held) }
+        (λ _. AddsHeld plan.old plan.new entries.old.items entries.new.items held) }
     ensures means { R.means rewriter.new ≡ R.means rewriter.old }
     ensures turns { OnOk result (R.turns rewriter.new + length plan.old.nodes.items
         ≤ R.turns rewriter.old + length plan.new.nodes.items) }
@@ -98,11 +98,11 @@ fn plan_each<R: Rewriter>(
     groups: Items,
     levels: u8,
 ) -> Result<(), NumberFault>
-    requires { All (IsWithin (R.means rewriter.old).choice levels) groups }
+    requires { All (IsItemWithinLevels (R.means rewriter.old).choice levels) groups }
     ensures answer { let choice = (R.means rewriter.old).choice in
         let held = worked_each choice (worked choice levels) groups in
         ExactWhere result (IsTrue held.fits)
-        (λ _. Adds plan.old plan.new entries.old.items entries.new.items held) }
+        (λ _. AddsHeld plan.old plan.new entries.old.items entries.new.items held) }
     ensures means { R.means rewriter.new ≡ R.means rewriter.old }
     ensures turns { OnOk result (R.turns rewriter.new + length plan.old.nodes.items
         ≤ R.turns rewriter.old + length plan.new.nodes.items) }
@@ -123,11 +123,11 @@ fn plan_in<R: Rewriter>(
     items: Vec<Item>,
     levels: u8,
 ) -> Result<(), NumberFault>
-    requires { All (λ item. IsWithin (R.means rewriter.old).choice levels
+    requires { All (λ item. IsItemWithinLevels (R.means rewriter.old).choice levels
         (put_in standing.old item)) items.items }
     ensures answer { let choice = (R.means rewriter.old).choice in
         let held = worked_in choice (worked choice levels) standing.old items.items in
-        ExactWhere result (IsTrue held.fits) (λ _. Adds plan.old plan.new [] [] held) }
+        ExactWhere result (IsTrue held.fits) (λ _. AddsHeld plan.old plan.new [] [] held) }
     ensures means { R.means rewriter.new ≡ R.means rewriter.old }
     ensures turns { OnOk result (R.turns rewriter.new + length plan.old.nodes.items
         ≤ R.turns rewriter.old + length plan.new.nodes.items) }

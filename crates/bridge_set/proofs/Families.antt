@@ -7,7 +7,7 @@ use Rattle.std.proofs.lemmas.List.Elements.{All-head, All-tail}
 use Rattle.std.proofs.lemmas.Option.{none-some, same_Some}
 use Rattle.item_core.specs.declared.family.Family.{Family}
 use Rattle.item_core.specs.Edge.{family_eq}
-use Rattle.bridge_face.specs.State.{State}
+use Rattle.bridge_face.specs.BridgeState.{BridgeState}
 use Rattle.fresh_bridging.specs.TableLaws.{and_first, and_second, equal_family, family_itself}
 use Rattle.bridge_set.specs.Bridges.{IsChangedFor, at_family, families_of, occur_once}
 
@@ -28,7 +28,7 @@ any_at f (g ∷ fs) (suc n) e =
 -- ---- where no family occurs twice
 
 -- none of the others is of the family
-untouched : (f : Family) (change : State → State) (ss : List State)
+untouched : (f : Family) (change : BridgeState → BridgeState) (ss : List BridgeState)
     → list_any (family_eq f) (families_of ss) ≡ false → map (at_family f change) ss ≡ ss
 untouched f change [] e = refl
 untouched f change (s ∷ ss) e =
@@ -47,14 +47,14 @@ apart t fs n f e at = by (family_eq f t) refl
         let same = equal_family f t h in
         absurd (true≢false (sym (any_at t fs n (at ∙ ap Some same)) ∙ e))
 
-family_at : (ss : List State) (n : ℕ) (s : State) → slice_get ss n ≡ Some s
+family_at : (ss : List BridgeState) (n : ℕ) (s : BridgeState) → slice_get ss n ≡ Some s
     → slice_get (families_of ss) n ≡ Some s.family
 family_at [] n s e = absurd (none-some s e)
-family_at (t ∷ ss) zero s e = ap (λ (x : State). Some x.family) (same_Some t s e)
+family_at (t ∷ ss) zero s e = ap (λ (x : BridgeState). Some x.family) (same_Some t s e)
 family_at (t ∷ ss) (suc n) s e = family_at ss n s e
 
 -- the change at a place is that of the family
-pub at_place : (change : State → State) (ss : List State) (n : ℕ) (s : State)
+pub at_place : (change : BridgeState → BridgeState) (ss : List BridgeState) (n : ℕ) (s : BridgeState)
     → IsTrue (occur_once (families_of ss)) → slice_get ss n ≡ Some s
     → slice_set ss n (change s) ≡ map (at_family s.family change) ss
 at_place change [] n s once e = absurd (none-some s e)
@@ -63,7 +63,7 @@ at_place change (t ∷ ss) zero s once e =
     let others = not-true (list_any (family_eq t.family) (families_of ss))
     (and_first (not (list_any (family_eq t.family) (families_of ss)))
     (occur_once (families_of ss)) once) in
-    subst (λ (x : State). change x ∷ ss ≡ map (at_family x.family change) (t ∷ ss)) same
+    subst (λ (x : BridgeState). change x ∷ ss ≡ map (at_family x.family change) (t ∷ ss)) same
     (sym (ap (λ b. cond b (change t) t ∷ map (at_family t.family change) ss)
     (family_itself t.family)
     ∙ ap (λ ts. change t ∷ ts) (untouched t.family change ss others)))
@@ -78,7 +78,7 @@ at_place change (t ∷ ss) (suc n) s once e =
     ∙ sym (ap (λ b. cond b (change t) t ∷ map (at_family s.family change) ss) other)
 
 -- so what was changed for a family was changed at it
-pub at_its_family : (change : State → State) (old new : List State) (f : Family)
+pub at_its_family : (change : BridgeState → BridgeState) (old new : List BridgeState) (f : Family)
     → IsTrue (occur_once (families_of old)) → IsChangedFor f change old new
     → new ≡ map (at_family f change) old
 at_its_family change old new f once h =

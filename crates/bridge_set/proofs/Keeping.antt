@@ -12,7 +12,7 @@ use Rattle.aff_core.specs.Rising.{HasDistinctKeys}
 use Rattle.aff_core.specs.KeyOrder.{address_order, either_way}
 use Rattle.item_core.specs.declared.family.Family.{Family}
 use Rattle.item_core.specs.Edge.{family_eq, family_of}
-use Rattle.bridge_face.specs.State.{Kept, State}
+use Rattle.bridge_face.specs.BridgeState.{BridgeState, KeptByAddress}
 use Rattle.bridge_face.specs.declared.kept_item.KeptItem.{KeptItem}
 use Rattle.bridge_set.specs.Adding.{AreFree, with_each}
 use Rattle.bridge_set.specs.Bridges.{kept_among, kept_by, keeping}
@@ -111,32 +111,33 @@ kept_beside family done (n ∷ rest) d =
 module _ (nodes : List KeptItem) where
   pub kept_from_nothing :
       HasDistinctKeys address_cmp (map (λ (n : KeptItem). (n.item.at, n)) nodes)
-      → (ss : List State) → All (λ (s : State). s.kept ≡ finite.empty) ss
+      → (ss : List BridgeState) → All (λ (s : BridgeState). s.kept ≡ finite.empty) ss
       → map (with_each nodes) (kept_by ss) ≡ map (keeping nodes) ss
   unfolding kept_among
   kept_from_nothing d [] h = refl
   kept_from_nothing d (s ∷ ss) h =
-      ap₂ (λ (k : Family × Kept) (ks : List (Family × Kept)). k ∷ ks)
+      ap₂ (λ (k : Family × KeptByAddress) (ks : List (Family × KeptByAddress)). k ∷ ks)
       (ap (λ k. with_each nodes (s.family, k))
-      (All-head (λ (t : State). t.kept ≡ finite.empty) s ss h)
+      (All-head (λ (t : BridgeState). t.kept ≡ finite.empty) s ss h)
       ∙ kept_beside s.family [] nodes d)
-      (kept_from_nothing d ss (All-tail (λ (t : State). t.kept ≡ finite.empty) s ss h))
+      (kept_from_nothing d ss (All-tail (λ (t : BridgeState). t.kept ≡ finite.empty) s ss h))
 
-  pub all_free : (ss : List State) → All (λ (s : State). s.kept ≡ finite.empty) ss
+  pub all_free : (ss : List BridgeState) → All (λ (s : BridgeState). s.kept ≡ finite.empty) ss
       → AreFree nodes (kept_by ss)
   all_free ss h = each nodes
     where
-      none : (at : Address) → All (λ (k : Family × Kept). finite.get k.1 at ≡ None) (kept_by ss)
+      none : (at : Address)
+          → All (λ (k : Family × KeptByAddress). finite.get k.1 at ≡ None) (kept_by ss)
       none at =
-          All-map (λ (k : Family × Kept). finite.get k.1 at ≡ None)
-          (λ (s : State). (s.family, s.kept)) ss
-          (All-weaker (λ (s : State). s.kept ≡ finite.empty) (λ s. finite.get s.kept at ≡ None)
+          All-map (λ (k : Family × KeptByAddress). finite.get k.1 at ≡ None)
+          (λ (s : BridgeState). (s.family, s.kept)) ss
+          (All-weaker (λ (s : BridgeState). s.kept ≡ finite.empty) (λ s. finite.get s.kept at ≡ None)
           (λ s e. ap (λ k. finite.get k at) e ∙ finite.get-empty address_cmp at) ss h)
 
       each : (ns : List KeptItem) → AreFree ns (kept_by ss)
       each [] = All-nil (λ (n : KeptItem).
-          All (λ (k : Family × Kept). finite.get k.1 n.item.at ≡ None) (kept_by ss))
+          All (λ (k : Family × KeptByAddress). finite.get k.1 n.item.at ≡ None) (kept_by ss))
       each (n ∷ ns) =
           All-cons (λ (n : KeptItem).
-          All (λ (k : Family × Kept). finite.get k.1 n.item.at ≡ None) (kept_by ss)) n ns
+          All (λ (k : Family × KeptByAddress). finite.get k.1 n.item.at ≡ None) (kept_by ss)) n ns
           (none n.item.at) (each ns)

@@ -13,26 +13,26 @@ use Rattle.item_core.specs.declared.table.Table.{Table}
 use Rattle.item_core.specs.Edge.{edge_entry, family_eq, family_of}
 use Rattle.item_core.specs.Kind.{kind_count, kind_number}
 use Rattle.bridge_face.specs.Law.{IsLawful}
-use Rattle.bridge_face.specs.State.{State}
+use Rattle.bridge_face.specs.BridgeState.{BridgeState}
 use Rattle.bridge_plan.specs.Means.{AreSound}
 use Rattle.fresh_bridging.specs.CanLaws.{AreLawful}
 use Rattle.fresh_bridging.specs.RankingLaws.{leads_down}
 use Rattle.fresh_bridging.specs.TableLaws.{and_second}
 use Rattle.fresh_bridging.specs.TheRules.{AreChoices, IsChoice, Setting, edge_at, family_number, graph_of}
 use Rattle.bridge_set.specs.Bridges.{Bridges, bridges_of, choice_in, families_of, kept_by, means_of, occur_once, setting_by, setting_of}
-use Rattle.bridge_set.specs.Sound.{IsSound}
+use Rattle.bridge_set.specs.Sound.{IsBridgeSetSound}
 use Rattle.bridge_set.proofs.Choices.{costs_some, past_kinds}
 use Rattle.bridge_set.proofs.Families.{among}
 
 -- ---- made
 
-pub sound_made : (table : Table) (choices : List Choice) (states : List State) (graph : Hypergraph)
+pub sound_made : (table : Table) (choices : List Choice) (states : List BridgeState) (graph : Hypergraph)
     → graph ≡ graph_of (setting_by table states)
     → IsTrue (list_all is_edge_cost table.cost)
     → length table.supported ≡ kind_count → length choices ≡ kind_count
     → ((kind : ℕ) → kind < kind_count → IsChoice graph kind (choice_in choices kind))
     → All IsLawful (families_of states) → IsTrue (occur_once (families_of states))
-    → IsSound graph (bridges_of table choices states)
+    → IsBridgeSetSound graph (bridges_of table choices states)
 sound_made table choices states graph is costs long many chosen lawful once = record {
   graph_is = is;
   kinds = many;
@@ -60,10 +60,10 @@ sound_made table choices states graph is costs long many chosen lawful once = re
 
 -- ---- while the families stay
 
-pub sound_still : (table : Table) (choices : List Choice) (old new : List State)
+pub sound_still : (table : Table) (choices : List Choice) (old new : List BridgeState)
     (graph : Hypergraph)
-    → families_of new ≡ families_of old → IsSound graph (bridges_of table choices old)
-    → IsSound graph (bridges_of table choices new)
+    → families_of new ≡ families_of old → IsBridgeSetSound graph (bridges_of table choices old)
+    → IsBridgeSetSound graph (bridges_of table choices new)
 sound_still table choices old new graph e h =
     let back = sym e in
     let by : List Family → Setting = λ fs. record { table = table; families = fs } in
@@ -81,7 +81,7 @@ sound_still table choices old new graph e h =
     }
 
 -- and so do the means, while what is kept stays too
-pub means_same : (table : Table) (choices : List Choice) (old new : List State)
+pub means_same : (table : Table) (choices : List Choice) (old new : List BridgeState)
     → families_of new ≡ families_of old → kept_by new ≡ kept_by old
     → means_of (bridges_of table choices new) ≡ means_of (bridges_of table choices old)
 means_same table choices old new e k = λ i. record {

@@ -5,7 +5,7 @@ use Rattle.std.proofs.Common.{arith, sym, ap, subst, ◌∙◌}
 use Rattle.std.proofs.lemmas.List.{length-map, map-set}
 use Rattle.std.proofs.lemmas.Option.{get_or_from_slice_get, none-some, same_Some, slice_get-map}
 use Rattle.aff_core.specs.Address.{Address}
-use Rattle.bridge_face.specs.State.{Kept, State}
+use Rattle.bridge_face.specs.BridgeState.{BridgeState, KeptByAddress}
 use Rattle.bridge_set.specs.Bridges.{families_of, kept_by}
 use Rattle.bridge_set.specs.Letting.{AreReleased, IsReleased, kept_count, without_found}
 use Rattle.bridge_set.specs.LettingLaws.{kept_cons}
@@ -16,7 +16,7 @@ use Rattle.item_core.specs.declared.family.Family.{Family}
 use Rattle.map_laws.specs.LoopLaws.{IsPast, past_all, past_more, past_none}
 
 -- turns and what is kept come to no more where one of the bridges releases something
-turns_left : (ss : List State) (n : ℕ) (s t : State) → slice_get ss n ≡ Some s
+turns_left : (ss : List BridgeState) (n : ℕ) (s t : BridgeState) → slice_get ss n ≡ Some s
     → t.turns + finite.len t.kept ≤ s.turns + finite.len s.kept
     → turns_of (slice_set ss n t) + kept_count (kept_by (slice_set ss n t))
     ≤ turns_of ss + kept_count (kept_by ss)
@@ -26,7 +26,7 @@ turns_left (x ∷ xs) zero s t e h =
     (kept_count (kept_by (x ∷ xs))) t.turns x.turns (turns_of xs) (finite.len t.kept)
     (finite.len x.kept) (kept_count (kept_by xs)) (turns_cons t xs) (turns_cons x xs)
     (kept_cons (t.family, t.kept) (kept_by xs)) (kept_cons (x.family, x.kept) (kept_by xs))
-    (subst (λ (y : State). t.turns + finite.len t.kept ≤ y.turns + finite.len y.kept)
+    (subst (λ (y : BridgeState). t.turns + finite.len t.kept ≤ y.turns + finite.len y.kept)
     (sym (same_Some x s e)) h)
   where
     head : (a b c d t x m k l q : ℕ) → a ≡ t + m → b ≡ x + m → c ≡ k + q → d ≡ l + q
@@ -46,44 +46,46 @@ turns_left (x ∷ xs) (suc n) s t e h =
     tail a b c d x m n l p q e f g i h = omega (arith, e, f, g, i, h)
 
 -- the first bridges have released the items, and the others are as they were
-pub record AreReleasedTo (items : List Address) (old now : List State) (n : ℕ) : Type 0 where
+pub record AreReleasedTo (items : List Address) (old now : List BridgeState) (n : ℕ) : Type 0 where
   pub kept : IsPast (without_found items) (kept_by old) (kept_by now) n
   pub turns : turns_of now + kept_count (kept_by now) ≤ turns_of old + kept_count (kept_by old)
 
-pub released_to_none : (items : List Address) (ss : List State) → AreReleasedTo items ss ss 0
+pub released_to_none : (items : List Address) (ss : List BridgeState) → AreReleasedTo items ss ss 0
 released_to_none items ss = record {
   kept = past_none (without_found items) (kept_by ss);
   turns = omega arith;
 }
 
-pub released_to_all : (items : List Address) (old now : List State) (n : ℕ)
+pub released_to_all : (items : List Address) (old now : List BridgeState) (n : ℕ)
     → length (kept_by old) ≤ n → AreReleasedTo items old now n → AreReleased items old now
 released_to_all items old now n end h = record {
   kept = past_all (without_found items) (kept_by old) (kept_by now) n end h.kept;
   turns = h.turns;
 }
 
-pub long_kept : (ss : List State) → length (kept_by ss) ≡ length ss
-long_kept ss = length-map {B = Family × Kept} ss (λ s. (s.family, s.kept))
+pub long_kept : (ss : List BridgeState) → length (kept_by ss) ≡ length ss
+long_kept ss = length-map {B = Family × KeptByAddress} ss (λ s. (s.family, s.kept))
 
 -- bridges that keep as much are of the same families
-families_kept : (ss : List State) → map (λ (k : Family × Kept). k.0) (kept_by ss) ≡ families_of ss
+families_kept : (ss : List BridgeState)
+    → map (λ (k : Family × KeptByAddress). k.0) (kept_by ss) ≡ families_of ss
 families_kept [] = refl
 families_kept (s ∷ ss) = ap (λ fs. s.family ∷ fs) (families_kept ss)
 
-pub released_families : (items : List Address) (old new : List State) → AreReleased items old new
+pub released_families : (items : List Address) (old new : List BridgeState)
+    → AreReleased items old new
     → families_of new ≡ families_of old
 released_families items old new h =
-    sym (families_kept new) ∙ ap (map (λ (k : Family × Kept). k.0)) h.kept ∙ same old
+    sym (families_kept new) ∙ ap (map (λ (k : Family × KeptByAddress). k.0)) h.kept ∙ same old
   where
-    same : (ss : List State)
-        → map (λ (k : Family × Kept). k.0) (map (without_found items) (kept_by ss))
+    same : (ss : List BridgeState)
+        → map (λ (k : Family × KeptByAddress). k.0) (map (without_found items) (kept_by ss))
         ≡ families_of ss
     same [] = refl
     same (s ∷ ss) = ap (λ fs. s.family ∷ fs) (same ss)
 
-module _ {B : Type 0} (state : B → State) (items : List Address) where
-  abbrev pair : State → Family × Kept
+module _ {B : Type 0} (state : B → BridgeState) (items : List Address) where
+  abbrev pair : BridgeState → Family × KeptByAddress
   pair s = (s.family, s.kept)
 
   -- one more has

@@ -8,25 +8,25 @@ use Rattle.std.proofs.lemmas.Option.{none-some, same_Some}
 use Rattle.aff_core.specs.Address.{Address, address_eq, address_total, exact_addresses}
 use Rattle.aff_core.specs.KeyOrder.{address_order, other_key, same_key}
 use Rattle.bridge_face.specs.ItemAddresses.{is_of}
-use Rattle.bridge_face.specs.State.{Kept, State, gone, one_more}
+use Rattle.bridge_face.specs.BridgeState.{BridgeState, KeptByAddress, gone, one_more}
 use Rattle.bridge_face.specs.declared.kept_item.KeptItem.{KeptItem}
 use Rattle.bridge_set.specs.Letting.{IsReleased, is_of_any, without_items}
 use Rattle.bridge_set.specs.LettingLaws.{get_without_items, len_removed}
 use Rattle.map_laws.specs.OptionLaws.{none_of}
 
-same_kept : (m n : Kept) → ((v : Address) → finite.get m v ≡ finite.get n v) → m ≡ n
+same_kept : (m n : KeptByAddress) → ((v : Address) → finite.get m v ≡ finite.get n v) → m ≡ n
 same_kept m n same = finite.same_map address_total exact_addresses m n same
 
 -- ---- items one after another
 
-pub released_none : (s : State) → IsReleased [] s s
+pub released_none : (s : BridgeState) → IsReleased [] s s
 released_none s = record {
   family = refl;
   kept = same_kept s.kept (without_items [] s.kept) (λ v. sym (get_without_items [] s.kept v));
   turns = omega arith;
 }
 
-without_both : (xs ys : List Address) (kept : Kept)
+without_both : (xs ys : List Address) (kept : KeptByAddress)
     → without_items ys (without_items xs kept) ≡ without_items (xs ++ ys) kept
 without_both xs ys kept =
     same_kept (without_items ys (without_items xs kept)) (without_items (xs ++ ys) kept) (λ v.
@@ -43,7 +43,8 @@ without_both xs ys kept =
     either true false o = refl
     either false c o = refl
 
-pub released_more : (xs ys : List Address) (old between new : State) → IsReleased xs old between
+pub released_more : (xs ys : List Address) (old between new : BridgeState)
+    → IsReleased xs old between
     → IsReleased ys between new → IsReleased (xs ++ ys) old new
 released_more xs ys old between new h k = record {
   family = k.family ∙ h.family;
@@ -54,12 +55,12 @@ released_more xs ys old between new h k = record {
 -- ---- of one item, what is kept at one address after another
 
 -- some of what is kept of the item is released
-pub record IsReleasing (at : Address) (old new : State) : Type 0 where
+pub record IsReleasing (at : Address) (old new : BridgeState) : Type 0 where
   pub family : new.family ≡ old.family
   pub left : without_items (at ∷ []) new.kept ≡ without_items (at ∷ []) old.kept
   pub turns : new.turns + finite.len new.kept ≤ old.turns + finite.len old.kept
 
-pub releasing_none : (at : Address) (s : State) → IsReleasing at s s
+pub releasing_none : (at : Address) (s : BridgeState) → IsReleasing at s s
 releasing_none at s = record { family = refl; left = refl; turns = omega arith }
 
 module _ (at : Address) where
@@ -103,7 +104,7 @@ module _ (at : Address) where
           ∙ later f
 
   -- so all is released once none is found
-  nothing_left : (kept : Kept) → find (is_of at) (finite.keys kept) ≡ None
+  nothing_left : (kept : KeptByAddress) → find (is_of at) (finite.keys kept) ≡ None
       → kept ≡ without_items (at ∷ []) kept
   nothing_left kept e =
       same_kept kept (without_items (at ∷ []) kept) (λ v.
@@ -116,7 +117,7 @@ module _ (at : Address) where
           (finite.contains_key-keys kept v ∙ none_there v own (finite.keys kept) e)
       by v false other = refl
 
-  pub all_released : (old new : State) → IsReleasing at old new
+  pub all_released : (old new : BridgeState) → IsReleasing at old new
       → None ≡ find (is_of at) (finite.keys new.kept) → IsReleased (at ∷ []) old new
   all_released old new h none = record {
     family = h.family;
@@ -126,7 +127,7 @@ module _ (at : Address) where
 
   -- ---- one more
 
-  without_next : (next : Address) (kept : Kept) → is_of at next ≡ true
+  without_next : (next : Address) (kept : KeptByAddress) → is_of at next ≡ true
       → without_items (at ∷ []) (finite.remove kept next) ≡ without_items (at ∷ []) kept
   without_next next kept own =
       same_kept (without_items (at ∷ []) (finite.remove kept next)) (without_items (at ∷ []) kept)
@@ -144,20 +145,20 @@ module _ (at : Address) where
           (other_key address_order v next
           (λ s. true≢false (sym own ∙ ap (is_of at) (sym s) ∙ is)))
 
-  fewer : (next : Address) (kept : Kept) → Some next ≡ find (is_of at) (finite.keys kept)
+  fewer : (next : Address) (kept : KeptByAddress) → Some next ≡ find (is_of at) (finite.keys kept)
       → finite.len kept ≡ finite.len (finite.remove kept next) + 1
   fewer next kept e =
       len_removed kept next
       (finite.contains_key-keys kept next ∙ (found_there next (finite.keys kept) (sym e)).1)
 
-  one_turn : (s : State) (kept : Kept) → finite.len s.kept ≡ finite.len kept + 1
+  one_turn : (s : BridgeState) (kept : KeptByAddress) → finite.len s.kept ≡ finite.len kept + 1
       → one_more s.turns + finite.len kept ≤ s.turns + finite.len s.kept
   one_turn s kept e = least s.turns (finite.len kept) (finite.len s.kept) e
     where
       least : (n a b : ℕ) → b ≡ a + 1 → one_more n + a ≤ n + b
       least n a b e = omega (arith, e)
 
-  pub one_released : (next : Address) (old now after : State) → IsReleasing at old now
+  pub one_released : (next : Address) (old now after : BridgeState) → IsReleasing at old now
       → Some next ≡ find (is_of at) (finite.keys now.kept) → after ≡ gone now next
       → IsReleasing at old after
   one_released next old now after h e is =
@@ -174,11 +175,11 @@ module _ (at : Address) where
       through a b c h k = omega (arith, h, k)
 
   -- and fewer are left to be
-  pub fewer_left : (next : Address) (now after : State)
+  pub fewer_left : (next : Address) (now after : BridgeState)
       → Some next ≡ find (is_of at) (finite.keys now.kept) → after ≡ gone now next
       → finite.len after.kept < finite.len now.kept
   fewer_left next now after e is =
-      subst (λ (s : State). finite.len s.kept < finite.len now.kept) (sym is)
+      subst (λ (s : BridgeState). finite.len s.kept < finite.len now.kept) (sym is)
       (less (finite.len now.kept) (finite.len (finite.remove now.kept next))
       (fewer next now.kept e))
     where

@@ -10,21 +10,21 @@ use Rattle.fresh_bridging.specs.TableLaws.{equal_family}
 use Rattle.item_core.specs.declared.family.Family.{Family}
 use Rattle.item_core.specs.Edge.{family_eq}
 use Rattle.bridge_face.specs.Law.{IsLawful}
-use Rattle.bridge_face.specs.State.{State, all_gone}
+use Rattle.bridge_face.specs.BridgeState.{BridgeState, all_gone}
 use Rattle.map_laws.specs.LoopLaws.{IsPast, any_found, past_more}
 use Rattle.bridge_set.specs.Bridges.{IsChangedFor, families_of}
 use Rattle.bridge_set.proofs.Families.{any_map}
 
 -- what f doesn't tell from what was there stays
-pub same_after : {A : Type 0} (f : State → A) (family : Family) (change : State → State)
-    (old new : List State) → ((s : State) → f (change s) ≡ f s)
+pub same_after : {A : Type 0} (f : BridgeState → A) (family : Family) (change : BridgeState → BridgeState)
+    (old new : List BridgeState) → ((s : BridgeState) → f (change s) ≡ f s)
     → IsChangedFor family change old new → map f new ≡ map f old
 same_after f family change old new same h =
     ap (map f) h.new_is
     ∙ map-set_same f old h.place (change h.was) h.was
     (same h.was ∙ ap f (sym (get_or_from_slice_get old h.place h.was h.was h.at)))
 
-module _ {B : Type 0} (state : B → State) where
+module _ {B : Type 0} (state : B → BridgeState) where
   pub state_at : (bs : List B) (n : ℕ) (b d : B) → n < length bs → b ≡ slice_index_or bs n d
       → slice_get (map state bs) n ≡ Some (state b)
   state_at [] n b d lt e = absurd (omega arith)
@@ -32,7 +32,7 @@ module _ {B : Type 0} (state : B → State) where
   state_at (c ∷ bs) (suc n) b d lt e = state_at bs n b d (omega arith) e
 
   -- where the bridge at a place is of the family and is changed
-  pub changed_for : (family : Family) (change : State → State) (bs : List B) (n : ℕ) (b d after : B)
+  pub changed_for : (family : Family) (change : BridgeState → BridgeState) (bs : List B) (n : ℕ) (b d after : B)
       → n < length bs → b ≡ slice_index_or bs n d → family_eq family (state b).family ≡ true
       → state after ≡ change (state b)
       → IsChangedFor family change (map state bs) (map state (slice_set bs n after))
@@ -56,15 +56,15 @@ module _ {B : Type 0} (state : B → State) where
       → true ≡ list_any (family_eq f) (families_of (map state bs))
   one_there bs n b d f lt e same so_far =
       any_found (is_of f) bs n b so_far (slice_get-get_or bs n d lt ∙ ap Some (sym e)) same
-      ∙ sym (any_map (family_eq f) (λ (s : State). s.family) (map state bs)
-      ∙ any_map (λ (s : State). family_eq f s.family) state bs)
+      ∙ sym (any_map (family_eq f) (λ (s : BridgeState). s.family) (map state bs)
+      ∙ any_map (λ (s : BridgeState). family_eq f s.family) state bs)
 
   pub none_there : (bs : List B) (n : ℕ) (f : Family) → length bs ≤ n
       → list_any (is_of f) (drop n bs) ≡ list_any (is_of f) bs
       → list_any (family_eq f) (families_of (map state bs)) ≡ false
   none_there bs n f end so_far =
-      any_map (family_eq f) (λ (s : State). s.family) (map state bs)
-      ∙ any_map (λ (s : State). family_eq f s.family) state bs
+      any_map (family_eq f) (λ (s : BridgeState). s.family) (map state bs)
+      ∙ any_map (λ (s : BridgeState). family_eq f s.family) state bs
       ∙ sym so_far
       ∙ ap (list_any (is_of f)) (drop_all n bs end)
 
@@ -81,8 +81,8 @@ module _ {B : Type 0} (state : B → State) where
       there same =
           ap (λ j. slice_index_or (families_of (map state bs)) j d) same
           ∙ get_or_from_slice_get (families_of (map state bs)) n (state b).family d
-          (slice_get-map (λ (s : State). s.family) (map state bs) n
-          ∙ ap (option_map (λ (s : State). s.family)) (state_at bs n b b lt e))
+          (slice_get-map (λ (s : BridgeState). s.family) (map state bs) n
+          ∙ ap (option_map (λ (s : BridgeState). s.family)) (state_at bs n b b lt e))
 
       by : (k < n) ⊎ (n ≤ k) → IsLawful (slice_index_or (families_of (map state bs)) k d)
       by (inl low) = so_far k d low

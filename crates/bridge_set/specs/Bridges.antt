@@ -15,7 +15,7 @@ use Rattle.item_core.specs.contracts.family.Family as family
 use Rattle.item_core.specs.contracts.table.Table as table
 use Rattle.item_core.specs.Edge.{family_eq, family_of}
 use Rattle.bridge_face.specs.Law.{IsItemFor}
-use Rattle.bridge_face.specs.State.{Kept, State, found, kept_code}
+use Rattle.bridge_face.specs.BridgeState.{BridgeState, KeptByAddress, found, kept_code}
 use Rattle.bridge_face.specs.declared.kept_item.KeptItem.{KeptItem}
 use Rattle.fresh_bridging.specs.TheRules.{Setting}
 use Rattle.bridge_plan.specs.Means.{Means}
@@ -23,20 +23,20 @@ use Rattle.bridge_plan.specs.Means.{Means}
 pub record Bridges : Type 0 where
   pub table : Table
   pub choices : List Choice
-  pub states : List State
+  pub states : List BridgeState
 
-abbrev pub bridges_of : Table → List Choice → List State → Bridges
+abbrev pub bridges_of : Table → List Choice → List BridgeState → Bridges
 bridges_of table choices states = record { table = table; choices = choices; states = states }
 
-abbrev pub state_code : Coded State
+abbrev pub state_code : Coded BridgeState
 state_code =
-    code_by (Family × (Kept × ℕ)) (coded× (family.the_row).coded (coded× kept_code coded_ℕ))
+    code_by (Family × (KeptByAddress × ℕ)) (coded× (family.the_row).coded (coded× kept_code coded_ℕ))
     (λ s. (s.family, (s.kept, s.turns)))
     (λ p. record { family = p.0; kept = p.1.0; turns = p.1.1 }) (λ _. refl)
 
 abbrev pub bridges_code : Coded Bridges
 bridges_code =
-    code_by (Table × (List Choice × List State))
+    code_by (Table × (List Choice × List BridgeState))
     (coded× (table.the_row).coded
     (coded× (coded_list (choice.the_row).coded) (coded_list state_code)))
     (λ b. (b.table, (b.choices, b.states)))
@@ -44,15 +44,15 @@ bridges_code =
 
 -- ---- families
 
-abbrev pub families_of : List State → List Family
-families_of states = map (λ (s : State). s.family) states
+abbrev pub families_of : List BridgeState → List Family
+families_of states = map (λ (s : BridgeState). s.family) states
 
 -- no family occurs twice
 abbrev pub occur_once : List Family → Bool
 occur_once [] = true
 occur_once (family ∷ families) = not (list_any (family_eq family) families) && occur_once families
 
-abbrev pub setting_by : Table → List State → Setting
+abbrev pub setting_by : Table → List BridgeState → Setting
 setting_by table states = record { table = table; families = families_of states }
 
 abbrev pub setting_of : Bridges → Setting
@@ -63,8 +63,8 @@ setting_of bridges = setting_by bridges.table bridges.states
 abbrev pub choice_in : List Choice → ℕ → Choice
 choice_in choices kind = slice_index_or choices kind Missing
 
-abbrev pub kept_by : List State → List (Family × Kept)
-kept_by states = map (λ (s : State). (s.family, s.kept)) states
+abbrev pub kept_by : List BridgeState → List (Family × KeptByAddress)
+kept_by states = map (λ (s : BridgeState). (s.family, s.kept)) states
 
 abbrev pub means_of : Bridges → Means
 means_of bridges = record {
@@ -74,30 +74,30 @@ means_of bridges = record {
 }
 
 -- what the first bridge keeps that keeps something at the address
-abbrev pub kept_first : List State → Address → Option KeptItem
+abbrev pub kept_first : List BridgeState → Address → Option KeptItem
 kept_first [] at = None
 kept_first (s ∷ ss) at = option_or (found s at) (kept_first ss at)
 
 -- ---- what calls leave
 
 -- nothing is kept at the address
-abbrev pub IsFree : Address → List State → Type 0
-IsFree at states = All (λ s. found s at ≡ None) states
+abbrev pub IsAddressFree : Address → List BridgeState → Type 0
+IsAddressFree at states = All (λ s. found s at ≡ None) states
 
 -- the bridge of the family is changed, and no other
-abbrev pub at_family : Family → (State → State) → State → State
+abbrev pub at_family : Family → (BridgeState → BridgeState) → BridgeState → BridgeState
 at_family family change s = cond (family_eq family s.family) (change s) s
 
 -- ---- many items
 
 -- what the bridge of a family keeps of items, of which each is at an address of its own
-unfoldable pub kept_among : List KeptItem → Family → Kept
+unfoldable pub kept_among : List KeptItem → Family → KeptByAddress
 kept_among nodes family =
     finite.from_entries (map (λ n. (n.item.at, n))
     (filter (λ n. family_eq (family_of n.edge) family) nodes))
 
 -- each bridge keeps those by its edges
-abbrev pub keeping : List KeptItem → State → Family × Kept
+abbrev pub keeping : List KeptItem → BridgeState → Family × KeptByAddress
 keeping nodes s = (s.family, kept_among nodes s.family)
 
 -- items for edges that have a bridge, each at an address of its own
@@ -107,10 +107,10 @@ pub record AreKeepable (families : List Family) (nodes : List KeptItem) : Type 0
   pub apart : HasDistinctKeys address_cmp (map (λ n. (n.item.at, n)) nodes)
 
 -- the state of a bridge of the family was changed
-pub record IsChangedFor (family : Family) (change : State → State)
-    (old new : List State) : Type 0 where
+pub record IsChangedFor (family : Family) (change : BridgeState → BridgeState)
+    (old new : List BridgeState) : Type 0 where
   pub place : ℕ
-  pub was : State
+  pub was : BridgeState
   pub at : slice_get old place ≡ Some was
   pub of_family : was.family ≡ family
   pub new_is : new ≡ slice_set old place (change was)

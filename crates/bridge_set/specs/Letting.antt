@@ -8,7 +8,7 @@ use Rattle.std.specs.FinMap as finite
 use Rattle.std.specs.List.{list_any}
 use Rattle.aff_core.specs.Address.{Address}
 use Rattle.bridge_face.specs.ItemAddresses.{is_of}
-use Rattle.bridge_face.specs.State.{Kept, State}
+use Rattle.bridge_face.specs.BridgeState.{BridgeState, KeptByAddress}
 use Rattle.bridge_set.specs.Bridges.{kept_by}
 use Rattle.bridge_set.specs.Turns.{turns_of}
 use Rattle.item_core.specs.declared.family.Family.{Family}
@@ -16,20 +16,20 @@ use Rattle.item_core.specs.declared.family.Family.{Family}
 abbrev pub is_of_any : List Address → Address → Bool
 is_of_any items at = list_any (λ item. is_of item at) items
 
-abbrev pub without_items : List Address → Kept → Kept
+abbrev pub without_items : List Address → KeptByAddress → KeptByAddress
 without_items items kept = finite.retain_keys kept (λ at. not (is_of_any items at))
 
-abbrev pub without_found : List Address → Family × Kept → Family × Kept
+abbrev pub without_found : List Address → Family × KeptByAddress → Family × KeptByAddress
 without_found items k = (k.0, without_items items k.1)
 
-abbrev pub kept_count : List (Family × Kept) → ℕ
+abbrev pub kept_count : List (Family × KeptByAddress) → ℕ
 kept_count ks = sum_by (λ k. finite.len k.1) ks
 
-pub record IsReleased (items : List Address) (old new : State) : Type 0 where
+pub record IsReleased (items : List Address) (old new : BridgeState) : Type 0 where
   pub family : new.family ≡ old.family
   pub kept : new.kept ≡ without_items items old.kept
   pub turns : new.turns + finite.len new.kept ≤ old.turns + finite.len old.kept
 
-pub record AreReleased (items : List Address) (old new : List State) : Type 0 where
+pub record AreReleased (items : List Address) (old new : List BridgeState) : Type 0 where
   pub kept : kept_by new ≡ map (without_found items) (kept_by old)
   pub turns : turns_of new + kept_count (kept_by new) ≤ turns_of old + kept_count (kept_by old)

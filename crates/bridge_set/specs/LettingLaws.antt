@@ -4,13 +4,13 @@ use Rattle.std.specs.FinMap as finite
 use Rattle.std.proofs.Common.{arith, sym, ap, ◌∙◌}
 use Rattle.std.proofs.lemmas.List.Sums.{sum_by-cons}
 use Rattle.aff_core.specs.Address.{Address, address_cmp, address_total, exact_addresses}
-use Rattle.bridge_face.specs.State.{Kept}
+use Rattle.bridge_face.specs.BridgeState.{KeptByAddress}
 use Rattle.bridge_face.specs.declared.kept_item.KeptItem.{KeptItem}
 use Rattle.bridge_set.specs.Letting.{is_of_any, kept_count, without_items}
 use Rattle.item_core.specs.declared.family.Family.{Family}
 use Rattle.map_laws.specs.OptionLaws.{not_some}
 
-pub get_without_items : (items : List Address) (kept : Kept) (v : Address)
+pub get_without_items : (items : List Address) (kept : KeptByAddress) (v : Address)
     → finite.get (without_items items kept) v
     ≡ cond (is_of_any items v) None (finite.get kept v)
 get_without_items items kept v =
@@ -23,7 +23,7 @@ get_without_items items kept v =
     turned false o = refl
 
 -- what is kept at an address counts one
-pub len_removed : (kept : Kept) (v : Address) → IsSome (finite.get kept v)
+pub len_removed : (kept : KeptByAddress) (v : Address) → IsSome (finite.get kept v)
     → finite.len kept ≡ finite.len (finite.remove kept v) + 1
 len_removed kept v some = by (finite.len kept) refl
   where
@@ -35,10 +35,10 @@ len_removed kept v some = by (finite.len kept) refl
     by : (n : ℕ) → finite.len kept ≡ n → finite.len kept ≡ finite.len (finite.remove kept v) + 1
     by zero e =
         absurd (not_some (finite.get kept v)
-        (ap (λ (m : Kept). finite.get m v) (finite.empty_of_len kept e)
+        (ap (λ (m : KeptByAddress). finite.get m v) (finite.empty_of_len kept e)
         ∙ finite.get-empty {X = KeptItem} address_cmp v) some)
     by (suc n) e = omega (arith, e, less)
 
-pub kept_cons : (k : Family × Kept) (ks : List (Family × Kept))
+pub kept_cons : (k : Family × KeptByAddress) (ks : List (Family × KeptByAddress))
     → kept_count (k ∷ ks) ≡ finite.len k.1 + kept_count ks
-kept_cons k ks = sum_by-cons (λ (j : Family × Kept). finite.len j.1) k ks
+kept_cons k ks = sum_by-cons (λ (j : Family × KeptByAddress). finite.len j.1) k ks

@@ -7,10 +7,10 @@ ghost use Rattle.bridge_graph.specs.Tree.{IsLeastCost, IsTreeless};
 ghost use Rattle.item_core.specs.Edge.{family_eq, family_of};
 ghost use Rattle.item_core.specs.Kind.{kind_number};
 ghost use Rattle.bridge_face.specs.Law.{IsItemFor};
-ghost use Rattle.bridge_face.specs.State.{all_gone, given, tried};
+ghost use Rattle.bridge_face.specs.BridgeState.{all_gone, given, tried};
 ghost use Rattle.fresh_bridging.specs.TheRules.{graph_of};
 ghost use Rattle.bridge_plan.specs.Means.{AreSound};
-ghost use Rattle.bridge_set.specs.Bridges.{AreKeepable, IsFree, at_family, families_of, kept_by, keeping, means_of, occur_once, setting_of};
+ghost use Rattle.bridge_set.specs.Bridges.{AreKeepable, IsAddressFree, at_family, families_of, kept_by, keeping, means_of, occur_once, setting_of};
 ghost use Rattle.bridge_set.specs.Letting.{kept_count, without_found};
 ghost use Rattle.bridge_set.specs.Adding.{AreFree, with_each};
 ghost use Rattle.bridge_set.specs.Turns.{turns_of};
@@ -47,11 +47,11 @@ impl<B: Bridge> Model for BridgeSet<B> {
 
     ghost use Rattle.std.specs.Prelude.{map};
     ghost use Rattle.bridge_set.specs.Bridges.{bridges_of};
-    ghost use Rattle.bridge_set.specs.Sound.{IsSound};
+    ghost use Rattle.bridge_set.specs.Sound.{IsBridgeSetSound};
 
     ghost view = { λ b. bridges_of b.table b.choices (map B.state b.bridges.items) };
 
-    ghost invariant = { λ b. IsSound b.graph (bridges_of b.table b.choices
+    ghost invariant = { λ b. IsBridgeSetSound b.graph (bridges_of b.table b.choices
         (map B.state b.bridges.items)) };
 }
 
@@ -117,7 +117,7 @@ impl<B: Bridge> BridgeSet<B> {
         requires own { list_any (family_eq (family_of node.edge)) (families_of self.old.states)
             ≡ true }
         requires suits { IsItemFor node.edge node.item }
-        requires free { IsFree node.item.at self.old.states }
+        requires free { IsAddressFree node.item.at self.old.states }
         ensures ok { OnOk result (self.new.states
             ≡ map (at_family (family_of node.edge) (λ s. given s node)) self.old.states) }
         ensures err { OnErr result (self.new.states

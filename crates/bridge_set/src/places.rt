@@ -5,8 +5,8 @@ ghost use Rattle.ratio_core.specs.Answers.{ExactWhere};
 ghost use Rattle.item_core.specs.Edge.{family_eq, family_of};
 ghost use Rattle.bridge_face.specs.ImageOf.{image_of, ImageFits};
 ghost use Rattle.bridge_face.specs.Law.{IsItemFor, IsLawful};
-ghost use Rattle.bridge_face.specs.State.{all_gone, given, tried};
-ghost use Rattle.bridge_set.specs.Bridges.{IsChangedFor, IsFree, families_of};
+ghost use Rattle.bridge_face.specs.BridgeState.{all_gone, given, tried};
+ghost use Rattle.bridge_set.specs.Bridges.{IsAddressFree, IsChangedFor, families_of};
 ghost use Rattle.bridge_set.specs.Letting.{AreReleased, IsReleased};
 ghost use Rattle.bridge_set.specs.Turns.{turns_of};
 
@@ -65,7 +65,7 @@ pub(crate) fn keep_by<B: Bridge>(bridges: &mut [B], node: KeptItem) -> Result<()
     requires own { list_any (family_eq (family_of node.edge))
         (families_of (map B.state bridges.old)) ≡ true }
     requires suits { IsItemFor node.edge node.item }
-    requires free { IsFree node.item.at (map B.state bridges.old) }
+    requires free { IsAddressFree node.item.at (map B.state bridges.old) }
     ensures ok { OnOk result (IsChangedFor (family_of node.edge) (λ s. given s node)
         (map B.state bridges.old) (map B.state bridges.new)) }
     ensures err { OnErr result (IsChangedFor (family_of node.edge) tried

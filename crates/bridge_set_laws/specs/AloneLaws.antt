@@ -7,8 +7,8 @@ use Rattle.std.proofs.lemmas.Bool.{not-true}
 use Rattle.std.proofs.lemmas.List.Elements.{All-cons, All-head, All-nil, All-tail}
 use Rattle.std.proofs.lemmas.List.Kept.{AllPairs-cons}
 use Rattle.aff_core.specs.Address.{Address}
-use Rattle.bridge_face.specs.State.{Kept, State}
-use Rattle.bridge_plan.specs.Adds.{kept_of}
+use Rattle.bridge_face.specs.BridgeState.{BridgeState, KeptByAddress}
+use Rattle.bridge_plan.specs.AddsHeld.{kept_of}
 use Rattle.bridge_set.specs.Bridges.{families_of, kept_by, occur_once}
 use Rattle.bridge_set.specs.Nodes.{HoldNodes, nodes_by}
 use Rattle.fresh_bridging.specs.FreshBridging.{FreshBridging, nodes_of}
@@ -19,7 +19,7 @@ use Rattle.item_core.specs.declared.family.Family.{Family}
 use Rattle.item_core.specs.declared.item.Item.{Item}
 use Rattle.map_laws.specs.PairLaws.{AllPairs-nil}
 use Rattle.user_model.specs.Model.{ModelValue}
-use Rattle.bridge_set_laws.specs.CountLaws.{IsAlone}
+use Rattle.bridge_set_laws.specs.CountLaws.{IsKeptByOne}
 use Rattle.bridge_set_laws.specs.FamilyLaws.{family_kept, family_part}
 use Rattle.local_laws.specs.Sound.{IsValidUnder}
 
@@ -49,17 +49,18 @@ or_second false b h = h
 
 module _ {setting : Setting} {model : ModelValue} (sound : IsValidUnder setting model)
     (bridging : FreshBridging setting model) (q : Address) where
-  Held : State → Type 0
+  Held : BridgeState → Type 0
   Held s = s.kept ≡ nodes_by bridging s.family
 
-  Either : Family × Kept → Family × Kept → Type 0
+  Either : Family × KeptByAddress → Family × KeptByAddress → Type 0
   Either k l = (finite.get k.1 q ≡ None) ⊎ (finite.get l.1 q ≡ None)
 
-  gets : (s : State) → s.kept ≡ nodes_by bridging s.family
+  gets : (s : BridgeState) → s.kept ≡ nodes_by bridging s.family
       → finite.get s.kept q ≡ family_part s.family (finite.get (nodes_of bridging) q)
   gets s h = ap (λ k. finite.get k q) h ∙ family_kept sound bridging s.family q
 
-  two : (s t : State) → s.kept ≡ nodes_by bridging s.family → t.kept ≡ nodes_by bridging t.family
+  two : (s t : BridgeState) → s.kept ≡ nodes_by bridging s.family
+      → t.kept ≡ nodes_by bridging t.family
       → family_eq s.family t.family ≡ false
       → (finite.get s.kept q ≡ None) ⊎ (finite.get t.kept q ≡ None)
   two s t h k other = by (one_family s.family t.family other (finite.get (nodes_of bridging) q))
@@ -70,34 +71,34 @@ module _ {setting : Setting} {model : ModelValue} (sound : IsValidUnder setting 
       by (inl e) = inl (gets s h ∙ e)
       by (inr e) = inr (gets t k ∙ e)
 
-  beside : (s : State) → s.kept ≡ nodes_by bridging s.family → (ss : List State)
+  beside : (s : BridgeState) → s.kept ≡ nodes_by bridging s.family → (ss : List BridgeState)
       → HoldNodes bridging ss → list_any (family_eq s.family) (families_of ss) ≡ false
-      → All (λ (l : Family × Kept). (finite.get s.kept q ≡ None) ⊎ (finite.get l.1 q ≡ None))
+      → All (λ (l : Family × KeptByAddress). (finite.get s.kept q ≡ None) ⊎ (finite.get l.1 q ≡ None))
       (kept_by ss)
   beside s h [] k other =
-      All-nil (λ (l : Family × Kept). (finite.get s.kept q ≡ None) ⊎ (finite.get l.1 q ≡ None))
+      All-nil (λ (l : Family × KeptByAddress). (finite.get s.kept q ≡ None) ⊎ (finite.get l.1 q ≡ None))
   beside s h (t ∷ ss) k other =
-      All-cons (λ (l : Family × Kept). (finite.get s.kept q ≡ None) ⊎ (finite.get l.1 q ≡ None))
+      All-cons (λ (l : Family × KeptByAddress). (finite.get s.kept q ≡ None) ⊎ (finite.get l.1 q ≡ None))
       (t.family, t.kept) (kept_by ss)
-      (two s t h (All-head (λ (s : State). s.kept ≡ nodes_by bridging s.family) t ss k)
+      (two s t h (All-head (λ (s : BridgeState). s.kept ≡ nodes_by bridging s.family) t ss k)
       (or_first (family_eq s.family t.family) (list_any (family_eq s.family) (families_of ss)) other))
-      (beside s h ss (All-tail (λ (s : State). s.kept ≡ nodes_by bridging s.family) t ss k)
+      (beside s h ss (All-tail (λ (s : BridgeState). s.kept ≡ nodes_by bridging s.family) t ss k)
       (or_second (family_eq s.family t.family) (list_any (family_eq s.family) (families_of ss))
       other))
 
-  pub all_alone : (ss : List State) → HoldNodes bridging ss
-      → occur_once (families_of ss) ≡ true → IsAlone q (kept_by ss)
+  pub all_alone : (ss : List BridgeState) → HoldNodes bridging ss
+      → occur_once (families_of ss) ≡ true → IsKeptByOne q (kept_by ss)
   all_alone [] h once =
-      AllPairs-nil (λ (k l : Family × Kept). (finite.get k.1 q ≡ None) ⊎ (finite.get l.1 q ≡ None))
+      AllPairs-nil (λ (k l : Family × KeptByAddress). (finite.get k.1 q ≡ None) ⊎ (finite.get l.1 q ≡ None))
   all_alone (s ∷ ss) h once =
       AllPairs-cons
-      (λ (k l : Family × Kept). (finite.get k.1 q ≡ None) ⊎ (finite.get l.1 q ≡ None))
+      (λ (k l : Family × KeptByAddress). (finite.get k.1 q ≡ None) ⊎ (finite.get l.1 q ≡ None))
       (s.family, s.kept) (kept_by ss)
-      (beside s (All-head (λ (s : State). s.kept ≡ nodes_by bridging s.family) s ss h) ss
-      (All-tail (λ (s : State). s.kept ≡ nodes_by bridging s.family) s ss h)
+      (beside s (All-head (λ (s : BridgeState). s.kept ≡ nodes_by bridging s.family) s ss h) ss
+      (All-tail (λ (s : BridgeState). s.kept ≡ nodes_by bridging s.family) s ss h)
       (not-true (list_any (family_eq s.family) (families_of ss))
       (and_first (not (list_any (family_eq s.family) (families_of ss)))
       (occur_once (families_of ss)) once)))
-      (all_alone ss (All-tail (λ (s : State). s.kept ≡ nodes_by bridging s.family) s ss h)
+      (all_alone ss (All-tail (λ (s : BridgeState). s.kept ≡ nodes_by bridging s.family) s ss h)
       (and_second (not (list_any (family_eq s.family) (families_of ss)))
       (occur_once (families_of ss)) once))

@@ -9,9 +9,9 @@ use Rattle.aff_core.specs.Address.{Address}
 use Rattle.bridge_set.specs.Adding.{with_each, with_one}
 use Rattle.bridge_set.specs.Bridges.{kept_by}
 use Rattle.bridge_set.specs.Nodes.{HoldNodes, nodes_by}
-use Rattle.bridge_face.specs.State.{Kept, State}
+use Rattle.bridge_face.specs.BridgeState.{BridgeState, KeptByAddress}
 use Rattle.bridge_face.specs.declared.kept_item.KeptItem.{KeptItem}
-use Rattle.bridge_plan.specs.Adds.{kept_of}
+use Rattle.bridge_plan.specs.AddsHeld.{kept_of}
 use Rattle.fresh_bridging.specs.FreshBridging.{FreshBridging}
 use Rattle.fresh_bridging.specs.TheRules.{Setting}
 use Rattle.fresh_bridging.specs.Touched.{IsInner, IsTouched}
@@ -29,14 +29,14 @@ use Rattle.local_laws.specs.Sound.{IsValidUnder}
 use Rattle.local_laws.specs.Stays.{StaysAt}
 use Rattle.local_laws.specs.Views.{by_address, of_nodes}
 
-with_is : (nodes : List KeptItem) (k : Family × Kept)
+with_is : (nodes : List KeptItem) (k : Family × KeptByAddress)
     → with_each nodes k ≡ (k.0, put_all k.1 (by_family k.0 nodes))
 with_is [] k = refl
 with_is (n ∷ nodes) k =
     with_is nodes (with_one n k) ∙ by (family_eq (family_of n.edge) k.0)
   where
     by : (b : Bool)
-        → ◌≡◌ {A = Family × Kept}
+        → ◌≡◌ {A = Family × KeptByAddress}
         (k.0, put_all (cond b (finite.insert k.1 n.item.at n) k.1) (by_family k.0 nodes)) (
           k.0,
           put_all k.1 (map (λ k. (k.item.at, k))
@@ -46,12 +46,12 @@ with_is (n ∷ nodes) k =
     by true = refl
     by false = refl
 
-both_is : (gone : List Address) (nodes : List KeptItem) (ss : List State)
+both_is : (gone : List Address) (nodes : List KeptItem) (ss : List BridgeState)
     → map (with_each nodes) (map (without_each gone) (kept_by ss))
-    ≡ map (λ (s : State). (s.family, spliced s.kept gone (by_family s.family nodes))) ss
+    ≡ map (λ (s : BridgeState). (s.family, spliced s.kept gone (by_family s.family nodes))) ss
 both_is gone nodes [] = refl
 both_is gone nodes (s ∷ ss) =
-    ap₂ (λ (k : Family × Kept) (ks : List (Family × Kept)). k ∷ ks)
+    ap₂ (λ (k : Family × KeptByAddress) (ks : List (Family × KeptByAddress)). k ∷ ks)
     (with_is nodes (without_each gone (s.family, s.kept))) (both_is gone nodes ss)
 
 module _ {setting next : Setting} {model after : ModelValue} (sound : IsValidUnder setting model)
@@ -65,11 +65,11 @@ module _ {setting next : Setting} {model after : ModelValue} (sound : IsValidUnd
   abbrev planned : List KeptItem
   planned = map kept_of (nodes_held sound_after new found)
 
-  pub bridges_changed : (before between behind : List State)
+  pub bridges_changed : (before between behind : List BridgeState)
       → HoldNodes old before
       → kept_by between ≡ map (without_each had) (kept_by before)
       → kept_by behind ≡ map (with_each planned) (kept_by between)
-      → kept_by behind ≡ map (λ (s : State). (s.family, nodes_by new s.family)) before
+      → kept_by behind ≡ map (λ (s : BridgeState). (s.family, nodes_by new s.family)) before
   bridges_changed before between behind hold gone kept =
       bridges_hold sound sound_after old new found apart others before behind hold
       (kept ∙ ap (map (with_each planned)) gone ∙ both_is had planned before)

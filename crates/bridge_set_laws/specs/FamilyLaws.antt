@@ -13,7 +13,7 @@ use Rattle.address_laws.specs.LeafKeys.{its_key, keys_of_nodes, no_keys, node_ke
 use Rattle.address_laws.specs.MadeLaws.{absent}
 use Rattle.aff_core.specs.Address.{Address, address_cmp, address_eq, address_eq-Decides, address_total}
 use Rattle.bridge_face.specs.declared.kept_item.KeptItem.{KeptItem}
-use Rattle.bridge_plan.specs.Adds.{kept_of}
+use Rattle.bridge_plan.specs.AddsHeld.{kept_of}
 use Rattle.bridge_set.specs.Bridges.{kept_among}
 use Rattle.bridge_set.specs.Nodes.{nodes_by}
 use Rattle.expansion.specs.Read.{model_nodes, nodes_in, nodes_of_each}

@@ -10,7 +10,7 @@ use Rattle.std.proofs.lemmas.Map.Views.{Contains-from_any, list_any-from_Contain
 use Rattle.std.proofs.lemmas.Option.{none-some}
 use Rattle.aff_core.specs.Address.{Address, address_eq, address_eq-Decides, address_total, exact_addresses}
 use Rattle.bridge_face.specs.ItemAddresses.{item_of}
-use Rattle.bridge_face.specs.State.{Kept, State}
+use Rattle.bridge_face.specs.BridgeState.{BridgeState, KeptByAddress}
 use Rattle.bridge_set.specs.Bridges.{families_of, kept_by, occur_once}
 use Rattle.bridge_set.specs.Letting.{is_of_any, kept_count, without_found, without_items}
 use Rattle.bridge_set.specs.LettingLaws.{get_without_items}
@@ -121,25 +121,25 @@ module _ {setting : Setting} {model : ModelValue} (sound : IsValidUnder setting 
               left n (is_of_any found v) refl
               ∙ sym (get_left v (nodes_by bridging family) had n)
 
-  pub gone_by : (states between : List State) → HoldNodes bridging states
+  pub gone_by : (states between : List BridgeState) → HoldNodes bridging states
       → kept_by between ≡ map (without_found found) (kept_by states)
       → kept_by between ≡ map (without_each had) (kept_by states)
   gone_by states between hold gone = gone ∙ each states hold
     where
-      same : (s : State) → s.kept ≡ nodes_by bridging s.family
+      same : (s : BridgeState) → s.kept ≡ nodes_by bridging s.family
           → without_items found s.kept ≡ without_all s.kept had
       same s h =
-          ap (without_items found) h ∙ gone_is s.family ∙ sym (ap (λ (m : Kept). without_all m had) h)
+          ap (without_items found) h ∙ gone_is s.family ∙ sym (ap (λ (m : KeptByAddress). without_all m had) h)
 
-      each : (ss : List State) → HoldNodes bridging ss
+      each : (ss : List BridgeState) → HoldNodes bridging ss
           → map (without_found found) (kept_by ss) ≡ map (without_each had) (kept_by ss)
       each [] h = refl
       each (s ∷ ss) h =
-          ap₂ (λ (m : Kept) (ks : List (Family × Kept)). (s.family, m) ∷ ks)
-          (same s (All-head (λ (s : State). s.kept ≡ nodes_by bridging s.family) s ss h))
-          (each ss (All-tail (λ (s : State). s.kept ≡ nodes_by bridging s.family) s ss h))
+          ap₂ (λ (m : KeptByAddress) (ks : List (Family × KeptByAddress)). (s.family, m) ∷ ks)
+          (same s (All-head (λ (s : BridgeState). s.kept ≡ nodes_by bridging s.family) s ss h))
+          (each ss (All-tail (λ (s : BridgeState). s.kept ≡ nodes_by bridging s.family) s ss h))
 
-  pub few_released : (states between : List State) → HoldNodes bridging states
+  pub few_released : (states between : List BridgeState) → HoldNodes bridging states
       → occur_once (families_of states) ≡ true
       → kept_by between ≡ map (without_each had) (kept_by states)
       → kept_count (kept_by states) ≤ kept_count (kept_by between) + length had

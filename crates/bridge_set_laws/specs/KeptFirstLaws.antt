@@ -9,9 +9,9 @@ use Rattle.std.specs.Option.{option_map, option_or}
 use Rattle.std.proofs.lemmas.List.Elements.{All-head, All-tail}
 use Rattle.std.proofs.lemmas.Option.{none-some, same_Some}
 use Rattle.aff_core.specs.Address.{Address, address_cmp, address_total}
-use Rattle.bridge_face.specs.State.{State}
+use Rattle.bridge_face.specs.BridgeState.{BridgeState}
 use Rattle.bridge_face.specs.declared.kept_item.KeptItem.{KeptItem}
-use Rattle.bridge_plan.specs.Adds.{kept_of}
+use Rattle.bridge_plan.specs.AddsHeld.{kept_of}
 use Rattle.bridge_set.specs.Bridges.{families_of, kept_first}
 use Rattle.bridge_set.specs.Nodes.{HoldNodes, nodes_by}
 use Rattle.expansion.specs.Read.{model_nodes}
@@ -40,25 +40,25 @@ looked_has P v (m ∷ ms) h n e =
 
 module _ {setting : Setting} {model : ModelValue} (sound : IsValidUnder setting model)
     (bridging : FreshBridging setting model) where
-  abbrev parts : Option (ℕ × Item) → List State → Option KeptItem
+  abbrev parts : Option (ℕ × Item) → List BridgeState → Option KeptItem
   parts o [] = None
   parts o (s ∷ ss) = option_or (family_part s.family o) (parts o ss)
 
-  kept_is : (v : Address) (ss : List State) → HoldNodes bridging ss
+  kept_is : (v : Address) (ss : List BridgeState) → HoldNodes bridging ss
       → kept_first ss v ≡ parts (finite.get (nodes_of bridging) v) ss
   kept_is v [] h = refl
   kept_is v (s ∷ ss) h =
       ap₂ option_or
       (ap (λ k. finite.get k v)
-      (All-head (λ (s : State). s.kept ≡ nodes_by bridging s.family) s ss h)
+      (All-head (λ (s : BridgeState). s.kept ≡ nodes_by bridging s.family) s ss h)
       ∙ family_kept sound bridging s.family v)
-      (kept_is v ss (All-tail (λ (s : State). s.kept ≡ nodes_by bridging s.family) s ss h))
+      (kept_is v ss (All-tail (λ (s : BridgeState). s.kept ≡ nodes_by bridging s.family) s ss h))
 
-  none_kept : (ss : List State) → parts None ss ≡ None
+  none_kept : (ss : List BridgeState) → parts None ss ≡ None
   none_kept [] = refl
   none_kept (s ∷ ss) = none_kept ss
 
-  one_keeps : (n : ℕ × Item) (ss : List State)
+  one_keeps : (n : ℕ × Item) (ss : List BridgeState)
       → list_any (family_eq (family_of (edge_at n.0))) (families_of ss) ≡ true
       → parts (Some n) ss ≡ Some (kept_of n)
   one_keeps n [] h = absurd (true≢false (sym h))
@@ -74,7 +74,7 @@ module _ {setting : Setting} {model : ModelValue} (sound : IsValidUnder setting 
       by false h later = later h
 
   module _ (usable : All (IsNode setting) (model_nodes bridging.made))
-      (states : List State) (families : families_of states ≡ setting.families)
+      (states : List BridgeState) (families : families_of states ≡ setting.families)
       (hold : HoldNodes bridging states) where
     -- the bridges keep, at each address, what stands there
     pub kept_found : (v : Address)

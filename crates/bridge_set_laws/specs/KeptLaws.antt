@@ -14,9 +14,9 @@ use Rattle.address_laws.specs.Apart.{Avoids, Distinct}
 use Rattle.aff_core.specs.Address.{Address, address_total, exact_addresses}
 use Rattle.bridge_set.specs.Bridges.{kept_by}
 use Rattle.bridge_set.specs.Nodes.{HoldNodes, nodes_by}
-use Rattle.bridge_face.specs.State.{Kept, State}
+use Rattle.bridge_face.specs.BridgeState.{BridgeState, KeptByAddress}
 use Rattle.bridge_face.specs.declared.kept_item.KeptItem.{KeptItem}
-use Rattle.bridge_plan.specs.Adds.{kept_of}
+use Rattle.bridge_plan.specs.AddsHeld.{kept_of}
 use Rattle.expansion.specs.Read.{model_nodes}
 use Rattle.fresh_bridging.specs.FreshBridging.{FreshBridging}
 use Rattle.fresh_bridging.specs.TheRules.{Setting}
@@ -159,15 +159,15 @@ module _ {setting next : Setting} {model after : ModelValue} (sound : IsValidUnd
 
   -- so bridges that kept the old nodes, have let all of found items go, and then keep those that are
   -- planned, keep the new ones
-  pub bridges_hold : (states after_all : List State) → HoldNodes old states
+  pub bridges_hold : (states after_all : List BridgeState) → HoldNodes old states
       → kept_by after_all
-      ≡ map (λ (s : State). (s.family, spliced s.kept had (fresh s.family))) states
-      → kept_by after_all ≡ map (λ (s : State). (s.family, nodes_by new s.family)) states
+      ≡ map (λ (s : BridgeState). (s.family, spliced s.kept had (fresh s.family))) states
+      → kept_by after_all ≡ map (λ (s : BridgeState). (s.family, nodes_by new s.family)) states
   bridges_hold states after_all hold is =
-      is ∙ map_same_on (λ (s : State). (s.family, spliced s.kept had (fresh s.family)))
-      (λ (s : State). (s.family, nodes_by new s.family)) states
-      (All-weaker (λ (s : State). s.kept ≡ nodes_by old s.family)
-      (λ (s : State). ◌≡◌ {A = Family × Kept} (s.family, spliced s.kept had (fresh s.family))
+      is ∙ map_same_on (λ (s : BridgeState). (s.family, spliced s.kept had (fresh s.family)))
+      (λ (s : BridgeState). (s.family, nodes_by new s.family)) states
+      (All-weaker (λ (s : BridgeState). s.kept ≡ nodes_by old s.family)
+      (λ (s : BridgeState). ◌≡◌ {A = Family × KeptByAddress} (s.family, spliced s.kept had (fresh s.family))
       (s.family, nodes_by new s.family))
       (λ s h. ap (λ k. (s.family, k)) (ap (λ k. spliced k had (fresh s.family)) h
       ∙ sym (nodes_by_changed s.family))) states hold)

@@ -11,7 +11,7 @@ use Rattle.item_core.specs.declared.image.Image.{Image}
 use Rattle.bridge_face.specs.Law.{IsItemFor, is_objective}
 use Rattle.item_core.specs.declared.item.Item.{Item}
 use Rattle.bridge_face.specs.declared.kept_item.KeptItem.{KeptItem}
-use Rattle.bridge_face.specs.State.{State, TakesDuals, found, given, gone}
+use Rattle.bridge_face.specs.BridgeState.{BridgeState, TakesDuals, found, given, gone}
 use Rattle.aff_core.specs.KeyOrder.{address_order, same_key}
 use Rattle.bridge_face.specs.ImageOf.{image_of}
 use Rattle.item_core.specs.Edge.{edge_entry, family_eq, family_of}
@@ -22,7 +22,7 @@ use Rattle.bridge_tests.specs.SampleLaws.{here}
 use Rattle.std.specs.FinMap as finite
 
 -- a row for this edge, whose image is known, is kept where samples stand
-pub record KeepsRow (edge : Edge) (image : Image) (s : State) : Type 0 where
+pub record KeepsRow (edge : Edge) (image : Image) (s : BridgeState) : Type 0 where
   pub item : Item
   pub kept : found s here ≡ Some (record { edge = edge; item = item })
   pub suits : IsItemFor edge item
@@ -31,13 +31,14 @@ pub record KeepsRow (edge : Edge) (image : Image) (s : State) : Type 0 where
   pub image_is : image ≡ image_of edge item
 
 -- what was given stands there
-pub given_found : (s : State) (kept : KeptItem) → found (given s kept) kept.item.at ≡ Some kept
+pub given_found : (s : BridgeState) (kept : KeptItem)
+    → found (given s kept) kept.item.at ≡ Some kept
 given_found s kept =
     finite.get-insert address_total s.kept kept.item.at kept kept.item.at
     ∙ ap (λ b. cond b (Some kept) (finite.get s.kept kept.item.at))
     (same_key address_order kept.item.at)
 
-pub kept_here : (s : State) (edge : Edge) (item : Item) → item.at ≡ here
+pub kept_here : (s : BridgeState) (edge : Edge) (item : Item) → item.at ≡ here
     → found (given s (record { edge = edge; item = item })) here
     ≡ Some (record { edge = edge; item = item })
 kept_here s edge item e =
@@ -45,7 +46,8 @@ kept_here s edge item e =
     subst (λ at. found (given s kept) at ≡ Some kept) e (given_found s kept)
 
 -- an item for the edge of what is kept can stand in its place
-pub suits_kept : (s : State) (edge : Edge) (item : Item) → IsItemFor edge item → item.at ≡ here
+pub suits_kept : (s : BridgeState) (edge : Edge) (item : Item) → IsItemFor edge item
+    → item.at ≡ here
     → IsSomeAnd (found s here) (λ kept. kept.edge ≡ edge)
     → IsSomeAnd (found s item.at) (λ kept. IsItemFor kept.edge item)
 suits_kept s edge item suits e there =
@@ -58,7 +60,7 @@ suits_kept s edge item suits e there =
     by (Some kept) h = subst (λ e. IsItemFor e item) (sym h) suits
 
 -- and nothing where one was removed
-pub gone_found : (s : State) (at : Address) → found (gone s at) at ≡ None
+pub gone_found : (s : BridgeState) (at : Address) → found (gone s at) at ≡ None
 gone_found s at =
     finite.get-remove address_total s.kept at at
     ∙ ap (λ b. cond b None (finite.get s.kept at)) (same_key address_order at)
@@ -68,14 +70,14 @@ pub equal_family : (f g : Family) → family_eq f g ≡ true → f ≡ g
 equal_family f g e = same_true contracts.the_type tt f g e
 
 -- an edge whose entry names the bridge's family is of that family
-pub own_family : (edge : Edge) (entry : EdgeEntry) (own : Family) (s : State)
+pub own_family : (edge : Edge) (entry : EdgeEntry) (own : Family) (s : BridgeState)
     → entry ≡ edge_entry edge → own ≡ s.family → family_eq entry.family own ≡ true
     → family_of edge ≡ s.family
 own_family edge entry own s entry_is own_is equal =
     ap (λ (e : EdgeEntry). e.family) (sym entry_is) ∙ equal_family entry.family own equal ∙ own_is
 
 -- duals of the sizes of an image's rows are taken for the row that it is of
-pub takes_duals : {edge : Edge} {image : Image} {s : State} (ys : List (List Rational))
+pub takes_duals : {edge : Edge} {image : Image} {s : BridgeState} (ys : List (List Rational))
     (at : Address) → at ≡ here → KeepsRow edge image s → map length ys ≡ map size image.rows
     → IsSomeAnd (found s at) (λ kept. TakesDuals kept ys)
 takes_duals {edge} {image} {s} ys at at_is keeps sizes =

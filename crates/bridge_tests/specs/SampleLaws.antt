@@ -45,8 +45,8 @@ abbrev pub item_of : Body → Item
 item_of body = placed here body
 
 -- a body that a valid item has
-abbrev pub IsSound : Body → Type 0
-IsSound body = IsValidItem (item_of body)
+abbrev pub IsValidBody : Body → Type 0
+IsValidBody body = IsValidItem (item_of body)
 
 -- the n-th variable with a number added
 abbrev pub shifted : ℕ → Rational → Function
@@ -112,7 +112,7 @@ sample_of_three set vector long enough uncrossed = record {
 -- from a body's functions and set alone
 sound : (body : Body) → FitsItsFunction body → 1 ≤ length (functions_of body)
     → length (functions_of body) ≤ 32767 → IsSetOf (length (functions_of body)) (set_of body)
-    → (is_group body ≡ false → All (NamesNothingBelow here) (functions_of body)) → IsSound body
+    → (is_group body ≡ false → All (NamesNothingBelow here) (functions_of body)) → IsValidBody body
 sound body function some at_most set others = record {
   function = function;
   some = some;
@@ -123,48 +123,48 @@ sound body function some at_most set others = record {
 }
 
 pub sound_plain : (set : Set) → is_scalar set ≡ true → IsSampleSet set
-    → IsSound (Plain (at_variable 0) set)
+    → IsValidBody (Plain (at_variable 0) set)
 sound_plain set s k =
     sound (Plain (at_variable 0) set) s (omega arith) (omega arith) (k.one s)
     (λ _. one_unnamed (variable (at_variable 0)) (unnamed 0))
 
 pub sound_affine : (q : Rational) (set : Set) → is_scalar set ≡ true → IsSampleSet set
-    → IsSound (Affine (shifted 0 q) set)
+    → IsValidBody (Affine (shifted 0 q) set)
 sound_affine q set s k =
     sound (Affine (shifted 0 q) set) s (omega arith) (omega arith) (k.one s)
     (λ _. one_unnamed (shifted 0 q) (unnamed_shifted 0 q))
 
 pub sound_plain_vec : (set : Set) → is_scalar set ≡ false → IsSampleSet set
-    → IsSound (PlainVec three_variables set)
+    → IsValidBody (PlainVec three_variables set)
 sound_plain_vec set s k =
     sound (PlainVec three_variables set) s (omega arith) (omega arith) (k.three s)
     (λ _. three_unnamed)
 
 pub sound_affine_vec : (q : Rational) (set : Set) → is_scalar set ≡ false → IsSampleSet set
-    → IsSound (AffineVec (three_functions q) set)
+    → IsValidBody (AffineVec (three_functions q) set)
 sound_affine_vec q set s k =
     sound (AffineVec (three_functions q) set) s (omega arith) (omega arith) (k.three s)
     (λ _. three_shifted q)
 
 pub sound_group_one : (set : Set) → is_scalar set ≡ true → IsSampleSet set
-    → IsSound (Group set (at_variable 0 ∷ []))
+    → IsValidBody (Group set (at_variable 0 ∷ []))
 sound_group_one set s k =
     sound (Group set (at_variable 0 ∷ [])) tt (omega arith) (omega arith) (k.one s)
     (λ none. absurd (true≢false none))
 
 pub sound_group_three : (set : Set) → is_scalar set ≡ false → IsSampleSet set
-    → IsSound (Group set three_variables)
+    → IsValidBody (Group set three_variables)
 sound_group_three set s k =
     sound (Group set three_variables) tt (omega arith) (omega arith) (k.three s)
     (λ none. absurd (true≢false none))
 
-pub sound_plain_obj : (sense : Sense) → IsSound (PlainObj sense (at_variable 0))
+pub sound_plain_obj : (sense : Sense) → IsValidBody (PlainObj sense (at_variable 0))
 sound_plain_obj sense =
     sound (PlainObj sense (at_variable 0)) tt (omega arith) (omega arith)
     (record { dimension = refl; enough = omega arith; uncrossed = refl })
     (λ _. one_unnamed (variable (at_variable 0)) (unnamed 0))
 
-pub sound_affine_obj : (sense : Sense) (q : Rational) → IsSound (AffineObj sense (shifted 0 q))
+pub sound_affine_obj : (sense : Sense) (q : Rational) → IsValidBody (AffineObj sense (shifted 0 q))
 sound_affine_obj sense q =
     sound (AffineObj sense (shifted 0 q)) tt (omega arith) (omega arith)
     (record { dimension = refl; enough = omega arith; uncrossed = refl })
@@ -191,7 +191,7 @@ equal_kind a b e = same_true contracts.the_type tt a b e
 
 -- a sound body of the edge's source kind
 pub suits_sound : (edge : Edge) (at : Address) (body : Body) (item : Item) (kind source : Kind)
-    → at ≡ here → IsSound body → item ≡ placed at body
+    → at ≡ here → IsValidBody body → item ≡ placed at body
     → kind ≡ kind_of_body body → source ≡ source_of edge → kind_eq kind source ≡ true
     → IsItemFor edge item
 suits_sound edge at body item kind source at_is sound item_is kind_is source_is equal =
@@ -204,7 +204,7 @@ abbrev pub two_constants : Rational → Rational → Set → Body
 two_constants p q set = AffineVec (constant_function p ∷ constant_function q ∷ []) set
 
 sound_constants : (p q : Rational) (set : Set) → is_scalar set ≡ false → IsSetOf 2 set
-    → IsSound (two_constants p q set)
+    → IsValidBody (two_constants p q set)
 sound_constants p q set vector two =
     sound (two_constants p q set) vector (omega arith) (omega arith) two (λ _.
     All-cons (NamesNothingBelow here) (constant_function p) (constant_function q ∷ [])

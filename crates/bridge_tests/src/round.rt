@@ -5,7 +5,7 @@ ghost use Rattle.item_core.specs.Edge.{family_of};
 ghost use Rattle.item_core.specs.Item.{is_group};
 ghost use Rattle.bridge_face.specs.ImageOf.{image_of};
 ghost use Rattle.bridge_face.specs.Law.{IsItemFor, is_objective};
-ghost use Rattle.bridge_face.specs.State.{found};
+ghost use Rattle.bridge_face.specs.BridgeState.{found};
 ghost use Rattle.bridge_tests.specs.RoundLaws.{KeepsRow};
 ghost use Rattle.bridge_tests.specs.SampleLaws.{here};
 

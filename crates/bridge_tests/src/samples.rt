@@ -2,7 +2,7 @@
 ghost use Rattle.std.specs.Prelude.{◌≡◌, [], ◌∷◌, IfOk, false, true};
 ghost use Rattle.bridge_face.specs.Law.{IsItemFor};
 ghost use Rattle.set_core.specs.Shapes.{is_scalar};
-ghost use Rattle.bridge_tests.specs.SampleLaws.{IsSampleSet, IsSound, at_variable, here, shifted, three_functions, three_variables};
+ghost use Rattle.bridge_tests.specs.SampleLaws.{IsSampleSet, IsValidBody, at_variable, here, shifted, three_functions, three_variables};
 
 use aff_core::{Address, Addresses, Aff, Root, VecAff};
 use item_core::{Body, Edge, FirstWord, Item, Kind, SecondWord, Sense, kind_of};
@@ -41,7 +41,7 @@ pub fn sample(alloc: Global, edge: Edge, number: Ratio) -> Result<Item, Stop>
 
 // A body by the words of its kind: an affine objective where they name no set and no variable.
 fn body(alloc: Global, kind: Kind, number: Ratio) -> Result<Body, Memory>
-    ensures { IfOk result IsSound }
+    ensures { IfOk result IsValidBody }
 {
     let first = kind.first();
     match kind.second() {
@@ -95,7 +95,7 @@ fn sample_set(set: SetType, number: Ratio) -> Set
 fn of_one(alloc: Global, first: FirstWord, set: Set, number: Ratio) -> Result<Body, Memory>
     requires scalar { is_scalar set ≡ true }
     requires sample { IsSampleSet set }
-    ensures { IfOk result IsSound }
+    ensures { IfOk result IsValidBody }
 {
     match first {
         FirstWord::Plain => Ok(Body::Plain {
@@ -117,7 +117,7 @@ fn of_one(alloc: Global, first: FirstWord, set: Set, number: Ratio) -> Result<Bo
 fn of_three(alloc: Global, first: FirstWord, set: Set, number: Ratio) -> Result<Body, Memory>
     requires vector { is_scalar set ≡ false }
     requires sample { IsSampleSet set }
-    ensures { IfOk result IsSound }
+    ensures { IfOk result IsValidBody }
 {
     match first {
         FirstWord::Vplain => Ok(Body::PlainVec {

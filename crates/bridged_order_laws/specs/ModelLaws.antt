@@ -38,7 +38,7 @@ use Rattle.address_laws.specs.Keys.{Mine, keys_in, keys_of_each}
 use Rattle.address_laws.specs.LeafKeys.{alone_are, keys_of-flat_map, leaf_keys_in, leaf_keys_of_each, leaf_variables_are, no_keys, objective_keys, row_keys, rows_alone}
 use Rattle.address_laws.specs.Regions.{AtOrBelow}
 use Rattle.bridged_order_laws.specs.AboveLaws.{AllBefore, Before, both_before, root_less}
-use Rattle.bridged_order_laws.specs.TreeLaws.{IsNoGroup, IsPlain, Leads, cross, last_in_others, none_of_each}
+use Rattle.bridged_order_laws.specs.TreeLaws.{IsNoGroup, IsNoObjective, LeadInOrder, cross, last_in_others, none_of_each}
 
 -- ---- what has no leaf of an objective has no leaf variable or row of one
 
@@ -90,7 +90,7 @@ below_root : (item : Item) (v : Address) → AtOrBelow item v
     → root_number v.root ≡ root_number item.at.root
 below_root item v b = ap (λ (u : Address). root_number u.root) b.is
 
-all_lead : (rows : List Row) (o : Objective) → Leads (map row_item rows ++ objective_items o)
+all_lead : (rows : List Row) (o : Objective) → LeadInOrder (map row_item rows ++ objective_items o)
 all_lead [] objective.Feasibility = tt
 all_lead [] (objective.Plain sense var) = inl refl
 all_lead [] (objective.Affine sense f) = inl refl
@@ -135,10 +135,10 @@ each_group_low (g ∷ gs) =
     All-cons (λ (g : Item). (v : Address) → Mine g v → IsLow v) (group_item g)
     (map group_item gs) (group_low g) (each_group_low gs)
 
-each_group_plain : (gs : List UserGroup) → All IsPlain (map group_item gs)
-each_group_plain [] = All-nil IsPlain
+each_group_plain : (gs : List UserGroup) → All IsNoObjective (map group_item gs)
+each_group_plain [] = All-nil IsNoObjective
 each_group_plain (g ∷ gs) =
-    All-cons IsPlain (group_item g) (map group_item gs) refl (each_group_plain gs)
+    All-cons IsNoObjective (group_item g) (map group_item gs) refl (each_group_plain gs)
 
 -- ---- the fresh bridging
 

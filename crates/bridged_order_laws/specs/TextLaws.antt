@@ -10,7 +10,7 @@ use Rattle.std.proofs.lemmas.Grind.{flat_map-append}
 use Rattle.std.proofs.lemmas.List.Elements.{All-append, All-cons, All-head, All-map, All-nil, All-tail, All-weaker}
 use Rattle.aff_core.specs.Address.{Address, address_cmp}
 use Rattle.bridge_graph.specs.Hypergraph.{IsCostly}
-use Rattle.bridged_report.specs.Lines.{Line, bridged_text, in_order, joined, objective_line, put_before, row_line, variable_line}
+use Rattle.bridged_report.specs.Lines.{LeafLine, bridged_text, in_order, joined, objective_line, put_before, row_line, variable_line}
 use Rattle.fresh_bridging.specs.CanLaws.{AreLawful}
 use Rattle.fresh_bridging.specs.FreshBridging.{FreshBridging, leaves_of}
 use Rattle.fresh_bridging.specs.TheRules.{Setting, graph_of}
@@ -21,17 +21,17 @@ use Rattle.bridged_order_laws.specs.Merged.{merged_text}
 use Rattle.bridged_order_laws.specs.ModelLaws.{rows_precede, variables_precede}
 
 -- the line is below each of these
-abbrev IsFirst : List Line → Line → Type 0
+abbrev IsFirst : List LeafLine → LeafLine → Type 0
 IsFirst others line = All (λ other. address_cmp line.0 other.0 ≡ Less) others
 
-put_at_front : (line : Line) (others : List Line) → IsFirst others line
+put_at_front : (line : LeafLine) (others : List LeafLine) → IsFirst others line
     → put_before line others ≡ line ∷ others
 put_at_front line [] h = refl
 put_at_front line (other ∷ others) h =
     ap (λ o. cond (is_le o) (line ∷ other ∷ others) (other ∷ put_before line others))
     (All-head (λ other. address_cmp line.0 other.0 ≡ Less) other others h)
 
-put_within : (line : Line) (lines others : List Line) → IsFirst others line
+put_within : (line : LeafLine) (lines others : List LeafLine) → IsFirst others line
     → put_before line (lines ++ others) ≡ put_before line lines ++ others
 put_within line [] others h = put_at_front line others h
 put_within line (other ∷ lines) others h =
@@ -43,7 +43,7 @@ put_within line (other ∷ lines) others h =
     by true e = refl
     by false e = ap (λ ls. other ∷ ls) e
 
-in_order-append : (lines others : List Line) → All (IsFirst others) lines
+in_order-append : (lines others : List LeafLine) → All (IsFirst others) lines
     → in_order others ≡ others → in_order (lines ++ others) ≡ in_order lines ++ others
 in_order-append [] others h e = e
 in_order-append (line ∷ lines) others h e =
@@ -52,7 +52,7 @@ in_order-append (line ∷ lines) others h e =
 
 -- ---- lines of entries
 
-module _ {X : Type 0} (line : Address × X → Line) (own : (e : Address × X) → (line e).0 ≡ e.0) where
+module _ {X : Type 0} (line : Address × X → LeafLine) (own : (e : Address × X) → (line e).0 ≡ e.0) where
   first_of : (e : Address × X) (es : List (Address × X)) → T (below_all address_cmp e.0 es)
       → IsFirst (map line es) (line e)
   first_of e [] h = All-nil (λ other. address_cmp (line e).0 other.0 ≡ Less)
@@ -69,8 +69,8 @@ module _ {X : Type 0} (line : Address × X → Line) (own : (e : Address × X) �
       ap (put_before (line e)) (rising es (second _ _ h))
       ∙ put_at_front (line e) (map line es) (first_of e es (first _ _ h))
 
-module _ {X Y : Type 0} (line : Address × X → Line) (own : (e : Address × X) → (line e).0 ≡ e.0)
-    (other : Address × Y → Line) (its : (o : Address × Y) → (other o).0 ≡ o.0) where
+module _ {X Y : Type 0} (line : Address × X → LeafLine) (own : (e : Address × X) → (line e).0 ≡ e.0)
+    (other : Address × Y → LeafLine) (its : (o : Address × Y) → (other o).0 ≡ o.0) where
   -- by entries, one list with each of another
   abbrev IsBelowEach : List (Address × Y) → Address × X → Type 0
   IsBelowEach os e = All (λ o. address_cmp e.0 o.0 ≡ Less) os
@@ -120,4 +120,4 @@ prints_in_order setting costly lawful model valid bridging =
     (rows_precede setting costly lawful model valid bridging)))
     (rising (objective_line model) (λ o. refl) objectives
     (finite.entries_sorted (leaves_of bridging).objective)))
-    ∙ flat_map-append (λ (l : Line). l.1) (in_order lines) others)
+    ∙ flat_map-append (λ (l : LeafLine). l.1) (in_order lines) others)

@@ -32,8 +32,8 @@ use Rattle.bridged_order_laws.specs.AboveLaws.{AllBefore, Before, both_before, c
 
 -- ---- items
 
-abbrev pub IsPlain : Item → Type 0
-IsPlain c = is_objective c.body ≡ false
+abbrev pub IsNoObjective : Item → Type 0
+IsNoObjective c = is_objective c.body ≡ false
 
 abbrev pub IsNoGroup : Item → Type 0
 IsNoGroup c = is_group c.body ≡ false
@@ -44,7 +44,7 @@ group_plain (AffineObj sense func) h = absurd (true≢false (sym h))
 group_plain _ h = refl
 
 -- no leaf objective but of an objective
-plain_keys : (item : Item) → IsPlain item → objective_keys item ≡ []
+plain_keys : (item : Item) → IsNoObjective item → objective_keys item ≡ []
 plain_keys item h = by item.body h
   where
     by : (b : Body) → is_objective b ≡ false
@@ -55,14 +55,14 @@ plain_keys item h = by item.body h
 
 -- of items one after another the objective is the last, and what is at or below another is below
 -- what is at or below it
-abbrev pub Leads : List Item → Type 0
-Leads [] = Unit {0}
-Leads (x ∷ xs) =
+abbrev pub LeadInOrder : List Item → Type 0
+LeadInOrder [] = Unit {0}
+LeadInOrder (x ∷ xs) =
     (xs ≡ [])
-    ⊎ (IsPlain x
+    ⊎ (IsNoObjective x
     × All (λ y. is_objective y.body ≡ true → (v o : Address) → AtOrBelow x v → AtOrBelow y o
     → address_cmp v o ≡ Less) xs
-    × Leads xs)
+    × LeadInOrder xs)
 
 -- items at the positions of an address from one on
 abbrev Placed : Address → ℕ → List Item → Type 0
@@ -83,11 +83,11 @@ placed_second at (x ∷ xs) ys low e =
 
 -- where plain items come first, and then one more
 leads_placed : (at : Address) (xs : List Item) (low : ℕ) (last : Item)
-    → Placed at low (xs ++ last ∷ []) → All IsPlain xs → Leads (xs ++ last ∷ [])
+    → Placed at low (xs ++ last ∷ []) → All IsNoObjective xs → LeadInOrder (xs ++ last ∷ [])
 leads_placed at [] low last e h = inl refl
 leads_placed at (x ∷ xs) low last e h =
     inr (
-      All-head IsPlain x xs h,
+      All-head IsNoObjective x xs h,
       All-weaker
           (StandsFrom (λ (c : Item). c.at) (child_of at) (low + 1)
           ((low + 1) + length (xs ++ last ∷ [])))
@@ -98,7 +98,7 @@ leads_placed at (x ∷ xs) low last e h =
           (xs ++ last ∷ [])
           (stand_from (λ (c : Item). c.at) (child_of at) (xs ++ last ∷ []) (low + 1)
           ((low + 1) + length (xs ++ last ∷ [])) (omega arith) rest),
-      leads_placed at xs (low + 1) last rest (All-tail IsPlain x xs h),
+      leads_placed at xs (low + 1) last rest (All-tail IsNoObjective x xs h),
     )
   where
     here : x.at ≡ child_of at low
@@ -130,30 +130,30 @@ module _ (setting : Setting) (costly : IsCostly (graph_of setting)) (choice : �
     abbrev Others : List Item
     Others = (image_of (edge_at n) item).rows ++ listed (image_of (edge_at n) item).objective
 
-    groups_plain : All IsPlain Groups
+    groups_plain : All IsNoObjective Groups
     groups_plain =
-        All-weaker (λ g. is_group g.body ≡ true) IsPlain (λ g h. group_plain g.body h) Groups
+        All-weaker (λ g. is_group g.body ≡ true) IsNoObjective (λ g h. group_plain g.body h) Groups
         (groups_only setting costly choice chosen lawful item can n e)
 
-    rows_plain : All IsPlain (image_of (edge_at n) item).rows
+    rows_plain : All IsNoObjective (image_of (edge_at n) item).rows
     rows_plain = image.rows_alone setting costly choice chosen lawful item can n e
 
-    others_plain : IsPlain item → All IsPlain Others
+    others_plain : IsNoObjective item → All IsNoObjective Others
     others_plain h =
-        All-append IsPlain (image_of (edge_at n) item).rows
+        All-append IsNoObjective (image_of (edge_at n) item).rows
         (listed (image_of (edge_at n) item).objective) rows_plain
-        (subst (λ x. All IsPlain (listed x))
+        (subst (λ x. All IsNoObjective (listed x))
         (sym (image.no_child_objective setting costly choice chosen lawful item can n e h))
-        (All-nil IsPlain))
+        (All-nil IsNoObjective))
 
     placed : Placed item.at 0 (Groups ++ Others)
     placed = (law_of setting costly choice chosen lawful item can n e).positions
 
     -- the objective that an objective leads to stands last
-    others_lead : is_objective item.body ≡ true → Leads Others
+    others_lead : is_objective item.body ≡ true → LeadInOrder Others
     others_lead h =
         let has = image.child_objective setting costly choice chosen lawful item can n e h in
-        subst (λ x. Leads ((image_of (edge_at n) item).rows ++ listed x)) (sym has.is)
+        subst (λ x. LeadInOrder ((image_of (edge_at n) item).rows ++ listed x)) (sym has.is)
         (leads_placed item.at (image_of (edge_at n) item).rows (0 + length Groups) has.child
         (subst (λ x. Placed item.at (0 + length Groups)
         ((image_of (edge_at n) item).rows ++ listed x)) has.is
@@ -202,7 +202,7 @@ module _ (setting : Setting) (costly : IsCostly (graph_of setting)) (choice : �
 
     pub none_of : {item : Item} {entries : List Entry}
         (tree : Bridged (rules_by choice) item entries)
-        → Here item → IsPlain item → keys objective_keys no_keys tree ≡ []
+        → Here item → IsNoObjective item → keys objective_keys no_keys tree ≡ []
     none_of (natively {item} c) here h = plain_keys item h
     none_of (by {item} {edge} {inner} c groups others) here h =
         ap₂ ◌++◌
@@ -215,23 +215,23 @@ module _ (setting : Setting) (costly : IsCostly (graph_of setting)) (choice : �
 
     pub none_of_each : {items : List Item} {entries : List Entry}
         (trees : EachBridged (rules_by choice) items entries) → All Here items
-        → All IsPlain items → keys_of_each objective_keys no_keys trees ≡ []
+        → All IsNoObjective items → keys_of_each objective_keys no_keys trees ≡ []
     none_of_each none here h = refl
     none_of_each (each {item} {items} first rest) here h =
         ap₂ ◌++◌
-        (none_of first (All-head Here item items here) (All-head IsPlain item items h))
-        (none_of_each rest (All-tail Here item items here) (All-tail IsPlain item items h))
+        (none_of first (All-head Here item items here) (All-head IsNoObjective item items h))
+        (none_of_each rest (All-tail Here item items here) (All-tail IsNoObjective item items h))
 
     pub none_of_others : {inner : List Entry} {items : List Item}
         (trees : EachBridgedIn (rules_by choice) inner items) → All (HereIn inner) items
-        → All IsPlain items → keys_in objective_keys no_keys trees ≡ []
+        → All IsNoObjective items → keys_in objective_keys no_keys trees ≡ []
     none_of_others none_in here h = refl
     none_of_others {inner} (each_in {item = item} {items = items} first rest) here h =
         ap₂ ◌++◌
         (none_of first (All-head (HereIn inner) item items here)
-        (objective_stays inner item.body ∙ All-head IsPlain item items h))
+        (objective_stays inner item.body ∙ All-head IsNoObjective item items h))
         (none_of_others rest (All-tail (HereIn inner) item items here)
-        (All-tail IsPlain item items h))
+        (All-tail IsNoObjective item items h))
 
   -- ---- the leaf objectives of further items are above these addresses
 
@@ -310,7 +310,7 @@ module _ (setting : Setting) (costly : IsCostly (graph_of setting)) (choice : �
               (groups_plain item here.can edge c)
 
           by_class : (b : Bool) → is_objective item.body ≡ b
-              → (Leads (Others item here.can edge c)
+              → (LeadInOrder (Others item here.can edge c)
               → AllBefore (keys_in of_leaf no_keys others) (keys_in objective_keys no_keys others))
               → AllBefore (keys_of_each of_leaf no_keys groups ++ keys_in of_leaf no_keys others)
               (keys_of_each objective_keys no_keys groups
@@ -345,7 +345,7 @@ module _ (setting : Setting) (costly : IsCostly (graph_of setting)) (choice : �
 
       pub last_in_others : {inner : List Entry} {items : List Item}
           (trees : EachBridgedIn (rules_by choice) inner items) → All (HereIn inner) items
-          → All IsNoGroup items → Leads items
+          → All IsNoGroup items → LeadInOrder items
           → AllBefore (keys_in of_leaf no_keys trees) (keys_in objective_keys no_keys trees)
       last_in_others none_in here alone leads = All-nil (Before [])
       last_in_others {inner} (each_in {item = item} {items = items} first rest) here alone

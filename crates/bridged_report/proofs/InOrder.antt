@@ -14,7 +14,7 @@ use Rattle.aff_core.specs.FunctionLaws.{rises, tested}
 use Rattle.aff_core.specs.Rising.{RiseStrictly}
 use Rattle.map_laws.specs.EntryLaws.{below_less, is_sorted-drop}
 use Rattle.map_laws.specs.TestLaws.{both, first, is_less, second}
-use Rattle.bridged_report.specs.Lines.{Line, in_order, joined, put_before}
+use Rattle.bridged_report.specs.Lines.{LeafLine, in_order, joined, put_before}
 
 -- ---- two addresses
 
@@ -44,30 +44,31 @@ le_less a b c h less = by_order (address_cmp a b) refl h
 
 -- ---- an address that is no higher than a line's, or than those of all lines
 
-abbrev no_higher : Address → List Line → Bool
+abbrev no_higher : Address → List LeafLine → Bool
 no_higher at [] = true
 no_higher at (line ∷ lines) = is_le (address_cmp at line.0) && no_higher at lines
 
-no_higher_below : (at : Address) (lines : List Line) → T (below_all address_cmp at lines)
+no_higher_below : (at : Address) (lines : List LeafLine) → T (below_all address_cmp at lines)
     → T (no_higher at lines)
 no_higher_below at [] h = tt
 no_higher_below at (line ∷ lines) h =
     both _ _ (less_le _ (is_less _ (first _ _ h))) (no_higher_below at lines (second _ _ h))
 
-no_higher_than : (at other : Address) (lines : List Line) → T (is_le (address_cmp at other))
+no_higher_than : (at other : Address) (lines : List LeafLine) → T (is_le (address_cmp at other))
     → T (below_all address_cmp other lines) → T (no_higher at lines)
 no_higher_than at other [] le h = tt
 no_higher_than at other (line ∷ lines) le h =
     both _ _ (le_less at other line.0 le (is_less _ (first _ _ h)))
     (no_higher_than at other lines le (second _ _ h))
 
-no_higher-append : (at : Address) (lines others : List Line) → T (no_higher at lines)
+no_higher-append : (at : Address) (lines others : List LeafLine) → T (no_higher at lines)
     → T (no_higher at others) → T (no_higher at (lines ++ others))
 no_higher-append at [] others h k = k
 no_higher-append at (line ∷ lines) others h k =
     both _ _ (first _ _ h) (no_higher-append at lines others (second _ _ h) k)
 
-no_higher_put : (at : Address) (line : Line) (lines : List Line) → T (is_le (address_cmp at line.0))
+no_higher_put : (at : Address) (line : LeafLine) (lines : List LeafLine)
+    → T (is_le (address_cmp at line.0))
     → T (no_higher at lines) → T (no_higher at (put_before line lines))
 no_higher_put at line [] le h = both _ _ le tt
 no_higher_put at line (other ∷ others) le h =
@@ -78,7 +79,7 @@ no_higher_put at line (other ∷ others) le h =
     by_test true rest = both _ _ le h
     by_test false rest = both _ _ (first _ _ h) rest
 
-no_higher_in_order : (at : Address) (lines : List Line) → T (no_higher at lines)
+no_higher_in_order : (at : Address) (lines : List LeafLine) → T (no_higher at lines)
     → T (no_higher at (in_order lines))
 no_higher_in_order at [] h = tt
 no_higher_in_order at (line ∷ lines) h =
@@ -87,28 +88,29 @@ no_higher_in_order at (line ∷ lines) h =
 
 -- ---- which line is the first
 
-put_first : (line : Line) (lines : List Line) → T (no_higher line.0 lines)
+put_first : (line : LeafLine) (lines : List LeafLine) → T (no_higher line.0 lines)
     → put_before line lines ≡ line ∷ lines
 put_first line [] h = refl
 put_first line (other ∷ others) h =
     ap (λ b. cond b (line ∷ other ∷ others) (other ∷ put_before line others))
     (tested _ (first _ _ h))
 
-put_behind : (line other : Line) (others : List Line) → address_cmp other.0 line.0 ≡ Less
+put_behind : (line other : LeafLine) (others : List LeafLine) → address_cmp other.0 line.0 ≡ Less
     → put_before line (other ∷ others) ≡ other ∷ put_before line others
 put_behind line other others less =
     ap (λ b. cond b (line ∷ other ∷ others) (other ∷ put_before line others))
     (not_le line.0 other.0 less)
 
 -- lines whose addresses rise stay as they are
-in_order_rising : (lines : List Line) → T (is_sorted address_cmp lines) → in_order lines ≡ lines
+in_order_rising : (lines : List LeafLine) → T (is_sorted address_cmp lines) → in_order lines ≡ lines
 in_order_rising [] h = refl
 in_order_rising (line ∷ lines) h =
     ap (put_before line) (in_order_rising lines (second _ _ h))
     ∙ put_first line lines (no_higher_below line.0 lines (first _ _ h))
 
 -- a line below all others is the first
-goes_first : (row : Line) (variables rows : List Line) → T (below_all address_cmp row.0 variables)
+goes_first : (row : LeafLine) (variables rows : List LeafLine)
+    → T (below_all address_cmp row.0 variables)
     → T (below_all address_cmp row.0 rows) → in_order (variables ++ row ∷ rows)
     ≡ row ∷ in_order (variables ++ rows)
 goes_first row [] rows h k =
@@ -118,11 +120,11 @@ goes_first row (variable ∷ variables) rows h k =
     ∙ put_behind variable row (in_order (variables ++ rows)) (is_less _ (first _ _ h))
 
 -- how many lines stand before the address
-abbrev lower : Address → List Line → ℕ
+abbrev lower : Address → List LeafLine → ℕ
 lower at lines = position_or_len (λ line. is_le (address_cmp at line.0)) lines
 
 -- before the first variable are the rows that are lower
-rows_before : (variable : Line) (variables rows : List Line)
+rows_before : (variable : LeafLine) (variables rows : List LeafLine)
     → T (below_all address_cmp variable.0 variables) → T (is_sorted address_cmp rows)
     → in_order (variable ∷ variables ++ rows)
     ≡ take (lower variable.0 rows) rows ++ (variable ∷ in_order
@@ -165,7 +167,7 @@ rows_before variable variables (row ∷ rows) h k =
 -- ---- lines of entries
 
 module _ {X : Type 0} (text : Address × X → List ℕ) where
-  abbrev pub line_of : Address × X → Line
+  abbrev pub line_of : Address × X → LeafLine
   line_of e = (e.0, text e)
 
   below_lines : (at : Address) (es : List (Address × X)) → below_all address_cmp at (map line_of es)

@@ -29,7 +29,7 @@ use Rattle.solver_store.specs.declared.leaf.LeafRow.TheVariants as row
 use Rattle.solver_store.specs.declared.leaf.LeafVar.{LeafVar}
 use Rattle.std_form.specs.FormLaws.{names_named, objective_through}
 use Rattle.std_form.specs.Indexed.{objective_in}
-use Rattle.std_form.specs.NameLaws.{IsEntry, IsNamed, IsNamedTerm, NamesNamed, entries_found}
+use Rattle.std_form.specs.NameLaws.{IsEntry, IsIndexNamed, IsTermIndexNamed, NamesNamed, entries_found}
 use Rattle.std_form.specs.Readable.{IsReadable, IsReadableRow, NamesExactly, NamesUsed}
 use Rattle.std_form.specs.ThroughLaws.{HasItsIndex, each_index, entries_through, leaves_with}
 use Rattle.user_model.specs.Model.{ModelValue}
@@ -43,7 +43,7 @@ use Rattle.bridged_report.proofs.Naming.{has_index, none_has}
 -- ---- functions
 
 module _ (indices : Indices) where
-  named_is : (i : ℕ) → IsNamed indices i → address_of indices i ≡ Some (address_in indices i)
+  named_is : (i : ℕ) → IsIndexNamed indices i → address_of indices i ≡ Some (address_in indices i)
   named_is i n = by_found (find (has_index indices i) (finite.entries indices)) refl
     where
       by_found : (o : Option (Address × ℕ)) → find (has_index indices i) (finite.entries indices)
@@ -52,20 +52,20 @@ module _ (indices : Indices) where
       by_found (Some e) is = refl
       by_found None is = absurd (none_has indices i n.0 is n.1)
 
-  named_terms : (ts : List (ℕ × Rational)) → All (IsNamedTerm indices) ts
+  named_terms : (ts : List (ℕ × Rational)) → All (IsTermIndexNamed indices) ts
       → filter_map (term_in indices) ts ≡ prelude.map (λ t. (address_in indices t.0, t.1)) ts
   named_terms [] n = refl
   named_terms (t ∷ ts) n =
       ap₂ (λ o us. cons_option (option_map (λ at. (at, t.1)) o) us)
-      (named_is t.0 (All-head (IsNamedTerm indices) t ts n))
-      (named_terms ts (All-tail (IsNamedTerm indices) t ts n))
+      (named_is t.0 (All-head (IsTermIndexNamed indices) t ts n))
+      (named_terms ts (All-tail (IsTermIndexNamed indices) t ts n))
 
   function_read : (f : SolverFunction) → NamesNamed indices f
       → function_in indices f ≡ named indices f
   function_read f n = ap (λ ts. gathered ts f.constant) (named_terms (terms_of f) n)
 
   module _ (model : ModelValue) where
-    index_read : (i : ℕ) → IsNamed indices i → index_text model indices i
+    index_read : (i : ℕ) → IsIndexNamed indices i → index_text model indices i
         ≡ address_text model (address_in indices i)
     index_read i n = ap (λ o. option_map_or (address_text model) o []) (named_is i n)
 
@@ -83,10 +83,10 @@ module _ (map : AddressMap) (leaves : Leaves) (readable : IsReadable map leaves)
   abbrev vars : Indices
   vars = map.vars.indices
 
-  variable_named : (var : ℕ) → NamesUsed map leaves (variable var) → IsNamed vars var
+  variable_named : (var : ℕ) → NamesUsed map leaves (variable var) → IsIndexNamed vars var
   variable_named var h =
-      All-head (IsNamedTerm vars) (var, one_ℚ) []
-      (subst (All (IsNamedTerm vars)) (terms-variable nat_cmp var) (names_named map leaves readable
+      All-head (IsTermIndexNamed vars) (var, one_ℚ) []
+      (subst (All (IsTermIndexNamed vars)) (terms-variable nat_cmp var) (names_named map leaves readable
       (variable var) h))
 
   components_named : (set : Set) (fs : List SolverFunction)

@@ -17,7 +17,7 @@ use Rattle.report_core.specs.Words.{newline}
 use Rattle.user_model.specs.Model.{ModelValue}
 use Rattle.bridged_report.specs.Addresses.{address_text}
 use Rattle.bridged_report.specs.Functions.{components_text, function_text}
-use Rattle.bridged_report.specs.Lines.{Line, in_order, joined, sense_text, variable_text}
+use Rattle.bridged_report.specs.Lines.{LeafLine, in_order, joined, sense_text, variable_text}
 use Rattle.bridged_report.specs.Sets.{set_text}
 
 -- ---- functions
@@ -63,11 +63,11 @@ module _ (model : ModelValue) (indices : Indices) where
   -- ---- the lines of entries, without text where nothing has the index
 
   module _ (leaves : Leaves) where
-    abbrev pub variable_line_in : Address × ℕ → Line
+    abbrev pub variable_line_in : Address × ℕ → LeafLine
     variable_line_in e =
         (e.0, option_map_or (variable_text model e.0) (finite.get leaves.vars e.1) [])
 
-    abbrev pub row_line_in : Address × ℕ → Line
+    abbrev pub row_line_in : Address × ℕ → LeafLine
     row_line_in e = (e.0, option_map_or (row_text_at e.0) (finite.get leaves.rows e.1) [])
 
 -- ---- the text

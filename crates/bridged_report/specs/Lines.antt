@@ -41,22 +41,22 @@ body_text model _ = []
 -- ---- lines in the order of addresses
 
 -- a line, and the address of its leaf
-abbrev pub Line : Type 0
-Line = Address × List ℕ
+abbrev pub LeafLine : Type 0
+LeafLine = Address × List ℕ
 
 -- the line before the first of those whose addresses are no lower
-abbrev pub put_before : Line → List Line → List Line
+abbrev pub put_before : LeafLine → List LeafLine → List LeafLine
 put_before line [] = line ∷ []
 put_before line (other ∷ others) =
     if is_le (address_cmp line.0 other.0) then line ∷ other ∷ others
     else other ∷ put_before line others
 
 -- the lines in the order of their addresses; of those with one address the first stays first
-abbrev pub in_order : List Line → List Line
+abbrev pub in_order : List LeafLine → List LeafLine
 in_order [] = []
 in_order (line ∷ lines) = put_before line (in_order lines)
 
-abbrev pub joined : List Line → List ℕ
+abbrev pub joined : List LeafLine → List ℕ
 joined lines = flat_map (λ line. line.1) lines
 
 -- ---- the text
@@ -65,14 +65,14 @@ abbrev pub variable_text : ModelValue → Address → LeafVar → List ℕ
 variable_text model at var =
     codes "var " ++ address_text model at ++ codes " " ++ var_text var ++ newline
 
-abbrev pub variable_line : ModelValue → Address × LeafVar → Line
+abbrev pub variable_line : ModelValue → Address × LeafVar → LeafLine
 variable_line model e = (e.0, variable_text model e.0 e.1)
 
-abbrev pub row_line : ModelValue → Address × Body → Line
+abbrev pub row_line : ModelValue → Address × Body → LeafLine
 row_line model e =
     (e.0, codes "row " ++ address_text model e.0 ++ codes " " ++ body_text model e.1 ++ newline)
 
-abbrev pub objective_line : ModelValue → Address × Body → Line
+abbrev pub objective_line : ModelValue → Address × Body → LeafLine
 objective_line model e = (e.0, body_text model e.1 ++ newline)
 
 unfoldable pub bridged_text : ModelValue → LeafModel → List ℕ

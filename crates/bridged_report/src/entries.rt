@@ -2,7 +2,7 @@
 ghost use Rattle.std.specs.Prelude.{◌≡◌, IfOk};
 ghost use Rattle.std.specs.FinMap as finite;
 
-use address_map::{AddressMap, Entries};
+use address_map::{AddressMap, EntriesLeft};
 use aff_core::Address;
 use lists::Memory;
 use std::alloc::Global;
@@ -23,7 +23,7 @@ pub(crate) fn rows(alloc: Global, map: &AddressMap) -> Result<Vec<Entry>, Memory
 }
 
 // Copies of the entries, for which there is room at once.
-fn copies(alloc: Global, count: usize, entries: Entries<'_, usize>) -> Result<Vec<Entry>, Memory>
+fn copies(alloc: Global, count: usize, entries: EntriesLeft<'_, usize>) -> Result<Vec<Entry>, Memory>
     ensures { IfOk result (λ copies. copies.items ≡ entries.entry) }
 {
     let mut copies = Vec::with_capacity(alloc, count)?;

@@ -9,8 +9,5 @@ mod lines;
 mod places;
 mod sets;
 
-pub use address_map::AddressMap;
 pub use held::bridged;
-pub use model_store::UserModel;
 pub use places::place_at;
-pub use solver_store::SolverModel;

@@ -30,7 +30,7 @@ use Rattle.user_model.specs.declared.objective.Objective.TheVariants as objectiv
 use Rattle.user_model.specs.declared.row.Row.{Row}
 
 -- the model has a fresh bridging, in which every number fits
-pub record IsBridged (setting : Setting) (model : ModelValue) : Type 0 where
+pub record HasFittingBridging (setting : Setting) (model : ModelValue) : Type 0 where
   pub bridging : FreshBridging setting model
   pub made : is_made bridging ≡ true
 
@@ -47,7 +47,7 @@ record BridgedWith (setting : Setting) (groups : List Group) (rows : List Row) :
 
 module _ (setting : Setting) (model : ModelValue)
     (bare : model.objective ≡ objective.Feasibility) where
-  parts_of : IsBridged setting model → BridgedWith setting model.groups model.rows
+  parts_of : HasFittingBridging setting model → BridgedWith setting model.groups model.rows
   parts_of b =
       let made = b.bridging.made in
       let rules = rules_by b.bridging.choice in
@@ -67,7 +67,7 @@ module _ (setting : Setting) (model : ModelValue)
             bare all);
       }
 
-  bridged_of : BridgedWith setting model.groups model.rows → IsBridged setting model
+  bridged_of : BridgedWith setting model.groups model.rows → HasFittingBridging setting model
   bridged_of p =
       let rules = rules_by p.choice in
       let all : MadeIn rules p.entries
@@ -115,7 +115,7 @@ module _ (setting : Setting) (groups : List Group) (r : Row) (rest : List Row)
 -- ---- models
 
 module _ (setting : Setting) (model : ModelValue) (bare : model.objective ≡ objective.Feasibility)
-    (b : IsBridged setting model) (r : Row) (rest : List Row) (whole : model.rows ≡ r ∷ rest)
+    (b : HasFittingBridging setting model) (r : Row) (rest : List Row) (whole : model.rows ≡ r ∷ rest)
     (new : ModelValue) (same : new.groups ≡ model.groups)
     (bare_too : new.objective ≡ objective.Feasibility) where
   parts_here : BridgedWith setting new.groups (r ∷ rest)
@@ -124,7 +124,7 @@ module _ (setting : Setting) (model : ModelValue) (bare : model.objective ≡ ob
       (subst (BridgedWith setting model.groups) whole (parts_of setting model bare b))
 
   -- without its first row
-  pub bridged_without : new.rows ≡ rest → IsBridged setting new
+  pub bridged_without : new.rows ≡ rest → HasFittingBridging setting new
   bridged_without rows =
       bridged_of setting new bare_too
       (subst (BridgedWith setting new.groups) (sym rows)
@@ -132,7 +132,7 @@ module _ (setting : Setting) (model : ModelValue) (bare : model.objective ≡ ob
 
   -- and with it again, last
   pub bridged_again : (n : ℕ) → r.id ≤ n → IsOfVariables r.func
-      → new.rows ≡ rest ++ record r { id = n } ∷ [] → IsBridged setting new
+      → new.rows ≡ rest ++ record r { id = n } ∷ [] → HasFittingBridging setting new
   bridged_again n low placed rows =
       let later : r.id + (n - r.id) ≡ n = omega (arith, low) in
       bridged_of setting new bare_too
@@ -143,7 +143,7 @@ module _ (setting : Setting) (model : ModelValue) (bare : model.objective ≡ ob
 -- ---- never refused
 
 module _ (setting : Setting) (costly : IsCostly (graph_of setting)) (lawful : AreLawful setting)
-    (model : ModelValue) (b : IsBridged setting model) where
+    (model : ModelValue) (b : HasFittingBridging setting model) where
   pub never_unsupported : IsValid model → (kind : Kind) → IsUnsupported setting model kind → ⊥
   never_unsupported valid = never_both setting costly lawful model valid b.bridging
 

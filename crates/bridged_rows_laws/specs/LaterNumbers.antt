@@ -41,21 +41,21 @@ kept_all f P same (x ∷ xs) h =
 
 -- ---- functions of variables
 
-abbrev pub IsVariable : Address → Type 0
-IsVariable at = (n : ℕ) × (variable_address n ≡ at)
+abbrev pub IsVariableAddress : Address → Type 0
+IsVariableAddress at = (n : ℕ) × (variable_address n ≡ at)
 
 abbrev pub IsTerm : Address × Rational → Type 0
-IsTerm t = IsVariable t.0
+IsTerm t = IsVariableAddress t.0
 
-abbrev pub HasVariables : Function → Type 0
-HasVariables f = All IsTerm (terms_of f)
+abbrev pub HasVariableTerms : Function → Type 0
+HasVariableTerms f = All IsTerm (terms_of f)
 
 -- each component and each term is of a variable
 abbrev pub IsOfVariables : UserFunc → Type 0
-IsOfVariables (Plain var) = IsVariable var
-IsOfVariables (Affine f) = HasVariables f
-IsOfVariables (PlainVec vars) = All IsVariable vars
-IsOfVariables (AffineVec fs) = All {X = Function} HasVariables fs
+IsOfVariables (Plain var) = IsVariableAddress var
+IsOfVariables (Affine f) = HasVariableTerms f
+IsOfVariables (PlainVec vars) = All IsVariableAddress vars
+IsOfVariables (AffineVec fs) = All {X = Function} HasVariableTerms fs
 
 -- ---- later numbers
 
@@ -91,10 +91,10 @@ module _ (k : ℕ) where
 
   -- ---- functions stay
 
-  address_stays : (at : Address) → IsVariable at → σ at ≡ at
+  address_stays : (at : Address) → IsVariableAddress at → σ at ≡ at
   address_stays at h = subst (λ a. σ a ≡ a) h.1 refl
 
-  affine_stays : (f : Function) → HasVariables f → renamed σ f ≡ f
+  affine_stays : (f : Function) → HasVariableTerms f → renamed σ f ≡ f
   affine_stays f h =
       sym (is_renamed σ (renumbers (later k) (later_rises k)).order f f
       (sym (kept_all (λ t. (σ t.0, t.1)) IsTerm
@@ -105,9 +105,9 @@ module _ (k : ℕ) where
   body_stays (Plain var) set h = ap (λ v. body.Plain v set) (address_stays var h)
   body_stays (Affine f) set h = ap (λ g. body.Affine g set) (affine_stays f h)
   body_stays (PlainVec vars) set h =
-      ap (λ vs. body.PlainVec vs set) (kept_all σ IsVariable address_stays vars h)
+      ap (λ vs. body.PlainVec vs set) (kept_all σ IsVariableAddress address_stays vars h)
   body_stays (AffineVec fs) set h =
-      ap (λ gs. body.AffineVec gs set) (kept_all (renamed σ) HasVariables affine_stays fs h)
+      ap (λ gs. body.AffineVec gs set) (kept_all (renamed σ) HasVariableTerms affine_stays fs h)
 
   row_moves : (r : Row) → IsOfVariables r.func
       → renamed_item σ (row_item r) ≡ row_item (later_row k r)

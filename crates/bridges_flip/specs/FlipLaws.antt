@@ -31,19 +31,19 @@ use Rattle.item_core.specs.Item.{functions_of, set_of}
 use Rattle.item_core.specs.Valid.{FitsItsFunction, IsValidItem, NamesNothingBelow, below}
 use Rattle.bridge_face.specs.BackOf.{back_of}
 use Rattle.bridge_face.specs.FamilyLaws.{back_is, sums_in_images, sums_of_duals}
-use Rattle.bridge_face.specs.Law.{LeadsTo, Miss, growth}
-use Rattle.bridge_face.specs.OneRowLaws.{IsRow, OneRow, RowRule, UnsummedRule, row_held, unsummed}
+use Rattle.bridge_face.specs.Law.{LeadsToKind, Miss, growth}
+use Rattle.bridge_face.specs.OneRowLaws.{IsRowBody, OneRow, RowRule, UnsummedRule, row_held, unsummed}
 
 -- two rows of which one is the other's flip
 pub record FlipsTo (b child : Body) : Type 0 where
-  pub source : IsRow b
-  pub made : IsRow child
+  pub source : IsRowBody b
+  pub made : IsRowBody child
   pub shaped : FitsItsFunction child
   pub functions : functions_of child ≡ map negated (functions_of b)
   pub set : set_of child ≡ mirrored (set_of b)
   pub no_norm_cone : is_norm_cone (set_of b) ≡ false
 
-pub flips_to : {b child : Body} → IsRow b → IsRow child → FitsItsFunction child
+pub flips_to : {b child : Body} → IsRowBody b → IsRowBody child → FitsItsFunction child
     → functions_of child ≡ map negated (functions_of b) → set_of child ≡ mirrored (set_of b)
     → is_norm_cone (set_of b) ≡ false → FlipsTo b child
 flips_to source made shaped functions set no_norm_cone = record {
@@ -61,7 +61,7 @@ pub record IsFlip (edge : Edge) (item : Item) (child : Body) : Type 0 where
   pub flips : FlipsTo item.body child
   pub back : (y : List Rational) → back_of edge item (y ∷ []) ≡ numbers.negated y
   pub no_growth : growth (family_of edge) ≡ 1
-  pub leads : LeadsTo edge child
+  pub leads : LeadsToKind edge child
 
 -- ---- lists of negated functions
 

@@ -40,11 +40,11 @@ use Rattle.bridge_face.specs.Images.{child_at, group_by}
 use Rattle.rational_laws.specs.Dot as numbers
 
 -- a group of variables at most 0; the edge makes a group of its kind from it
-abbrev pub Sourced : Edge → Body → Type 0
-Sourced = GroupSourced Nonpositives
+abbrev pub NonposVarSourced : Edge → Body → Type 0
+NonposVarSourced = GroupSourced Nonpositives
 
 sourced : (edge : Edge) → family_of edge ≡ NonposVar → {b : Body} → OfKind (source_of edge) b
-    → Sourced edge b
+    → NonposVarSourced edge b
 unfolding edge_entry kind_of_body
 sourced E44 own (group_nonpositives {vars} {n}) =
     record { count = n; set = refl; group = refl; leads = λ n vars. refl }
@@ -116,7 +116,7 @@ image_made item count vars exprs group count_is vars_are exprs_are group_is =
     (sym (negatives_are (inner item (size item))))
 
 module _ (edge : Edge) (own : family_of edge ≡ NonposVar) where
-  module _ (item : Item) (valid : IsValidItem item) (is : Sourced edge item.body) where
+  module _ (item : Item) (valid : IsValidItem item) (is : NonposVarSourced edge item.body) where
     abbrev d : ℕ
     d = size item
 
@@ -158,7 +158,7 @@ module _ (edge : Edge) (own : family_of edge ≡ NonposVar) where
       leads = is.leads d ss;
     }
 
-pub rule : IsGroupRule NonposVar Sourced (λ edge. nonpos_var) 0
+pub rule : IsGroupRule NonposVar NonposVarSourced (λ edge. nonpos_var) 0
 unfolding image_by back_by
 rule = record {
   carry = λ item ys. [];

@@ -29,7 +29,7 @@ impl GroupRule for NonposVarRule {
 
     ghost family = { families.NonposVar };
 
-    ghost source = { laws.Sourced };
+    ghost source = { laws.NonposVarSourced };
 
     ghost made = { λ edge. images.nonpos_var };
 

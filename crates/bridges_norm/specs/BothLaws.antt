@@ -5,7 +5,7 @@ use Rattle.std.proofs.lemmas.List.Elements.{All-cons, All-head, All-nil, All-tai
 use Rattle.std.proofs.Common.{ap, ap₂, arith, subst, sym, ◌∙◌}
 use Rattle.std.proofs.lemmas.List.{length-drop, length-map, length-take-le, map-append, take-append-drop}
 use Rattle.rational_laws.specs.Field.{+ℚ-zero, +ℚ_comm, +ℚ_inner_comm, neg_ℚ-neg_ℚ, neg_ℚ-zero, same_from_difference, zero-*ℚ, -ℚ-itself}
-use Rattle.bridge_face.specs.DifferenceLaws.{Adds, Subtracts}
+use Rattle.bridge_face.specs.DifferenceLaws.{IsAdditive, Subtracts}
 use Rattle.aff_core.specs.Function.{Function}
 use Rattle.ratio_core.specs.Rational.{Rational, abs_ℚ, neg_ℚ, zero_ℚ, ◌*ℚ◌, ◌+ℚ◌, ◌-ℚ◌, ◌≤ℚ◌}
 use Rattle.rational_laws.specs.Order.{abs_ℚ-+ℚ, abs_ℚ-neg_ℚ, abs_ℚ_at_most, abs_ℚ_nonneg, ≤ℚ-+ℚ, ≤ℚ_from_nonneg, ≤ℚ_from_≡, ≤ℚ_refl}
@@ -46,7 +46,7 @@ more_sums = ring₅ _ (λ ρ. simp as_expression (by_ring ρ _ _ refl))
 both_sums : (s k d u e : Rational) → (s *ℚ k -ℚ d) +ℚ (u *ℚ k +ℚ e) ≡ (s +ℚ u) *ℚ k +ℚ (e -ℚ d)
 both_sums = ring₅ _ (λ ρ. simp as_expression (by_ring ρ _ _ refl))
 
-module _ (g : Function → Rational) (subtracts : Subtracts g) (adds : Adds g) (t : Function) where
+module _ (g : Function → Rational) (subtracts : Subtracts g) (adds : IsAdditive g) (t : Function) where
   dot_less : (p : List Rational) (fs : List Function) → length p ≡ length fs
       → dot p (map g (less_each t fs)) ≡ sum_ℚ p *ℚ g t -ℚ dot p (map g fs)
   dot_less [] fs e = sym (ap (λ q. q -ℚ zero_ℚ) (zero-*ℚ (g t)) ∙ -ℚ-itself zero_ℚ)

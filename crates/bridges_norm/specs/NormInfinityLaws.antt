@@ -5,19 +5,19 @@ use Rattle.std.proofs.Common.{ap, ap₂, arith, subst, sym, ◌∙◌}
 use Rattle.std.proofs.lemmas.List.{length-append, length-map, map-append}
 use Rattle.bridge_face.specs.BackOf.{AcrossFits, BackFitsBy, across, back_by, back_of}
 use Rattle.aff_core.specs.Address.{Address, child_of}
-use Rattle.bridge_face.specs.DifferenceLaws.{Adds, Subtracts, coefficient-difference, constant-difference, evaluated-difference, evaluated-sum, less, missed-difference, missed-sum, unnamed-difference, unnamed-sum}
+use Rattle.bridge_face.specs.DifferenceLaws.{IsAdditive, Subtracts, coefficient-difference, constant-difference, evaluated-difference, evaluated-sum, less, missed-difference, missed-sum, unnamed-difference, unnamed-sum}
 use Rattle.item_core.specs.declared.item.Body.TheVariants.{AffineVec}
 use Rattle.item_core.specs.declared.item.Body.{Body}
 use Rattle.set_core.specs.Vectors.{DominatesEach, DominatesSum}
 use Rattle.item_core.specs.declared.edge.Edge.TheVariants.{E41}
 use Rattle.item_core.specs.declared.edge.Edge.{Edge}
-use Rattle.bridge_face.specs.Law.{LeadsTo, Miss, growth}
+use Rattle.bridge_face.specs.Law.{LeadsToKind, Miss, growth}
 use Rattle.bridge_face.specs.ImageOf.{FitsBy, image_by}
 use Rattle.item_core.specs.Valid.{IsValidItem, NamesNothingBelow}
 use Rattle.ratio_core.specs.Folds.{FoldFits, sum_from}
 use Rattle.aff_core.specs.Function.{Function, coefficient, evaluated, negated}
 use Rattle.dual_laws.specs.Held.{Holds, IsHeld, adjoint_of, gap_of}
-use Rattle.bridge_face.specs.OneRowLaws.{IsRow, IsRowRule, OneRow, RowRule, row_held}
+use Rattle.bridge_face.specs.OneRowLaws.{IsRowBody, IsRowRule, OneRow, RowRule, row_held}
 use Rattle.item_core.specs.declared.item.Item.{Item}
 use Rattle.bridge_face.specs.FamilyLaws.{Sourced, back_is, of_another}
 use Rattle.set_core.specs.declared.set.Set.TheVariants.{Nonnegatives, NormInfinityCone}
@@ -59,16 +59,16 @@ made b =
     (Nonnegatives (length (others_of b) + length (others_of b)))
 
 -- what must fit for it
-abbrev pub BothFit : Function → List Function → Type 0
-BothFit first others =
+abbrev pub DifferencesAndSumsFit : Function → List Function → Type 0
+DifferencesAndSumsFit first others =
     All (λ x. PlusFits first (negated x)) others × All (λ x. PlusFits first x) others
 
 -- so it is of the row's functions
 pub fits_of : (b : Body) (s : Set) (fs others : List Function) (first : Function)
     → b ≡ AffineVec fs s → first ≡ first_in fs → others ≡ rest_of fs
-    → BothFit first others ≡ BothFit (function_of_body b) (others_of b)
+    → DifferencesAndSumsFit first others ≡ DifferencesAndSumsFit (function_of_body b) (others_of b)
 fits_of b s fs others first b_is first_is others_is =
-    ap₂ BothFit (first_is ∙ ap function_of_body (sym b_is)) (others_is ∙ ap others_of (sym b_is))
+    ap₂ DifferencesAndSumsFit (first_is ∙ ap function_of_body (sym b_is)) (others_is ∙ ap others_of (sym b_is))
 
 pub made_of : (b : Body) (s : Set) (fs others both : List Function) (first : Function) (n : ℕ)
     → b ≡ AffineVec fs s → first ≡ first_in fs → others ≡ rest_of fs
@@ -82,7 +82,7 @@ made_of b s fs others both first n b_is first_is others_is both_is n_is =
     (n_is ∙ ap length there)
 
 abbrev pub MadeFits : Body → Type 0
-MadeFits b = BothFit (function_of_body b) (others_of b)
+MadeFits b = DifferencesAndSumsFit (function_of_body b) (others_of b)
 
 -- what is carried back of the dual, and what must fit for it
 abbrev pub carried : Body → List Rational → List Rational
@@ -93,7 +93,7 @@ CarriedFits b y = FoldFits zero_ℚ y × AcrossFits (length (functions_of b) - 1
 
 -- what is read of it
 record Read (b : Body) : Type 0 where
-  row : IsRow b
+  row : IsRowBody b
   count : ℕ
   set : set_of b ≡ NormInfinityCone count
 
@@ -123,7 +123,7 @@ both_long b =
 
 module _ (edge : Edge) (own : family_of edge ≡ NormInfinity) where
   module _ (item : Item) (valid : IsValidItem item) (r : Read item.body)
-      (leads : LeadsTo edge (made item.body)) where
+      (leads : LeadsToKind edge (made item.body)) where
     abbrev fs : List Function
     fs = functions_of item.body
 
@@ -200,7 +200,7 @@ module _ (edge : Edge) (own : family_of edge ≡ NormInfinity) where
           ≡ held_of w (t ∷ xs) (NormInfinityCone r.count)
       back_held = ap (row_held item.body) back_parts ∙ cone.is w
 
-      products : (g : Function → Rational) → Subtracts g → Adds g
+      products : (g : Function → Rational) → Subtracts g → IsAdditive g
           → dot w (map g (t ∷ xs)) ≡ dot y (map g both)
       products g s a =
           sym (ap (λ z. dot z (map g both)) (sym two.whole)

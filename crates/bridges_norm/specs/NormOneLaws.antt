@@ -6,19 +6,19 @@ use Rattle.std.proofs.lemmas.List.{length-append, length-map, length-replicate, 
 use Rattle.rational_laws.specs.Field.{*ℚ--ℚ, +ℚ-zero, zero-+ℚ}
 use Rattle.bridge_face.specs.BackOf.{AcrossFits, BackFits, BackFitsBy, across, back_by, back_of, head_of, size, tail_of}
 use Rattle.aff_core.specs.Address.{Address, child_of}
-use Rattle.bridge_face.specs.DifferenceLaws.{Adds, Subtracts, all_paired, coefficient-difference, constant-difference, dot-differences, evaluated-difference, evaluated-sum, length-differences, length-sums, less, missed-difference, missed-sum, numbers-differences, numbers-sums, unnamed-difference, unnamed-sum}
+use Rattle.bridge_face.specs.DifferenceLaws.{IsAdditive, Subtracts, all_paired, coefficient-difference, constant-difference, dot-differences, evaluated-difference, evaluated-sum, length-differences, length-sums, less, missed-difference, missed-sum, numbers-differences, numbers-sums, unnamed-difference, unnamed-sum}
 use Rattle.item_core.specs.declared.item.Body.TheVariants.{AffineVec, Group}
 use Rattle.item_core.specs.declared.item.Body.{Body}
 use Rattle.bridge_face.specs.ImageOf.{DifferencesFit, EachSumFits, FitsBy, ImageFits, differences, image_by, image_of, inner, inner_functions, negations, norm_one, sums}
 use Rattle.set_core.specs.Vectors.{DominatesSum}
 use Rattle.item_core.specs.declared.edge.Edge.TheVariants.{E42}
 use Rattle.item_core.specs.declared.edge.Edge.{Edge}
-use Rattle.bridge_face.specs.Law.{IsLawful, LeadsTo, Miss, growth, IsItemFor}
+use Rattle.bridge_face.specs.Law.{IsLawful, LeadsToKind, Miss, growth, IsItemFor}
 use Rattle.item_core.specs.Valid.{IsValidItem, NamesNothingBelow}
 use Rattle.aff_core.specs.Function.{Function, coefficient, evaluated, variable}
 use Rattle.bridge_face.specs.GroupAndRowLaws.{GroupAndRow, group_and_row_law, left_over, group_and_row_made}
 use Rattle.dual_laws.specs.Held.{Holds, IsHeld, adjoint_of, gap_of}
-use Rattle.bridge_face.specs.OneRowLaws.{IsRow, row_held}
+use Rattle.bridge_face.specs.OneRowLaws.{IsRowBody, row_held}
 use Rattle.item_core.specs.declared.item.Item.{Item}
 use Rattle.bridge_face.specs.FamilyLaws.{Rule, back_is, dual_sizes, first_size, image_is, kept_by, lawful_by, length-tail, of_another, source_is}
 use Rattle.bridge_face.specs.BackOf as backs
@@ -50,7 +50,7 @@ use Rattle.rational_laws.specs.Order.{≤ℚ_from_nonneg, ≤ℚ_from_≡, ≤�
 use Rattle.item_core.specs.declared.image.Expression.{Expression}
 use Rattle.item_core.specs.declared.image.Image.{Image}
 use Rattle.set_core.specs.declared.set.Set.{Set}
-use Rattle.bridge_face.specs.State.{TakesDuals}
+use Rattle.bridge_face.specs.BridgeState.{TakesDuals}
 use Rattle.bridge_face.specs.GroupAndRowLaws as images
 use Rattle.rational_laws.specs.Dot as numbers
 
@@ -78,17 +78,17 @@ bounded_row t xs vs n =
     AffineVec (fold difference t (variables vs)
     ∷ (differences (variables vs) xs ++ sums (variables vs) xs)) (Nonnegatives (n + n + 1))
 
-abbrev pub BoundsFit : Function → List Function → List Function → Type 0
-BoundsFit t xs ss = DifferencesFit t ss × EachSumFits ss (negations xs) × EachSumFits ss xs
+abbrev pub NormOneRowsFit : Function → List Function → List Function → Type 0
+NormOneRowsFit t xs ss = DifferencesFit t ss × EachSumFits ss (negations xs) × EachSumFits ss xs
 
 -- so they are of the row's functions
 pub fits_of : (b : Body) (s : Set) (fs others : List Function) (first : Function)
     (vs : List Address)
     → b ≡ AffineVec fs s → first ≡ first_in fs → others ≡ rest_of fs
-    → BoundsFit first others (variables vs)
-    ≡ BoundsFit (function_of_body b) (others_of b) (variables vs)
+    → NormOneRowsFit first others (variables vs)
+    ≡ NormOneRowsFit (function_of_body b) (others_of b) (variables vs)
 fits_of b s fs others first vs b_is first_is others_is =
-    ap₂ (λ f gs. BoundsFit f gs (variables vs)) (first_is ∙ ap function_of_body (sym b_is))
+    ap₂ (λ f gs. NormOneRowsFit f gs (variables vs)) (first_is ∙ ap function_of_body (sym b_is))
     (others_is ∙ ap others_of (sym b_is))
 
 pub row_of : (b : Body) (s : Set) (fs others less both : List Function) (first rest : Function)
@@ -106,16 +106,16 @@ row_of b s fs others less both first rest vs n b_is first_is others_is rest_is l
     (others_is ∙ ap others_of (sym b_is))
 
 -- what is read of it, and what the edge leads to
-pub record Sourced (edge : Edge) (b : Body) : Type 0 where
+pub record NormOneSourced (edge : Edge) (b : Body) : Type 0 where
   pub cone : InNormOne b
-  pub row : IsRow b
+  pub row : IsRowBody b
   pub count : ℕ
   pub set : set_of b ≡ NormOneCone count
-  pub leads : (n : ℕ) (fs : List Function) → LeadsTo edge (AffineVec fs (Nonnegatives n))
-  pub group_leads : (n : ℕ) (vars : List Address) → LeadsTo edge (Group (Reals n) vars)
+  pub leads : (n : ℕ) (fs : List Function) → LeadsToKind edge (AffineVec fs (Nonnegatives n))
+  pub group_leads : (n : ℕ) (vars : List Address) → LeadsToKind edge (Group (Reals n) vars)
 
 sourced : (edge : Edge) → family_of edge ≡ NormOne → {b : Body} → OfKind (source_of edge) b
-    → Sourced edge b
+    → NormOneSourced edge b
 unfolding edge_entry kind_of_body
 sourced E42 own (vaffine_norm_one_cone {n}) = record {
   cone = in_norm_one;
@@ -127,7 +127,7 @@ sourced E42 own (vaffine_norm_one_cone {n}) = record {
 }
 sourced _ own k = of_another own refl
 
-pub rule : Rule NormOne Sourced (λ edge. norm_one)
+pub rule : Rule NormOne NormOneSourced (λ edge. norm_one)
     (λ item ys. head_of (backs.first_of ys) ∷ across (size item - 1) (tail_of (backs.first_of ys)))
 unfolding image_by back_by
 rule = record { image = λ edge item. refl; back = λ item ys. refl; sourced = sourced }
@@ -155,7 +155,7 @@ group_and_row_of item group exprs row = images.group_and_row item group exprs ro
 module _ (edge : Edge) (own : family_of edge ≡ NormOne) where
   pub image_fits : (item : Item)
       → ImageFits edge item
-      ≡ BoundsFit (function_of_body item.body) (others_of item.body) (bounds item)
+      ≡ NormOneRowsFit (function_of_body item.body) (others_of item.body) (bounds item)
   unfolding FitsBy
   image_fits item = ap (λ f. FitsBy f item) own
 
@@ -164,7 +164,7 @@ module _ (edge : Edge) (own : family_of edge ≡ NormOne) where
   unfolding BackFitsBy
   back_fits item y = ap (λ f. BackFitsBy f item (y ∷ [])) own
 
-  module _ (item : Item) (valid : IsValidItem item) (r : Sourced edge item.body) where
+  module _ (item : Item) (valid : IsValidItem item) (r : NormOneSourced edge item.body) where
     abbrev fs : List Function
     fs = functions_of item.body
 
@@ -285,7 +285,7 @@ module _ (edge : Edge) (own : family_of edge ≡ NormOne) where
           (sym (dot-replicate v a) ∙ ap (λ m. dot v (replicate m a)) e ∙ dot_comm v (replicate n a))
           ∙ sym (minus-dot (plus p q) (replicate n a) v (plus_long ∙ sym (length-replicate n a)))
 
-      products : (g : Function → Rational) → Subtracts g → Adds g
+      products : (g : Function → Rational) → Subtracts g → IsAdditive g
           → dot y (map g rows) ≡ dot w (map g (t ∷ xs)) +ℚ dot z (map g ss)
       products g s d =
           let gs = map g ss in
@@ -304,7 +304,7 @@ module _ (edge : Edge) (own : family_of edge ≡ NormOne) where
           (left_product gs (length-map ss g ∙ s_long))
 
       -- where the bounds have no numbers
-      products_bare : (g : Function → Rational) → Subtracts g → Adds g
+      products_bare : (g : Function → Rational) → Subtracts g → IsAdditive g
           → All (λ u. u ≡ zero_ℚ) (map g ss)
           → dot w (map g (t ∷ xs)) ≡ dot y (map g rows)
       products_bare g s d none =
@@ -466,10 +466,10 @@ module _ (edge : Edge) (own : family_of edge ≡ NormOne) where
   -- and so it fits
   pub fits_made : (item : Item) → IsItemFor edge item → (count : ℕ) (vars : List Address)
       → count ≡ size item - 1 → vars ≡ inner item count
-      → BoundsFit (function_of_body item.body) (others_of item.body) (variables vars)
+      → NormOneRowsFit (function_of_body item.body) (others_of item.body) (variables vars)
       ≡ ImageFits edge item
   fits_made item suits count vars count_is vars_are =
-      ap (λ vs. BoundsFit (function_of_body item.body) (others_of item.body) (variables vs))
+      ap (λ vs. NormOneRowsFit (function_of_body item.body) (others_of item.body) (variables vs))
       (vars_are ∙ ap (inner item) (count_is
       ∙ (cone item suits.valid (source_is rule edge own item suits)).counted))
       ∙ sym (image_fits item)

@@ -12,7 +12,7 @@ ghost use Rattle.bridge_face.specs.ComponentLaws.{variables};
 ghost use Rattle.bridge_face.specs.ImageOf.{DifferencesFit, EachSumFits, differences, negations, sums};
 ghost use Rattle.bridge_face.specs.Images.{difference, function_of_body};
 ghost use Rattle.bridges_norm.specs.BothLaws.{others_of};
-ghost use Rattle.bridges_norm.specs.NormOneLaws.{BoundsFit, InNormOne, bounded_row};
+ghost use Rattle.bridges_norm.specs.NormOneLaws.{InNormOne, NormOneRowsFit, bounded_row};
 
 use crate::differences::less_function;
 use crate::duals::across_behind;
@@ -76,7 +76,7 @@ fn bounded(alloc: Global, body: &Body, vars: &[Address], count: u16) -> Result<B
     requires count { count ≡ length vars.now }
     requires few { count ≤ 32767 }
     ensures { ExactWhere result
-        (BoundsFit (function_of_body body.now) (others_of body.now) (variables vars.now))
+        (NormOneRowsFit (function_of_body body.now) (others_of body.now) (variables vars.now))
         (λ row. row ≡ bounded_row (function_of_body body.now) (others_of body.now) vars.now count) }
 {
     let Body::AffineVec { func, .. } = body else {

@@ -14,13 +14,14 @@ use Rattle.bridge_face.specs.ComponentLaws.{variables}
 use Rattle.bridge_face.specs.FamilyLaws.{back_is, sums_in_images, sums_of_duals}
 use Rattle.bridge_face.specs.Images.{affine, first_in}
 use Rattle.bridge_face.specs.Law.{growth}
-use Rattle.bridge_face.specs.OneRowLaws.{IsRow, RowRule, UnsummedRule, row, same_dual, unsummed}
+use Rattle.bridge_face.specs.OneRowLaws.{IsRowBody, RowRule, UnsummedRule, row, same_dual, unsummed}
 use Rattle.bridge_face.specs.SameRowLaws.{same_is_one_row}
 
 -- a plain row
-pub data IsPlain : Body → Type 0 where
-  number : {var : Address} {set : Set} → is_scalar set ≡ true → IsPlain (Plain var set)
-  vector : {vars : List Address} {set : Set} → is_scalar set ≡ false → IsPlain (PlainVec vars set)
+pub data IsPlainRow : Body → Type 0 where
+  number : {var : Address} {set : Set} → is_scalar set ≡ true → IsPlainRow (Plain var set)
+  vector : {vars : List Address} {set : Set} → is_scalar set ≡ false
+      → IsPlainRow (PlainVec vars set)
 
 -- what the edges make of it
 abbrev pub made : Body → Body
@@ -28,13 +29,13 @@ made b = affine (functions_of b) (set_of b)
 
 -- the row and what is made of it have the same functions and the same set
 record StaysSame (b child : Body) : Type 0 where
-  source : IsRow b
-  row : IsRow child
+  source : IsRowBody b
+  row : IsRowBody child
   shaped : FitsItsFunction child
   functions : functions_of child ≡ functions_of b
   set : set_of child ≡ set_of b
 
-stays_same : {b child : Body} → IsRow b → IsRow child → FitsItsFunction child
+stays_same : {b child : Body} → IsRowBody b → IsRowBody child → FitsItsFunction child
     → functions_of child ≡ functions_of b → set_of child ≡ set_of b → StaysSame b child
 stays_same source row shaped functions set = record {
   source = source;
@@ -44,7 +45,7 @@ stays_same source row shaped functions set = record {
   set = set;
 }
 
-stays : {b : Body} → IsPlain b → StaysSame b (made b)
+stays : {b : Body} → IsPlainRow b → StaysSame b (made b)
 stays (number {var} {set} s) =
     subst (StaysSame (Plain var set))
     (sym (ap (λ c. cond c (Affine (variable var) set) (AffineVec (variable var ∷ []) set)) s))
@@ -58,8 +59,8 @@ stays (vector {vars} {set} s) =
 -- ---- the law
 
 -- a family that makes affine rows of plain ones
-pub functionize_rule : {f : Family} → RowRule f IsPlain made same_dual → growth f ≡ 1
-    → sums_in_images f ≡ false → sums_of_duals f ≡ false → UnsummedRule f IsPlain made same_dual
+pub functionize_rule : {f : Family} → RowRule f IsPlainRow made same_dual → growth f ≡ 1
+    → sums_in_images f ≡ false → sums_of_duals f ≡ false → UnsummedRule f IsPlainRow made same_dual
 functionize_rule rule no_growth no_sum no_dual_sum =
     unsummed rule no_sum no_dual_sum (λ edge own item valid source.
     let same = stays source.source in

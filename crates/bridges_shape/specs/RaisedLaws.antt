@@ -17,10 +17,10 @@ use Rattle.set_core.specs.declared.set.Set.TheVariants.{LessThan, GreaterThan, E
 use Rattle.bridge_face.specs.Images.{raised}
 
 -- a set with one number, and the cone that has the differences from it
-pub data HasNumber : Set → Rational → Set → Type 0 where
-  at_most : {a : Rational} → HasNumber (LessThan a) a (Nonpositives 1)
-  at_least : {a : Rational} → HasNumber (GreaterThan a) a (Nonnegatives 1)
-  equal : {a : Rational} → HasNumber (EqualTo a) a (Zeros 1)
+pub data HasDifferenceCone : Set → Rational → Set → Type 0 where
+  at_most : {a : Rational} → HasDifferenceCone (LessThan a) a (Nonpositives 1)
+  at_least : {a : Rational} → HasDifferenceCone (GreaterThan a) a (Nonnegatives 1)
+  equal : {a : Rational} → HasDifferenceCone (EqualTo a) a (Zeros 1)
 
 -- ---- numbers
 
@@ -42,7 +42,7 @@ lowered = ring₄ _ (λ ρ. simp as_expression (by_ring ρ _ _ refl))
 -- ---- membership
 
 -- where the difference is in the cone the number is in the set
-pub in_set : {S C : Set} {a : Rational} → HasNumber S a C → (one p : Rational)
+pub in_set : {S C : Set} {a : Rational} → HasDifferenceCone S a C → (one p : Rational)
     → In (multiplied one C) ((p -ℚ one *ℚ a) ∷ []) → In (multiplied one S) (p ∷ [])
 in_set (at_most {a}) one p h =
     below_by p (one *ℚ a) (All-head (λ q. q ≤ℚ zero_ℚ) (p -ℚ one *ℚ a) [] h)
@@ -50,40 +50,42 @@ in_set (at_least {a}) one p h =
     above_by p (one *ℚ a) (All-head (λ q. zero_ℚ ≤ℚ q) (p -ℚ one *ℚ a) [] h)
 in_set (equal {a}) one p h = equal_by p (one *ℚ a) (All-head (λ q. q ≡ zero_ℚ) (p -ℚ one *ℚ a) [] h)
 
-pub in_dual : {S C : Set} {a : Rational} → HasNumber S a C → (q : Rational) → Dual C (q ∷ [])
+pub in_dual : {S C : Set} {a : Rational} → HasDifferenceCone S a C → (q : Rational)
+    → Dual C (q ∷ [])
     → Dual S (q ∷ [])
 in_dual at_most q h = All-head (λ r. r ≤ℚ zero_ℚ) q [] h
 in_dual at_least q h = All-head (λ r. zero_ℚ ≤ℚ r) q [] h
 in_dual equal q h = tt
 
-pub low_cone : {S C : Set} {a : Rational} → HasNumber S a C → (w : List Rational)
+pub low_cone : {S C : Set} {a : Rational} → HasDifferenceCone S a C → (w : List Rational)
     → low_of C w ≡ zero_ℚ
 low_cone at_most w = refl
 low_cone at_least w = refl
 low_cone equal w = refl
 
-pub low_first : {S C : Set} {a : Rational} → HasNumber S a C → (q : Rational) (w : List Rational)
+pub low_first : {S C : Set} {a : Rational} → HasDifferenceCone S a C
+    → (q : Rational) (w : List Rational)
     → low_of S (q ∷ w) ≡ a *ℚ q
 low_first at_most q w = refl
 low_first at_least q w = refl
 low_first equal q w = refl
 
-pub low_none : {S C : Set} {a : Rational} → HasNumber S a C → low_of S [] ≡ a *ℚ zero_ℚ
+pub low_none : {S C : Set} {a : Rational} → HasDifferenceCone S a C → low_of S [] ≡ a *ℚ zero_ℚ
 low_none at_most = refl
 low_none at_least = refl
 low_none equal = refl
 
-pub cone_of_one : {S C : Set} {a : Rational} → HasNumber S a C → IsSetOf 1 C
+pub cone_of_one : {S C : Set} {a : Rational} → HasDifferenceCone S a C → IsSetOf 1 C
 cone_of_one at_most = record { dimension = refl; enough = omega arith; uncrossed = refl }
 cone_of_one at_least = record { dimension = refl; enough = omega arith; uncrossed = refl }
 cone_of_one equal = record { dimension = refl; enough = omega arith; uncrossed = refl }
 
-pub set_of_one : {S C : Set} {a : Rational} → HasNumber S a C → IsSetOf 1 S
+pub set_of_one : {S C : Set} {a : Rational} → HasDifferenceCone S a C → IsSetOf 1 S
 set_of_one at_most = record { dimension = refl; enough = omega arith; uncrossed = refl }
 set_of_one at_least = record { dimension = refl; enough = omega arith; uncrossed = refl }
 set_of_one equal = record { dimension = refl; enough = omega arith; uncrossed = refl }
 
-pub cone_of_vectors : {S C : Set} {a : Rational} → HasNumber S a C → is_scalar C ≡ false
+pub cone_of_vectors : {S C : Set} {a : Rational} → HasDifferenceCone S a C → is_scalar C ≡ false
 cone_of_vectors at_most = refl
 cone_of_vectors at_least = refl
 cone_of_vectors equal = refl

@@ -33,23 +33,23 @@ use Rattle.bridge_face.specs.ComponentLaws.{each_at}
 use Rattle.bridge_face.specs.FamilyLaws.{Rule, back_is, lawful_by, of_another}
 use Rattle.bridge_face.specs.ImageOf.{image_by}
 use Rattle.bridge_face.specs.Images.{child_at, children_from, component_of, each_component, rows_at}
-use Rattle.bridge_face.specs.Law.{IsLawful, LeadsTo, Miss, growth}
-use Rattle.bridge_face.specs.OneRowLaws.{IsRow, row, row_held}
+use Rattle.bridge_face.specs.Law.{IsLawful, LeadsToKind, Miss, growth}
+use Rattle.bridge_face.specs.OneRowLaws.{IsRowBody, row, row_held}
 use Rattle.bridge_face.specs.RowsLaws.{IsRowOf, MadeOfRows, length-children_from, rows_held, rows_law}
 use Rattle.bridge_face.specs.Sources.{OfKind, vaffine_nonnegatives, vaffine_nonpositives, vaffine_zeros, vplain_nonnegatives, vplain_nonpositives, vplain_zeros}
 
 -- a cone, and the set of numbers that a component may be
-pub data HasParts : Set → Set → Type 0 where
-  of_zeros : {n : ℕ} → HasParts (Zeros n) (EqualTo zero_ℚ)
-  of_nonnegatives : {n : ℕ} → HasParts (Nonnegatives n) (GreaterThan zero_ℚ)
-  of_nonpositives : {n : ℕ} → HasParts (Nonpositives n) (LessThan zero_ℚ)
+pub data HasComponentSet : Set → Set → Type 0 where
+  of_zeros : {n : ℕ} → HasComponentSet (Zeros n) (EqualTo zero_ℚ)
+  of_nonnegatives : {n : ℕ} → HasComponentSet (Nonnegatives n) (GreaterThan zero_ℚ)
+  of_nonpositives : {n : ℕ} → HasComponentSet (Nonpositives n) (LessThan zero_ℚ)
 
 -- rows of one function each, in the same set of numbers
-pub data AreParts (c : Set) : List Function → List Body → Type 0 where
-  no_parts : AreParts c [] []
-  part : {f : Function} {b : Body} {fs : List Function} {bodies : List Body} → IsRow b
-      → functions_of b ≡ f ∷ [] → set_of b ≡ c → AreParts c fs bodies
-      → AreParts c (f ∷ fs) (b ∷ bodies)
+pub data AreComponentRows (c : Set) : List Function → List Body → Type 0 where
+  no_parts : AreComponentRows c [] []
+  part : {f : Function} {b : Body} {fs : List Function} {bodies : List Body} → IsRowBody b
+      → functions_of b ≡ f ∷ [] → set_of b ≡ c → AreComponentRows c fs bodies
+      → AreComponentRows c (f ∷ fs) (b ∷ bodies)
 
 abbrev held_as : List Rational → List Function → Set → DualRow
 held_as w fs set = record { duals = w; functions = fs; set = set }
@@ -61,7 +61,7 @@ part_held b f w fs set = λ i. record { duals = w; functions = fs i; set = set i
 
 -- ---- values
 
-value_in : {S c : Set} → HasParts S c → (one q : Rational) (v : List Rational)
+value_in : {S c : Set} → HasComponentSet S c → (one q : Rational) (v : List Rational)
     → In (multiplied one c) (q ∷ []) → In (multiplied one S) v → In (multiplied one S) (q ∷ v)
 value_in of_zeros one q v h rest = All-cons (λ r. r ≡ zero_ℚ) q v (h ∙ *ℚ-zero one) rest
 value_in of_nonnegatives one q v h rest =
@@ -69,13 +69,13 @@ value_in of_nonnegatives one q v h rest =
 value_in of_nonpositives one q v h rest =
     All-cons (λ r. r ≤ℚ zero_ℚ) q v (subst (λ z. q ≤ℚ z) (*ℚ-zero one) h) rest
 
-none_in : {S c : Set} → HasParts S c → (one : Rational) → In (multiplied one S) []
+none_in : {S c : Set} → HasComponentSet S c → (one : Rational) → In (multiplied one S) []
 none_in of_zeros one = All-nil (λ r. r ≡ zero_ℚ)
 none_in of_nonnegatives one = All-nil (λ r. zero_ℚ ≤ℚ r)
 none_in of_nonpositives one = All-nil (λ r. r ≤ℚ zero_ℚ)
 
-pub values_in : {S c : Set} → HasParts S c → {fs : List Function} {bodies : List Body}
-    → AreParts c fs bodies
+pub values_in : {S c : Set} → HasComponentSet S c → {fs : List Function} {bodies : List Body}
+    → AreComponentRows c fs bodies
     → (one : Rational) (x : Address → Rational) → All (λ b. Holds one (row_held b []) x) bodies
     → In (multiplied one S) (evaluations one fs x)
 values_in has no_parts one x h = none_in has one
@@ -87,19 +87,19 @@ values_in {S} {c} has (part {f} {b} {fs} {bodies} row functions set rest) one x 
 
 -- ---- duals
 
-dual_in : {S c : Set} → HasParts S c → (q : Rational) (v : List Rational) → Dual c (q ∷ [])
+dual_in : {S c : Set} → HasComponentSet S c → (q : Rational) (v : List Rational) → Dual c (q ∷ [])
     → Dual S v
     → Dual S (q ∷ v)
 dual_in of_zeros q v h rest = tt
 dual_in of_nonnegatives q v h rest = All-cons (λ r. zero_ℚ ≤ℚ r) q v h rest
 dual_in of_nonpositives q v h rest = All-cons (λ r. r ≤ℚ zero_ℚ) q v h rest
 
-none_dual : {S c : Set} → HasParts S c → Dual S []
+none_dual : {S c : Set} → HasComponentSet S c → Dual S []
 none_dual of_zeros = tt
 none_dual of_nonnegatives = All-nil (λ r. zero_ℚ ≤ℚ r)
 none_dual of_nonpositives = All-nil (λ r. r ≤ℚ zero_ℚ)
 
-low_parts : {S c : Set} → HasParts S c → (w y : List Rational)
+low_parts : {S c : Set} → HasComponentSet S c → (w y : List Rational)
     → (low_of S w ≡ zero_ℚ) × (low_of c y ≡ zero_ℚ)
 low_parts of_zeros w y = (refl, zero-*ℚ (first_of y))
 low_parts of_nonnegatives w y = (refl, zero-*ℚ (first_of y))
@@ -124,7 +124,7 @@ data HaveNumbers (c : Set) : List Function → List Body → List (List Rational
       → HaveNumbers c fs bodies ys
       → HaveNumbers c (f ∷ fs) (b ∷ bodies) ((q ∷ []) ∷ ys)
 
-have_numbers : {c : Set} {fs : List Function} {bodies : List Body} → AreParts c fs bodies
+have_numbers : {c : Set} {fs : List Function} {bodies : List Body} → AreComponentRows c fs bodies
     → (ys : List (List Rational)) → length ys ≡ length bodies → DualsHold (rows_held bodies ys)
     → HaveNumbers c fs bodies ys
 have_numbers no_parts [] e h = no_numbers
@@ -139,7 +139,7 @@ have_numbers {c} (part {f} {b} {fs} {bodies} row functions set rest) (y ∷ ys) 
     (have_numbers rest ys (omega (arith, e))
     (All-tail IsHeld (row_held b y) (rows_held bodies ys) h)))
 
-module _ {S c : Set} (has : HasParts S c) where
+module _ {S c : Set} (has : HasComponentSet S c) where
   joined_held : {fs : List Function} {bodies : List Body} {ys : List (List Rational)}
       → HaveNumbers c fs bodies ys → Joined S fs ys
   joined_held no_numbers = record { size = refl; dual = none_dual has }
@@ -189,9 +189,9 @@ module _ {S c : Set} (has : HasParts S c) where
 
 -- a row of functions or of variables in such a cone
 pub data IsConeRow : Body → Type 0 where
-  affine : {funcs : List Function} {set : Set} → HasParts set (component_of set)
+  affine : {funcs : List Function} {set : Set} → HasComponentSet set (component_of set)
       → IsConeRow (AffineVec funcs set)
-  plain : {vars : List Address} {set : Set} → HasParts set (component_of set)
+  plain : {vars : List Address} {set : Set} → HasComponentSet set (component_of set)
       → IsConeRow (PlainVec vars set)
 
 -- what the edges make of it
@@ -201,18 +201,18 @@ made b = each_component b (component_of (set_of b))
 -- one of its rows is of the kind that the edge leads to
 pub data LeadsToEach (edge : Edge) : Body → Type 0 where
   affine_each : {funcs : List Function} {set : Set}
-      → ((f : Function) → LeadsTo edge (Affine f (component_of set)))
+      → ((f : Function) → LeadsToKind edge (Affine f (component_of set)))
       → LeadsToEach edge (AffineVec funcs set)
   plain_each : {vars : List Address} {set : Set}
-      → ((v : Address) → LeadsTo edge (Plain v (component_of set)))
+      → ((v : Address) → LeadsToKind edge (Plain v (component_of set)))
       → LeadsToEach edge (PlainVec vars set)
 
-pub record Sourced (edge : Edge) (b : Body) : Type 0 where
+pub record ScalarizeSourced (edge : Edge) (b : Body) : Type 0 where
   pub row : IsConeRow b
   pub leads : LeadsToEach edge b
 
 sourced : (edge : Edge) → family_of edge ≡ Scalarize → {b : Body} → OfKind (source_of edge) b
-    → Sourced edge b
+    → ScalarizeSourced edge b
 unfolding edge_entry kind_of_body
 sourced E15 own vaffine_zeros = record { row = affine of_zeros; leads = affine_each (λ f. refl) }
 sourced E16 own vaffine_nonnegatives =
@@ -226,38 +226,38 @@ sourced E20 own vplain_nonpositives =
     record { row = plain of_nonpositives; leads = plain_each (λ v. refl) }
 sourced _ own k = of_another own refl
 
-pub rule : Rule Scalarize Sourced (λ edge item. rows_at item (made item.body)) (λ item. joined)
+pub rule : Rule Scalarize ScalarizeSourced (λ edge item. rows_at item (made item.body)) (λ item. joined)
 unfolding image_by back_by
 rule = record { image = λ edge item. refl; back = λ item ys. refl; sourced = sourced }
 
 -- ---- the parts
 
-part_scalar : {S c : Set} → HasParts S c → is_scalar c ≡ true
+part_scalar : {S c : Set} → HasComponentSet S c → is_scalar c ≡ true
 part_scalar of_zeros = refl
 part_scalar of_nonnegatives = refl
 part_scalar of_nonpositives = refl
 
-part_of_one : {S c : Set} → HasParts S c → IsSetOf 1 c
+part_of_one : {S c : Set} → HasComponentSet S c → IsSetOf 1 c
 part_of_one of_zeros = record { dimension = refl; enough = omega arith; uncrossed = refl }
 part_of_one of_nonnegatives = record { dimension = refl; enough = omega arith; uncrossed = refl }
 part_of_one of_nonpositives = record { dimension = refl; enough = omega arith; uncrossed = refl }
 
-affine_parts : (c : Set) (fs : List Function) → AreParts c fs (map (λ f. Affine f c) fs)
+affine_parts : (c : Set) (fs : List Function) → AreComponentRows c fs (map (λ f. Affine f c) fs)
 affine_parts c [] = no_parts
 affine_parts c (f ∷ fs) =
     part (row refl refl) refl refl (affine_parts c fs)
 
 plain_parts : (c : Set) (vars : List Address)
-    → AreParts c (map (variable {R = address_cmp}) vars) (map (λ v. Plain v c) vars)
+    → AreComponentRows c (map (variable {R = address_cmp}) vars) (map (λ v. Plain v c) vars)
 plain_parts c [] = no_parts
 plain_parts c (v ∷ vars) =
     part (row refl refl) refl refl (plain_parts c vars)
 
 -- what is read of the row
 record Read (b : Body) : Type 0 where
-  source : IsRow b
-  has : HasParts (set_of b) (component_of (set_of b))
-  parts : AreParts (component_of (set_of b)) (functions_of b) (made b)
+  source : IsRowBody b
+  has : HasComponentSet (set_of b) (component_of (set_of b))
+  parts : AreComponentRows (component_of (set_of b)) (functions_of b) (made b)
 
 read : {b : Body} → IsConeRow b → Read b
 read (affine {funcs} {set} has) =
@@ -277,8 +277,8 @@ module _ (edge : Edge) (own : family_of edge ≡ Scalarize) where
     abbrev IsComponent : Function → Type 0
     IsComponent f = NamesNothingBelow item.at f × ((m : Missed) → coefficient f m.0 ≡ zero_ℚ)
 
-    row_of : (b : Body) (f : Function) → IsRow b → FitsItsFunction b → functions_of b ≡ f ∷ []
-        → set_of b ≡ component_of (set_of item.body) → LeadsTo edge b → IsComponent f
+    row_of : (b : Body) (f : Function) → IsRowBody b → FitsItsFunction b → functions_of b ≡ f ∷ []
+        → set_of b ≡ component_of (set_of item.body) → LeadsToKind edge b → IsComponent f
         → IsRowOf edge item b
     row_of b f row shaped functions set leads component = record {
       made = row;
@@ -316,7 +316,8 @@ module _ (edge : Edge) (own : family_of edge ≡ Scalarize) where
             (All-tail (λ g. (m : Missed) → coefficient g m.0 ≡ zero_ℚ) f fs k))
 
     affine_rows : (c : Set) → is_scalar c ≡ true → c ≡ component_of (set_of item.body)
-        → ((f : Function) → LeadsTo edge (Affine f c)) → (fs : List Function) → All IsComponent fs
+        → ((f : Function) → LeadsToKind edge (Affine f c)) → (fs : List Function)
+        → All IsComponent fs
         → All (IsRowOf edge item) (map (λ f. Affine f c) fs)
     affine_rows c scalar set leads [] h = All-nil (IsRowOf edge item)
     affine_rows c scalar set leads (f ∷ fs) h =
@@ -326,7 +327,7 @@ module _ (edge : Edge) (own : family_of edge ≡ Scalarize) where
         (affine_rows c scalar set leads fs (All-tail IsComponent f fs h))
 
     plain_rows : (c : Set) → is_scalar c ≡ true → c ≡ component_of (set_of item.body)
-        → ((v : Address) → LeadsTo edge (Plain v c)) → (vars : List Address)
+        → ((v : Address) → LeadsToKind edge (Plain v c)) → (vars : List Address)
         → All IsComponent (map (variable {R = address_cmp}) vars)
         → All (IsRowOf edge item) (map (λ v. Plain v c) vars)
     plain_rows c scalar set leads [] h = All-nil (IsRowOf edge item)
@@ -415,7 +416,7 @@ joined_step ys n y all h is so_far =
     ap (λ l. l ++ y) so_far ∙ sym (joined_more (take n ys) y)
     ∙ ap joined (sym (take_more ys n y h ∙ ap (λ z. take n ys ++ z ∷ []) (sym is)))
 
-parts_length : {c : Set} {fs : List Function} {bodies : List Body} → AreParts c fs bodies
+parts_length : {c : Set} {fs : List Function} {bodies : List Body} → AreComponentRows c fs bodies
     → length bodies ≡ length fs
 parts_length no_parts = refl
 parts_length (part row functions set rest) = ap suc (parts_length rest)

@@ -11,10 +11,10 @@ use Rattle.bridge_face.specs.FamilyLaws.{Sourced, of_another}
 use Rattle.bridge_face.specs.ImageOf.{image_by}
 use Rattle.bridge_face.specs.OneRowLaws.{UnsummedRule, same_dual}
 use Rattle.bridge_face.specs.Sources.{OfKind, vplain_nonnegatives, vplain_nonpositives, vplain_norm_infinity_cone, vplain_norm_one_cone, vplain_zeros}
-use Rattle.bridges_shape.specs.FunctionizeLaws.{IsPlain, functionize_rule, made, vector}
+use Rattle.bridges_shape.specs.FunctionizeLaws.{IsPlainRow, functionize_rule, made, vector}
 
 sourced : (edge : Edge) → family_of edge ≡ VectorFunctionize
-    → {b : Body} → OfKind (source_of edge) b → Sourced IsPlain made edge b
+    → {b : Body} → OfKind (source_of edge) b → Sourced IsPlainRow made edge b
 unfolding edge_entry kind_of_body
 sourced E34 own vplain_zeros = record { source = vector refl; leads = refl }
 sourced E35 own vplain_nonnegatives = record { source = vector refl; leads = refl }
@@ -23,7 +23,7 @@ sourced E37 own vplain_norm_infinity_cone = record { source = vector refl; leads
 sourced E38 own vplain_norm_one_cone = record { source = vector refl; leads = refl }
 sourced _ own k = of_another own refl
 
-pub rule : UnsummedRule VectorFunctionize IsPlain made same_dual
+pub rule : UnsummedRule VectorFunctionize IsPlainRow made same_dual
 unfolding image_by back_by
 rule =
     functionize_rule

@@ -28,16 +28,16 @@ use Rattle.bridge_face.specs.ComponentLaws.{all_unnamed_below}
 use Rattle.bridge_face.specs.FamilyLaws.{Sourced, back_is, of_another}
 use Rattle.bridge_face.specs.ImageOf.{FitsBy, image_by}
 use Rattle.bridge_face.specs.Images.{cone_of, function_of_body, number_in, raised}
-use Rattle.bridge_face.specs.Law.{LeadsTo, Miss, growth}
-use Rattle.bridge_face.specs.OneRowLaws.{IsRow, IsRowRule, OneRow, RowRule, row_held, same_dual}
+use Rattle.bridge_face.specs.Law.{LeadsToKind, Miss, growth}
+use Rattle.bridge_face.specs.OneRowLaws.{IsRowBody, IsRowRule, OneRow, RowRule, row_held, same_dual}
 use Rattle.bridge_face.specs.Sources.{OfKind, affine_equal_to, affine_greater_than, affine_less_than, plain_equal_to, plain_greater_than, plain_less_than}
-use Rattle.bridges_shape.specs.RaisedLaws.{HasNumber, at_least, at_most, cone_of_one, cone_of_vectors, equal, evaluated-lowered, in_dual, in_set, low_cone, low_first, low_none, set_of_one}
+use Rattle.bridges_shape.specs.RaisedLaws.{HasDifferenceCone, at_least, at_most, cone_of_one, cone_of_vectors, equal, evaluated-lowered, in_dual, in_set, low_cone, low_first, low_none, set_of_one}
 
 -- a plain or an affine row in a set with one number
 pub data IsNumberRow : Body → Type 0 where
-  plain : {var : Address} {set : Set} → HasNumber set (number_in set) (cone_of set)
+  plain : {var : Address} {set : Set} → HasDifferenceCone set (number_in set) (cone_of set)
       → IsNumberRow (Plain var set)
-  affine : {func : Function} {set : Set} → HasNumber set (number_in set) (cone_of set)
+  affine : {func : Function} {set : Set} → HasDifferenceCone set (number_in set) (cone_of set)
       → IsNumberRow (Affine func set)
 
 -- the function less the number
@@ -54,9 +54,9 @@ FitsLowered b = SumFits (function_of_body b).constant (neg_ℚ (number_in (set_o
 
 -- what is read of it
 record Read (b : Body) : Type 0 where
-  source : IsRow b
+  source : IsRowBody b
   functions : functions_of b ≡ function_of_body b ∷ []
-  has : HasNumber (set_of b) (number_in (set_of b)) (cone_of (set_of b))
+  has : HasDifferenceCone (set_of b) (number_in (set_of b)) (cone_of (set_of b))
 
 read : {b : Body} → IsNumberRow b → Read b
 read (plain has) =
@@ -90,7 +90,7 @@ gap_none = ring₁ _ (λ ρ. simp (as_expression, zero_as ρ) (by_ring ρ _ _ re
 abbrev one_held : List Rational → Function → Set → DualRow
 one_held w f set = record { duals = w; functions = f ∷ []; set = set }
 
-module _ (f : Function) {S C : Set} {a : Rational} (has : HasNumber S a C) where
+module _ (f : Function) {S C : Set} {a : Rational} (has : HasDifferenceCone S a C) where
   same_gap : (y : List Rational)
       → gap_of (one_held y (raised f (neg_ℚ a)) C) ≡ gap_of (one_held y f S)
   same_gap [] =
@@ -117,7 +117,7 @@ module _ (f : Function) {S C : Set} {a : Rational} (has : HasNumber S a C) where
 
 module _ (edge : Edge) (own : family_of edge ≡ Vectorize) where
   module _ (item : Item) (valid : IsValidItem item) (r : Read item.body)
-      (leads : LeadsTo edge (made item.body)) where
+      (leads : LeadsToKind edge (made item.body)) where
     f : Function
     f = function_of_body item.body
 

@@ -33,29 +33,29 @@ use Rattle.bridge_face.specs.FamilyLaws.{of_another}
 use Rattle.bridge_face.specs.GroupLaws.{IsGroupRule, OneGroup, one_group_law}
 use Rattle.bridge_face.specs.ImageOf.{image_by, inner, vectorize_var}
 use Rattle.bridge_face.specs.Images.{child_at, cone_of, group_by, number_in, raised}
-use Rattle.bridge_face.specs.Law.{LeadsTo, growth}
+use Rattle.bridge_face.specs.Law.{LeadsToKind, growth}
 use Rattle.bridge_face.specs.Sources.{OfKind, group_equal_to, group_greater_than, group_less_than}
-use Rattle.bridges_shape.specs.RaisedLaws.{HasNumber, at_least, at_most, cone_of_one, equal, in_dual, in_set, low_cone, low_first, set_of_one}
+use Rattle.bridges_shape.specs.RaisedLaws.{HasDifferenceCone, at_least, at_most, cone_of_one, equal, in_dual, in_set, low_cone, low_first, set_of_one}
 
 -- a group in a set with one number
 pub data IsNumberGroup : Body → Type 0 where
-  group : {vars : List Address} {set : Set} → HasNumber set (number_in set) (cone_of set)
+  group : {vars : List Address} {set : Set} → HasDifferenceCone set (number_in set) (cone_of set)
       → IsNumberGroup (Group set vars)
 
 -- what is read of it
 record Read (b : Body) : Type 0 where
   source : is_group b ≡ true
-  has : HasNumber (set_of b) (number_in (set_of b)) (cone_of (set_of b))
+  has : HasDifferenceCone (set_of b) (number_in (set_of b)) (cone_of (set_of b))
 
 read : {b : Body} → IsNumberGroup b → Read b
 read (group has) = record { source = refl; has = has }
 
-pub record Sourced (edge : Edge) (b : Body) : Type 0 where
+pub record VectorizeVarSourced (edge : Edge) (b : Body) : Type 0 where
   pub group : IsNumberGroup b
-  pub leads : (vars : List Address) → LeadsTo edge (Group (cone_of (set_of b)) vars)
+  pub leads : (vars : List Address) → LeadsToKind edge (Group (cone_of (set_of b)) vars)
 
 sourced : (edge : Edge) → family_of edge ≡ VectorizeVar → {b : Body} → OfKind (source_of edge) b
-    → Sourced edge b
+    → VectorizeVarSourced edge b
 unfolding edge_entry kind_of_body
 sourced E46 own group_less_than = record { group = group at_most; leads = λ vars. refl }
 sourced E47 own group_greater_than = record { group = group at_least; leads = λ vars. refl }
@@ -95,7 +95,7 @@ image_made item set cone number vars exprs child set_is cone_is number_is vars_a
 
 module _ (edge : Edge) (own : family_of edge ≡ VectorizeVar) where
   module _ (item : Item) (valid : IsValidItem item) (r : Read item.body)
-      (leads : (vars : List Address) → LeadsTo edge (Group (cone_of (set_of item.body)) vars)) where
+      (leads : (vars : List Address) → LeadsToKind edge (Group (cone_of (set_of item.body)) vars)) where
     abbrev a : Rational
     a = number_in (set_of item.body)
 
@@ -162,7 +162,7 @@ module _ (edge : Edge) (own : family_of edge ≡ VectorizeVar) where
       leads = leads (inner item 1);
     }
 
-pub rule : IsGroupRule VectorizeVar Sourced (λ edge. vectorize_var) 0
+pub rule : IsGroupRule VectorizeVar VectorizeVarSourced (λ edge. vectorize_var) 0
 unfolding image_by back_by
 rule = record {
   carry = λ item ys. [];

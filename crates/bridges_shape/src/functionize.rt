@@ -1,6 +1,6 @@
 //! Plain rows as affine ones.
 ghost use Rattle.std.specs.Prelude.{◌≡◌, IfOk};
-ghost use Rattle.bridges_shape.specs.FunctionizeLaws.{IsPlain, made};
+ghost use Rattle.bridges_shape.specs.FunctionizeLaws.{IsPlainRow, made};
 
 use aff_core::Aff;
 use bridge_face::variables;
@@ -10,7 +10,7 @@ use std::alloc::Global;
 
 /// The affine row of a plain row's variables, in the same set.
 pub fn functionized(alloc: Global, body: &Body) -> Result<Body, Memory>
-    requires { IsPlain body.now }
+    requires { IsPlainRow body.now }
     ensures { IfOk result (λ row. row ≡ made body.now) }
 {
     match body {

@@ -1,7 +1,7 @@
 //! A variable in a set of numbers is an affine function in it.
 //!
 //! - From: a plain row in a set of numbers, by the edges 23 to 26.
-//! - To: at position 0 the affine row of the same variables in the same set.
+//! - To: at position 0 the affine row of the same variable in the same set.
 //! - Dual: the child row's.
 //! - In MathOptInterface: `ScalarFunctionizeBridge`.
 
@@ -27,7 +27,7 @@ impl RowRule for ScalarFunctionizeRule {
 
     ghost family = { families.ScalarFunctionize };
 
-    ghost source = { functionize.IsPlain };
+    ghost source = { functionize.IsPlainRow };
 
     ghost made = { functionize.made };
 

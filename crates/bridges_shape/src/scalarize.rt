@@ -8,7 +8,7 @@
 ghost use Rattle.std.specs.Prelude.{◌≡◌, ◌<◌, ◌≤◌, IfOk, length, map};
 ghost use Rattle.bridge_face.specs.BackOf.{joined};
 ghost use Rattle.bridge_face.specs.Images.{children_from, component_of};
-ghost use Rattle.bridges_shape.specs.ScalarizeLaws.{HasParts, IsConeRow, made};
+ghost use Rattle.bridges_shape.specs.ScalarizeLaws.{HasComponentSet, IsConeRow, made};
 ghost use Rattle.item_core.specs.Item.{functions_of};
 ghost use Rattle.item_core.specs.declared.item.Body.TheVariants as bodies;
 
@@ -106,7 +106,7 @@ fn parts_in<C: Component>(
     components: &[C],
     set: &Set,
 ) -> Result<Vec<Item>, Memory>
-    requires set { HasParts set.now (component_of set.now) }
+    requires set { HasComponentSet set.now (component_of set.now) }
     requires depth { length item.now.at.positions < 40 }
     requires count { length components.now ≤ 32767 }
     ensures { IfOk result (λ rows. rows.items ≡ children_from item.now 0
@@ -125,7 +125,7 @@ fn parts_in<C: Component>(
 
 // The numbers that a component may be.
 fn part(set: &Set) -> Set
-    requires { HasParts set.now (component_of set.now) }
+    requires { HasComponentSet set.now (component_of set.now) }
     ensures { result ≡ component_of set.now }
 {
     let zero = Ratio::zero();

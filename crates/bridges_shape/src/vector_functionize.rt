@@ -27,7 +27,7 @@ impl RowRule for VectorFunctionizeRule {
 
     ghost family = { families.VectorFunctionize };
 
-    ghost source = { functionize.IsPlain };
+    ghost source = { functionize.IsPlainRow };
 
     ghost made = { functionize.made };
 

@@ -9,7 +9,7 @@
 ghost use Rattle.std.specs.Prelude.{◌≡◌, [], ◌∷◌};
 ghost use Rattle.ratio_core.specs.Answers.{ExactWhere};
 ghost use Rattle.bridge_face.specs.Images.{number_in, cone_of, raised};
-ghost use Rattle.bridges_shape.specs.RaisedLaws.{HasNumber};
+ghost use Rattle.bridges_shape.specs.RaisedLaws.{HasDifferenceCone};
 ghost use Rattle.item_core.specs.declared.item.Body.TheVariants as bodies;
 ghost use Rattle.ratio_core.specs.Rational.{SumFits, neg_ℚ};
 
@@ -65,7 +65,7 @@ impl RowRule for VectorizeRule {
 
 // The function less the set's number, in the cone that has the differences.
 fn in_cone(alloc: Global, func: &Aff, set: &Set) -> Result<Body, NumberFault>
-    requires { HasNumber set.now (number_in set.now) (cone_of set.now) }
+    requires { HasDifferenceCone set.now (number_in set.now) (cone_of set.now) }
     ensures { ExactWhere result (SumFits func.now.constant (neg_ℚ (number_in set.now)))
         (λ row. row ≡ bodies.AffineVec (raised func.now (neg_ℚ (number_in set.now)) ∷ [])
         (cone_of set.now)) }

@@ -7,7 +7,7 @@
 ghost use Rattle.std.specs.Prelude.{◌≡◌, [], ◌∷◌, IfOk};
 ghost use Rattle.aff_core.specs.Function.{variable};
 ghost use Rattle.bridge_face.specs.Images.{cone_of, number_in, raised};
-ghost use Rattle.bridges_shape.specs.RaisedLaws.{HasNumber};
+ghost use Rattle.bridges_shape.specs.RaisedLaws.{HasDifferenceCone};
 ghost use Rattle.bridges_shape.specs.VectorizeVarLaws.{IsNumberGroup};
 ghost use Rattle.item_core.specs.Item.{set_of};
 ghost use Rattle.item_core.specs.declared.image.Expression.TheVariants as expressions;
@@ -35,7 +35,7 @@ impl GroupRule for VectorizeVarRule {
 
     ghost family = { families.VectorizeVar };
 
-    ghost source = { laws.Sourced };
+    ghost source = { laws.VectorizeVarSourced };
 
     ghost made = { λ edge. images.vectorize_var };
 
@@ -63,7 +63,7 @@ impl GroupRule for VectorizeVarRule {
 fn group_set(body: &Body) -> &Set
     requires { IsNumberGroup body.now }
     ensures set { result.now ≡ set_of body.now }
-    ensures number { HasNumber result.now (number_in result.now) (cone_of result.now) }
+    ensures number { HasDifferenceCone result.now (number_in result.now) (cone_of result.now) }
 {
     match body {
         Body::Group { set, .. } => set,

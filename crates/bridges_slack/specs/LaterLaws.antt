@@ -9,7 +9,7 @@ use Rattle.rational_laws.specs.Field.{+ℚ-zero, zero-+ℚ, -ℚ-itself}
 use Rattle.aff_core.specs.Address.{Address, child_of}
 use Rattle.item_core.specs.declared.item.Body.TheVariants.{Affine, AffineVec, Free, Group, Plain, PlainVec}
 use Rattle.bridge_face.specs.ChildDualLaws.{carries_duals}
-use Rattle.bridge_face.specs.Law.{Balances, CarriesValues, ChildDuals, EdgeLaw, GrowsBy, HasComponents, IsCovered, IsValidWithin, LeadsTo, MentionsKnown, Miss, expressed, growth, held_body, held_children, held_item, inner_of}
+use Rattle.bridge_face.specs.Law.{Balances, CarriesValues, ChildDuals, EdgeLaw, GrowsBy, HasComponents, IsCovered, IsValidWithin, LeadsToKind, MentionsKnown, Miss, expressed, growth, held_body, held_children, held_item, inner_of}
 use Rattle.item_core.specs.declared.item.Body.{Body}
 use Rattle.item_core.specs.declared.edge.Edge.TheVariants.{E49, E50, E51, E52, E53, E54, E55, E56, E57}
 use Rattle.item_core.specs.declared.edge.Edge.{Edge}
@@ -18,7 +18,7 @@ use Rattle.bridge_face.specs.ImageOf.{begins_free, free_at, group_at, image_by, 
 use Rattle.item_core.specs.Valid.{FitsItsFunction, IsValidItem, NamesNothingBelow}
 use Rattle.dual_laws.specs.Held.{Holds, IsHeld, adjoint, adjoint_of, gap, gap_of}
 use Rattle.item_core.specs.declared.image.Image.{Image}
-use Rattle.bridge_face.specs.OneRowLaws.{IsRow, held_row}
+use Rattle.bridge_face.specs.OneRowLaws.{IsRowBody, held_row}
 use Rattle.set_core.specs.Shapes.{IsSetOf, is_scalar}
 use Rattle.item_core.specs.declared.item.Item.{Item}
 use Rattle.item_core.specs.declared.image.Expression.TheVariants.{Kept}
@@ -72,12 +72,12 @@ of_free false d ss e =
 
 -- and of the row
 record IsOfRow (b : Body) (ss : List Address) (set : Set) : Type 0 where
-  row : IsRow b
+  row : IsRowBody b
   shaped : FitsItsFunction b
   functions : functions_of b ≡ variables ss
   same_set : set_of b ≡ set
 
-is_of_row : {b : Body} {ss : List Address} {set : Set} → IsRow b → FitsItsFunction b
+is_of_row : {b : Body} {ss : List Address} {set : Set} → IsRowBody b → FitsItsFunction b
     → functions_of b ≡ variables ss → set_of b ≡ set → IsOfRow b ss set
 is_of_row row shaped functions same_set =
     record { row = row; shaped = shaped; functions = functions; same_set = same_set }
@@ -103,8 +103,8 @@ record IsLater (edge : Edge) (item : Item) (group row : Body) : Type 0 where
   of_group : IsOfFree group (inner item (size item))
   of_row : IsOfRow row (inner item (size item)) (set_of item.body)
   no_growth : growth (family_of edge) ≡ 1
-  group_leads : LeadsTo edge group
-  row_leads : LeadsTo edge row
+  group_leads : LeadsToKind edge group
+  row_leads : LeadsToKind edge row
 
 expressed-kept : (ss : List Address) → map expressed (map Kept ss) ≡ variables ss
 expressed-kept [] = refl
@@ -292,7 +292,7 @@ module _ (edge : Edge) (item : Item) (group row : Body) (l : IsLater edge item g
     valid = λ room. both IsValidWithin (group_valid room) (row_valid room);
     sizes =
         both (GrowsBy (growth (family_of edge)) item) (grows group group_size) (grows row row_size);
-    kinds = both (λ child. LeadsTo edge child.body) l.group_leads l.row_leads;
+    kinds = both (λ child. LeadsToKind edge child.body) l.group_leads l.row_leads;
     components = All-cons HasComponents (child_at item 0 group) [] has_them (All-nil HasComponents);
     mentioned = All-cons (MentionsKnown item image) (child_at item 1 row) []
         (λ v m absent. subst (λ fs. Miss fs v) (sym l.of_row.functions) (absent_from v absent))
@@ -304,21 +304,21 @@ module _ (edge : Edge) (item : Item) (group row : Body) (l : IsLater edge item g
 
 -- ---- what an edge of the family leads from
 
-pub record Sourced (edge : Edge) (b : Body) : Type 0 where
+pub record LaterSourced (edge : Edge) (b : Body) : Type 0 where
   pub group : is_group b ≡ true
   scalar : Bool
   scalar_is : is_scalar (set_of b) ≡ scalar
   free : Bool
   free_is : begins_free (children_of edge) ≡ free
-  group_leads : (d : ℕ) (ss : List Address) → LeadsTo edge (first_child free d ss)
+  group_leads : (d : ℕ) (ss : List Address) → LeadsToKind edge (first_child free d ss)
   row_leads : (v : Address) (ss : List Address)
-      → LeadsTo edge (second_child free scalar v ss (set_of b))
+      → LeadsToKind edge (second_child free scalar v ss (set_of b))
 
 from : {edge : Edge} {b : Body} (free scalar : Bool) → is_group b ≡ true
     → begins_free (children_of edge) ≡ free → is_scalar (set_of b) ≡ scalar
-    → ((d : ℕ) (ss : List Address) → LeadsTo edge (first_child free d ss))
-    → ((v : Address) (ss : List Address) → LeadsTo edge (second_child free scalar v ss (set_of b)))
-    → Sourced edge b
+    → ((d : ℕ) (ss : List Address) → LeadsToKind edge (first_child free d ss))
+    → ((v : Address) (ss : List Address) → LeadsToKind edge (second_child free scalar v ss (set_of b)))
+    → LaterSourced edge b
 from free scalar group free_is scalar_is group_leads row_leads = record {
   group = group;
   scalar = scalar;
@@ -330,7 +330,7 @@ from free scalar group free_is scalar_is group_leads row_leads = record {
 }
 
 sourced : (edge : Edge) → family_of edge ≡ Later → {b : Body} → OfKind (source_of edge) b
-    → Sourced edge b
+    → LaterSourced edge b
 unfolding edge_entry kind_of_body
 sourced E49 own group_less_than = from true true refl refl refl (λ d ss. refl) (λ v ss. refl)
 sourced E50 own group_greater_than = from true true refl refl refl (λ d ss. refl) (λ v ss. refl)
@@ -431,7 +431,7 @@ parts_made edge item valid at first free count vars exprs part group row at_is f
     (one_inner item valid (is_scalar whole) refl)))
 
 module _ (edge : Edge) (own : family_of edge ≡ Later) (item : Item) (valid : IsValidItem item)
-    (s : Sourced edge item.body) where
+    (s : LaterSourced edge item.body) where
   one : s.scalar ≡ true → inner item (size item) ≡ head_of item ∷ []
   one = one_inner item valid s.scalar s.scalar_is
 
@@ -460,7 +460,7 @@ module _ (edge : Edge) (own : family_of edge ≡ Later) (item : Item) (valid : I
         row_leads = s.row_leads (head_of item) (inner item (size item));
       }))
 
-pub rule : IsGroupRule Later Sourced later 1
+pub rule : IsGroupRule Later LaterSourced later 1
 unfolding image_by back_by
 rule = record {
   carry = λ item ys. [];

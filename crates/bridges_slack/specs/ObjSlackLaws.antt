@@ -8,7 +8,7 @@ use Rattle.rational_laws.specs.Field.{*ℚ-zero, +ℚ-zero, zero-*ℚ, zero-+ℚ
 use Rattle.aff_core.specs.Address.{Address, child_of}
 use Rattle.item_core.specs.declared.item.Body.TheVariants.{Affine, AffineObj, Free, PlainObj}
 use Rattle.bridge_face.specs.ChildDualLaws.{carries_duals}
-use Rattle.bridge_face.specs.Law.{Balances, CarriesValues, ChildDuals, EdgeLaw, GrowsBy, HasComponents, IsCovered, IsItemFor, IsLawful, IsValidWithin, LeadsTo, MentionsKnown, Miss, cost_by, cost_of, expressed, growth, held_children, held_item, inner_of, is_objective, row_set}
+use Rattle.bridge_face.specs.Law.{Balances, CarriesValues, ChildDuals, EdgeLaw, GrowsBy, HasComponents, IsCovered, IsItemFor, IsLawful, IsValidWithin, LeadsToKind, MentionsKnown, Miss, cost_by, cost_of, expressed, growth, held_children, held_item, inner_of, is_objective, row_set}
 use Rattle.item_core.specs.declared.item.Body.{Body}
 use Rattle.item_core.specs.declared.edge.Edge.TheVariants.{E62, E63}
 use Rattle.item_core.specs.declared.edge.Edge.{Edge}
@@ -57,14 +57,14 @@ is_one b (affine_objective {sense} {func}) none = none sense func refl
 abbrev pub row_of : Sense → Function → Address → Body
 row_of sense f s = Affine (difference (variable s) f) (beyond sense)
 
-pub record Sourced (edge : Edge) (b : Body) : Type 0 where
+pub record ObjSlackSourced (edge : Edge) (b : Body) : Type 0 where
   pub objective : IsAffineObjective b
-  group_leads : (ss : List Address) → LeadsTo edge (Free ss)
-  row_leads : (f : Function) → LeadsTo edge (Affine f (beyond (sense_of b)))
-  objective_leads : (s : Address) → LeadsTo edge (PlainObj (sense_of b) s)
+  group_leads : (ss : List Address) → LeadsToKind edge (Free ss)
+  row_leads : (f : Function) → LeadsToKind edge (Affine f (beyond (sense_of b)))
+  objective_leads : (s : Address) → LeadsToKind edge (PlainObj (sense_of b) s)
 
 sourced : (edge : Edge) → family_of edge ≡ ObjSlack → {b : Body} → OfKind (source_of edge) b
-    → Sourced edge b
+    → ObjSlackSourced edge b
 unfolding edge_entry kind_of_body
 sourced E62 own min_affine = record {
   objective = affine_objective;
@@ -80,7 +80,7 @@ sourced E63 own max_affine = record {
 }
 sourced _ own k = of_another own refl
 
-pub rule : Rule ObjSlack Sourced (λ edge. obj_slack) (λ item ys. [])
+pub rule : Rule ObjSlack ObjSlackSourced (λ edge. obj_slack) (λ item ys. [])
 unfolding image_by back_by
 rule = record { image = λ edge item. refl; back = λ item ys. refl; sourced = sourced }
 
@@ -188,9 +188,9 @@ record IsSlackObjective (edge : Edge) (item : Item) (sense : Sense) (f : Functio
   functions : functions_of item.body ≡ f ∷ []
   cost : cost_of item.body ≡ cost_by sense f
   no_growth : growth (family_of edge) ≡ 1
-  group_leads : LeadsTo edge (Free (inner item 1))
-  row_leads : LeadsTo edge (row_of sense f (child_of (child_of item.at 0) 0))
-  objective_leads : LeadsTo edge (PlainObj sense (child_of (child_of item.at 0) 0))
+  group_leads : LeadsToKind edge (Free (inner item 1))
+  row_leads : LeadsToKind edge (row_of sense f (child_of (child_of item.at 0) 0))
+  objective_leads : LeadsToKind edge (PlainObj sense (child_of (child_of item.at 0) 0))
 
 module _ (edge : Edge) (item : Item) (sense : Sense) (f : Function)
     (l : IsSlackObjective edge item sense f) where
@@ -410,7 +410,7 @@ module _ (edge : Edge) (item : Item) (sense : Sense) (f : Function)
     sizes = all_three (GrowsBy (growth (family_of edge)) item) (no_more group refl)
         (no_more row refl) (no_more objective refl);
     kinds =
-        all_three (λ child. LeadsTo edge child.body) l.group_leads l.row_leads l.objective_leads;
+        all_three (λ child. LeadsToKind edge child.body) l.group_leads l.row_leads l.objective_leads;
     components = All-cons HasComponents group [] refl (All-nil HasComponents);
     mentioned =
         All-cons (MentionsKnown item image) row (objective ∷ [])

@@ -10,12 +10,12 @@ use Rattle.bridge_face.specs.BackOf as backs
 use Rattle.item_core.specs.declared.item.Body.{Body}
 use Rattle.item_core.specs.declared.edge.Edge.TheVariants.{E31, E32, E33}
 use Rattle.item_core.specs.declared.edge.Edge.{Edge}
-use Rattle.bridge_face.specs.Law.{EdgeLaw, LeadsTo, growth}
+use Rattle.bridge_face.specs.Law.{EdgeLaw, LeadsToKind, growth}
 use Rattle.set_core.specs.declared.set.Set.TheVariants.{EqualTo, GreaterThan, Interval, LessThan}
 use Rattle.bridge_face.specs.ImageOf.{differences, group_at, image_by, inner, inner_functions, scalar_slack}
 use Rattle.item_core.specs.Valid.{IsValidItem, NamesNothingBelow}
 use Rattle.aff_core.specs.Function.{Function, coefficient, variable}
-use Rattle.bridge_face.specs.OneRowLaws.{IsRow}
+use Rattle.bridge_face.specs.OneRowLaws.{IsRowBody}
 use Rattle.bridges_slack.specs.SlackLaws.{IsSlack, slack_law}
 use Rattle.item_core.specs.declared.item.Item.{Item}
 use Rattle.bridge_face.specs.FamilyLaws.{Rule, back_is, of_another}
@@ -33,10 +33,10 @@ use Rattle.bridge_face.specs.ComponentLaws.{unnamed_below, variables}
 use Rattle.bridge_face.specs.GroupAndRowLaws.{group_and_row}
 
 -- an affine row with bounds
-pub data IsBounded : Body → Type 0 where
-  below_bound : {f : Function} {u : Rational} → IsBounded (Affine f (LessThan u))
-  above_bound : {f : Function} {l : Rational} → IsBounded (Affine f (GreaterThan l))
-  between : {f : Function} {l u : Rational} → IsBounded (Affine f (Interval l u))
+pub data IsBoundedRow : Body → Type 0 where
+  below_bound : {f : Function} {u : Rational} → IsBoundedRow (Affine f (LessThan u))
+  above_bound : {f : Function} {l : Rational} → IsBoundedRow (Affine f (GreaterThan l))
+  between : {f : Function} {l u : Rational} → IsBoundedRow (Affine f (Interval l u))
 
 -- the row that the edges make of it
 abbrev pub made : Item → Body
@@ -44,13 +44,13 @@ made item =
     Affine (first_in (differences (functions_of item.body) (inner_functions item 1)))
     (EqualTo zero_ℚ)
 
-pub record Sourced (edge : Edge) (b : Body) : Type 0 where
-  pub bounded : IsBounded b
-  leads : (vars : List Address) → LeadsTo edge (Group (set_of b) vars)
-  row_leads : (f : Function) → LeadsTo edge (Affine f (EqualTo zero_ℚ))
+pub record ScalarSlackSourced (edge : Edge) (b : Body) : Type 0 where
+  pub bounded : IsBoundedRow b
+  leads : (vars : List Address) → LeadsToKind edge (Group (set_of b) vars)
+  row_leads : (f : Function) → LeadsToKind edge (Affine f (EqualTo zero_ℚ))
 
 sourced : (edge : Edge) → family_of edge ≡ ScalarSlack → {b : Body} → OfKind (source_of edge) b
-    → Sourced edge b
+    → ScalarSlackSourced edge b
 unfolding edge_entry kind_of_body
 sourced E31 own affine_less_than =
     record { bounded = below_bound; leads = λ vars. refl; row_leads = λ f. refl }
@@ -60,16 +60,16 @@ sourced E33 own affine_interval =
     record { bounded = between; leads = λ vars. refl; row_leads = λ f. refl }
 sourced _ own k = of_another own refl
 
-scalar_slack_rule : Rule ScalarSlack Sourced (λ edge. scalar_slack) (λ item. backs.first_of)
+scalar_slack_rule : Rule ScalarSlack ScalarSlackSourced (λ edge. scalar_slack) (λ item. backs.first_of)
 unfolding image_by back_by
 scalar_slack_rule = record { image = λ edge item. refl; back = λ item ys. refl; sourced = sourced }
 
 -- what is read of it
 record Bounded (b : Body) : Type 0 where
-  row : IsRow b
+  row : IsRowBody b
   functions : functions_of b ≡ function_of_body b ∷ []
 
-read : {b : Body} → IsBounded b → Bounded b
+read : {b : Body} → IsBoundedRow b → Bounded b
 read below_bound =
     record { row = record { no_group = refl; no_objective = refl }; functions = refl }
 read above_bound =
@@ -92,7 +92,7 @@ zero_alone one v e h =
 -- ---- the law
 
 -- the row doesn't name the component
-pub absent : (item : Item) → IsValidItem item → IsBounded item.body
+pub absent : (item : Item) → IsValidItem item → IsBoundedRow item.body
     → coefficient (function_of_body item.body) (child_of (child_of item.at 0) 0) ≡ zero_ℚ
 absent item valid bounded =
     let facts = read bounded in
@@ -102,7 +102,7 @@ absent item valid bounded =
     (All-head (NamesNothingBelow item.at) (function_of_body item.body) [] unnamed) (0 ∷ [])
 
 -- the image, with the row's function written out
-pub image_made : (item : Item) → IsBounded item.body
+pub image_made : (item : Item) → IsBoundedRow item.body
     → group_and_row item (group_at item (set_of item.body) 1) []
     (Affine (difference (function_of_body item.body) (variable (child_of (child_of item.at 0) 0)))
     (EqualTo zero_ℚ))
@@ -113,7 +113,7 @@ image_made item bounded =
     (sym (read bounded).functions)
 
 module _ (edge : Edge) (own : family_of edge ≡ ScalarSlack) (item : Item)
-    (valid : IsValidItem item) (source : Sourced edge item.body) where
+    (valid : IsValidItem item) (source : ScalarSlackSourced edge item.body) where
   facts : Bounded item.body
   facts = read source.bounded
 
@@ -146,7 +146,7 @@ module _ (edge : Edge) (own : family_of edge ≡ ScalarSlack) (item : Item)
       (ap (λ n. group_and_row item (group_at item (set_of item.body) n) [] (made item)) one)
       (slack_law edge item (made item) slack)
 
-pub rule : IsGroupRule ScalarSlack Sourced (λ edge. scalar_slack) 1
+pub rule : IsGroupRule ScalarSlack ScalarSlackSourced (λ edge. scalar_slack) 1
 rule = record {
   carry = λ item. backs.first_of;
   rule = scalar_slack_rule;

@@ -8,13 +8,13 @@ use Rattle.aff_core.specs.Address.{Address, child_of}
 use Rattle.item_core.specs.declared.item.Body.{Body}
 use Rattle.set_core.specs.Membership.{Dual, In, low_of}
 use Rattle.item_core.specs.declared.edge.Edge.{Edge}
-use Rattle.bridge_face.specs.Law.{EdgeLaw, LeadsTo, Miss, growth}
+use Rattle.bridge_face.specs.Law.{EdgeLaw, LeadsToKind, Miss, growth}
 use Rattle.item_core.specs.Valid.{FitsItsFunction, IsValidItem, NamesNothingBelow}
 use Rattle.aff_core.specs.Function.{Function, coefficient, evaluated, variable}
 use Rattle.item_core.specs.declared.item.Body.TheVariants.{Group}
 use Rattle.bridge_face.specs.GroupAndRowLaws.{GroupAndRow, group_and_row_law, left_over}
 use Rattle.dual_laws.specs.Held.{Holds, IsHeld, adjoint_of, gap_of}
-use Rattle.bridge_face.specs.OneRowLaws.{IsRow, row_held}
+use Rattle.bridge_face.specs.OneRowLaws.{IsRowBody, row_held}
 use Rattle.set_core.specs.Shapes.{IsSetOf}
 use Rattle.item_core.specs.declared.item.Item.{Item}
 use Rattle.ratio_core.specs.Rational.{Rational, neg_ℚ, zero_ℚ, ◌+ℚ◌, ◌-ℚ◌}
@@ -39,8 +39,8 @@ use Rattle.rational_laws.specs.Dot as numbers
 -- a row that stands for f - s = 0
 pub record IsSlack (edge : Edge) (item : Item) (child : Body) : Type 0 where
   pub item_valid : IsValidItem item
-  pub source : IsRow item.body
-  pub made : IsRow child
+  pub source : IsRowBody item.body
+  pub made : IsRowBody child
   pub functions :
       functions_of child
       ≡ differences (functions_of item.body) (variables (inner item (size item)))
@@ -52,8 +52,8 @@ pub record IsSlack (edge : Edge) (item : Item) (child : Body) : Type 0 where
   pub fits : IsSetOf (size item) (set_of child)
   pub back : (y : List Rational) → back_of edge item (y ∷ []) ≡ y
   pub no_growth : growth (family_of edge) ≡ 1
-  pub group_leads : LeadsTo edge (Group (set_of item.body) (inner item (size item)))
-  pub row_leads : LeadsTo edge child
+  pub group_leads : LeadsToKind edge (Group (set_of item.body) (inner item (size item)))
+  pub row_leads : LeadsToKind edge child
 
 -- lists whose differences are all 0
 same_from_differences : (u v : List Rational) → length u ≡ length v

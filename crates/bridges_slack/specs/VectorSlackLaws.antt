@@ -7,11 +7,11 @@ use Rattle.bridge_face.specs.BackOf.{back_by, first_of, size}
 use Rattle.item_core.specs.declared.item.Body.{Body}
 use Rattle.item_core.specs.declared.edge.Edge.TheVariants.{E27, E28, E29, E30}
 use Rattle.item_core.specs.declared.edge.Edge.{Edge}
-use Rattle.bridge_face.specs.Law.{LeadsTo, Miss, growth}
+use Rattle.bridge_face.specs.Law.{LeadsToKind, Miss, growth}
 use Rattle.bridge_face.specs.ImageOf.{differences, image_by, inner, inner_functions, vector_slack}
 use Rattle.item_core.specs.Valid.{IsValidItem}
 use Rattle.aff_core.specs.Function.{Function}
-use Rattle.bridge_face.specs.OneRowLaws.{IsRow}
+use Rattle.bridge_face.specs.OneRowLaws.{IsRowBody}
 use Rattle.item_core.specs.declared.item.Item.{Item}
 use Rattle.bridge_face.specs.FamilyLaws.{Rule, back_is, of_another}
 use Rattle.set_core.specs.declared.set.Set.TheVariants.{Nonnegatives, Nonpositives, NormInfinityCone, NormOneCone, Zeros}
@@ -37,13 +37,13 @@ made item =
     AffineVec (differences (functions_of item.body) (inner_functions item (size item)))
     (Zeros (size item))
 
-pub record Sourced (edge : Edge) (b : Body) : Type 0 where
+pub record VectorSlackSourced (edge : Edge) (b : Body) : Type 0 where
   pub cone : InCone b
-  leads : (vars : List Address) → LeadsTo edge (Group (set_of b) vars)
-  row_leads : (fs : List Function) (n : ℕ) → LeadsTo edge (AffineVec fs (Zeros n))
+  leads : (vars : List Address) → LeadsToKind edge (Group (set_of b) vars)
+  row_leads : (fs : List Function) (n : ℕ) → LeadsToKind edge (AffineVec fs (Zeros n))
 
 sourced : (edge : Edge) → family_of edge ≡ VectorSlack → {b : Body} → OfKind (source_of edge) b
-    → Sourced edge b
+    → VectorSlackSourced edge b
 unfolding edge_entry kind_of_body
 sourced E27 own vaffine_nonnegatives =
     record { cone = nonnegative; leads = λ vars. refl; row_leads = λ fs n. refl }
@@ -55,11 +55,11 @@ sourced E30 own vaffine_norm_one_cone =
     record { cone = norm_one; leads = λ vars. refl; row_leads = λ fs n. refl }
 sourced _ own k = of_another own refl
 
-vector_slack_rule : Rule VectorSlack Sourced (λ edge. vector_slack) (λ item. first_of)
+vector_slack_rule : Rule VectorSlack VectorSlackSourced (λ edge. vector_slack) (λ item. first_of)
 unfolding image_by back_by
 vector_slack_rule = record { image = λ edge item. refl; back = λ item ys. refl; sourced = sourced }
 
-row : {b : Body} → InCone b → IsRow b
+row : {b : Body} → InCone b → IsRowBody b
 row nonnegative = record { no_group = refl; no_objective = refl }
 row nonpositive = record { no_group = refl; no_objective = refl }
 row norm_infinity = record { no_group = refl; no_objective = refl }
@@ -73,7 +73,7 @@ pub absent : (item : Item) → IsValidItem item → InCone item.body
 absent item valid cone =
     misses_inner item.at (size item) (functions_of item.body) (valid.others (row cone).no_group)
 
-pub rule : IsGroupRule VectorSlack Sourced (λ edge. vector_slack) 1
+pub rule : IsGroupRule VectorSlack VectorSlackSourced (λ edge. vector_slack) 1
 rule = record {
   carry = λ item. first_of;
   rule = vector_slack_rule;

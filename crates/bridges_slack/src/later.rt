@@ -37,7 +37,7 @@ impl GroupRule for LaterRule {
 
     ghost family = { families.Later };
 
-    ghost source = { laws.Sourced };
+    ghost source = { laws.LaterSourced };
 
     ghost made = { images.later };
 

@@ -11,7 +11,7 @@ ghost use Rattle.aff_core.specs.Function.{coefficient, variable};
 ghost use Rattle.set_core.specs.declared.set.Set.TheVariants.{EqualTo};
 ghost use Rattle.item_core.specs.declared.item.Body.TheVariants.{Affine};
 ghost use Rattle.bridge_face.specs.Images.{difference, function_of_body};
-ghost use Rattle.bridges_slack.specs.ScalarSlackLaws.{IsBounded};
+ghost use Rattle.bridges_slack.specs.ScalarSlackLaws.{IsBoundedRow};
 
 use aff_core::Address;
 use bridge_face::{
@@ -38,7 +38,7 @@ impl GroupRule for ScalarSlackRule {
 
     ghost family = { families.ScalarSlack };
 
-    ghost source = { laws.Sourced };
+    ghost source = { laws.ScalarSlackSourced };
 
     ghost made = { λ edge. images.scalar_slack };
 
@@ -66,7 +66,7 @@ impl GroupRule for ScalarSlackRule {
 
 // The row that the function and the variable are equal.
 fn rest(body: &Body, var: &Address) -> Result<Body, Memory>
-    requires bounded { IsBounded body.now }
+    requires bounded { IsBoundedRow body.now }
     requires absent { coefficient (function_of_body body.now) var.now ≡ zero_ℚ }
     ensures { IfOk result (λ row. row
         ≡ Affine (difference (function_of_body body.now) (variable var.now)) (EqualTo zero_ℚ)) }

@@ -39,7 +39,7 @@ impl GroupRule for VectorSlackRule {
 
     ghost family = { families.VectorSlack };
 
-    ghost source = { laws.Sourced };
+    ghost source = { laws.VectorSlackSourced };
 
     ghost made = { λ edge. images.vector_slack };
 

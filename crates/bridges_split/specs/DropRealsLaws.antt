@@ -3,7 +3,7 @@ use Rattle.std.specs.Prelude.{All, List, [], refl, replicate, ℕ, ◌≡◌}
 use Rattle.std.proofs.lemmas.List.Elements.{All-nil, All-replicate}
 use Rattle.std.proofs.Common.{ap, ap₂, subst, sym, ◌∙◌}
 use Rattle.std.proofs.lemmas.List.{length-replicate}
-use Rattle.rational_laws.specs.Field.{ -ℚ-itself}
+use Rattle.rational_laws.specs.Field.{-ℚ-itself}
 use Rattle.aff_core.specs.Address.{Address}
 use Rattle.item_core.specs.declared.item.Body.TheVariants.{AffineVec, PlainVec}
 use Rattle.bridge_face.specs.BackOf.{back_by, size}
@@ -17,7 +17,7 @@ use Rattle.bridge_face.specs.ImageOf.{image_by}
 use Rattle.item_core.specs.Valid.{IsValidItem}
 use Rattle.aff_core.specs.Function.{Function}
 use Rattle.dual_laws.specs.Held.{IsHeld, adjoint_of, gap_of}
-use Rattle.bridge_face.specs.OneRowLaws.{IsRow, row_held}
+use Rattle.bridge_face.specs.OneRowLaws.{IsRowBody, row_held}
 use Rattle.bridge_face.specs.RowsLaws.{IsRowOf, MadeOfRows, rows_law}
 use Rattle.item_core.specs.declared.item.Item.{Item}
 use Rattle.bridge_face.specs.FamilyLaws.{Rule, back_is, lawful_by, of_another}
@@ -51,7 +51,7 @@ rule = record { image = λ edge item. refl; back = λ item ys. refl; sourced = i
 
 -- what is read of it
 record Any (b : Body) : Type 0 where
-  row : IsRow b
+  row : IsRowBody b
   count : ℕ
   set : set_of b ≡ Reals count
 

@@ -42,11 +42,11 @@ use Rattle.rational_laws.specs.Order.{≤ℚ_antisymm, ≤ℚ_from_nonneg}
 use Rattle.rational_laws.specs.Dot as numbers
 
 -- a group of variables without bounds; the edge makes a group of its kind from it
-abbrev pub Sourced : Edge → Body → Type 0
-Sourced = GroupSourced Reals
+abbrev pub FreeVarSourced : Edge → Body → Type 0
+FreeVarSourced = GroupSourced Reals
 
 sourced : (edge : Edge) → family_of edge ≡ FreeVar → {b : Body} → OfKind (source_of edge) b
-    → Sourced edge b
+    → FreeVarSourced edge b
 unfolding edge_entry kind_of_body
 sourced E43 own (group_reals {vars} {n}) =
     record { count = n; set = refl; group = refl; leads = λ n vars. refl }
@@ -244,7 +244,7 @@ image_made item d both vars exprs group d_is both_is vars_are exprs_are group_is
     (size item + size item) ∷ []) es) (sym (halved_are (child_of item.at 0) (size item)))
 
 module _ (edge : Edge) (own : family_of edge ≡ FreeVar) where
-  module _ (item : Item) (valid : IsValidItem item) (free : Sourced edge item.body) where
+  module _ (item : Item) (valid : IsValidItem item) (free : FreeVarSourced edge item.body) where
     abbrev d : ℕ
     d = size item
 
@@ -296,7 +296,7 @@ module _ (edge : Edge) (own : family_of edge ≡ FreeVar) where
         (bridged fs))) (sym (split_is at d))
         (one_group_law edge item (Nonnegatives (d + d)) (d + d) (split at d) one_group)
 
-pub rule : IsGroupRule FreeVar Sourced (λ edge. free_var) 0
+pub rule : IsGroupRule FreeVar FreeVarSourced (λ edge. free_var) 0
 unfolding image_by back_by
 rule = record {
   carry = λ item ys. [];

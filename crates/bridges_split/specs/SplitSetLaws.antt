@@ -13,12 +13,12 @@ use Rattle.set_core.specs.Membership.{Dual, In, low_of}
 use Rattle.dual_laws.specs.Held.{DualsHold, DualRow, Holds, IsHeld, adjoint, adjoint_of, gap, gap_of}
 use Rattle.item_core.specs.declared.edge.Edge.TheVariants.{E11, E12, E13, E14}
 use Rattle.item_core.specs.declared.edge.Edge.{Edge}
-use Rattle.bridge_face.specs.Law.{IsLawful, LeadsTo, Miss, growth, IsItemFor}
+use Rattle.bridge_face.specs.Law.{IsLawful, LeadsToKind, Miss, growth, IsItemFor}
 use Rattle.set_core.specs.declared.set.Set.TheVariants.{EqualTo, GreaterThan, Interval, LessThan, Nonnegatives, Nonpositives, Zeros}
 use Rattle.bridge_face.specs.ImageOf.{image_by}
 use Rattle.item_core.specs.Valid.{FitsItsFunction, IsValidItem, NamesNothingBelow}
 use Rattle.aff_core.specs.Function.{Function, coefficient}
-use Rattle.bridge_face.specs.OneRowLaws.{IsRow, row, row_held}
+use Rattle.bridge_face.specs.OneRowLaws.{IsRowBody, row, row_held}
 use Rattle.bridge_face.specs.RowsLaws.{IsRowOf, MadeOfRows, rows_held, rows_law}
 use Rattle.set_core.specs.Shapes.{IsSetOf}
 use Rattle.item_core.specs.declared.item.Item.{Item}
@@ -43,15 +43,15 @@ use Rattle.set_core.specs.Mirrored.{multiplied}
 use Rattle.set_core.specs.ShapeLaws.{in_order}
 use Rattle.set_laws.specs.Least.{single₂}
 use Rattle.rational_laws.specs.Order.{≤ℚ-*ℚ, ≤ℚ-*ℚ_nonpos, ≤ℚ-+ℚ_left, ≤ℚ-+ℚ_right, ≤ℚ_antisymm, ≤ℚ_from_≡}
-use Rattle.bridge_face.specs.State.{TakesDuals}
+use Rattle.bridge_face.specs.BridgeState.{TakesDuals}
 use Rattle.bridge_face.specs.Sources as kinds
 
 -- a row in a set that two others have in common
-pub data IsSplit : Body → Type 0 where
-  affine_interval : {f : Function} {l u : Rational} → IsSplit (Affine f (Interval l u))
-  plain_interval : {v : Address} {l u : Rational} → IsSplit (Plain v (Interval l u))
-  affine_equal : {f : Function} {a : Rational} → IsSplit (Affine f (EqualTo a))
-  affine_zeros : {fs : List Function} {n : ℕ} → IsSplit (AffineVec fs (Zeros n))
+pub data IsSplitRow : Body → Type 0 where
+  affine_interval : {f : Function} {l u : Rational} → IsSplitRow (Affine f (Interval l u))
+  plain_interval : {v : Address} {l u : Rational} → IsSplitRow (Plain v (Interval l u))
+  affine_equal : {f : Function} {a : Rational} → IsSplitRow (Affine f (EqualTo a))
+  affine_zeros : {fs : List Function} {n : ℕ} → IsSplitRow (AffineVec fs (Zeros n))
 
 -- such a set
 pub data IsSplitSet : Set → Type 0 where
@@ -59,7 +59,7 @@ pub data IsSplitSet : Set → Type 0 where
   an_equal : {a : Rational} → IsSplitSet (EqualTo a)
   some_zeros : {n : ℕ} → IsSplitSet (Zeros n)
 
-pub is_split_set : {b : Body} → IsSplit b → IsSplitSet (set_of b)
+pub is_split_set : {b : Body} → IsSplitRow b → IsSplitSet (set_of b)
 is_split_set affine_interval = an_interval
 is_split_set plain_interval = an_interval
 is_split_set affine_equal = an_equal
@@ -72,13 +72,13 @@ lower b = with_set b (lower_part (set_of b))
 abbrev pub upper : Body → Body
 upper b = with_set b (upper_part (set_of b))
 
-pub record Sourced (edge : Edge) (b : Body) : Type 0 where
-  pub split : IsSplit b
-  pub lower_leads : LeadsTo edge (lower b)
-  pub upper_leads : LeadsTo edge (upper b)
+pub record SplitSetSourced (edge : Edge) (b : Body) : Type 0 where
+  pub split : IsSplitRow b
+  pub lower_leads : LeadsToKind edge (lower b)
+  pub upper_leads : LeadsToKind edge (upper b)
 
 sourced : (edge : Edge) → family_of edge ≡ SplitSet → {b : Body} → OfKind (source_of edge) b
-    → Sourced edge b
+    → SplitSetSourced edge b
 unfolding edge_entry kind_of_body
 sourced E11 own kinds.affine_interval =
     record { split = affine_interval; lower_leads = refl; upper_leads = refl }
@@ -90,7 +90,7 @@ sourced E14 own vaffine_zeros =
     record { split = affine_zeros; lower_leads = refl; upper_leads = refl }
 sourced _ own k = of_another own refl
 
-pub rule : Rule SplitSet Sourced
+pub rule : Rule SplitSet SplitSetSourced
     (λ edge item. rows_at item (lower item.body ∷ upper item.body ∷ []))
     (λ item ys. plus (backs.first_of ys) (backs.second_of ys))
 unfolding image_by back_by
@@ -170,24 +170,24 @@ zeros_split n m fits = record {
 
 -- the row in one of the two sets
 record IsPart (b : Body) (part : Set) : Type 0 where
-  row : IsRow (with_set b part)
+  row : IsRowBody (with_set b part)
   shaped : FitsItsFunction (with_set b part)
   same : functions_of (with_set b part) ≡ functions_of b
   set : set_of (with_set b part) ≡ part
 
 record Parted (b : Body) : Type 0 where
-  source : IsRow b
+  source : IsRowBody b
   lower : IsPart b (lower_part (set_of b))
   upper : IsPart b (upper_part (set_of b))
   splits : Splits (length (functions_of b)) (set_of b) (lower_part (set_of b))
       (upper_part (set_of b))
 
-part : {b : Body} {part : Set} → IsRow (with_set b part) → FitsItsFunction (with_set b part)
+part : {b : Body} {part : Set} → IsRowBody (with_set b part) → FitsItsFunction (with_set b part)
     → functions_of (with_set b part) ≡ functions_of b → set_of (with_set b part) ≡ part
     → IsPart b part
 part row shaped same set = record { row = row; shaped = shaped; same = same; set = set }
 
-parted : {b : Body} → IsSplit b → IsSetOf (length (functions_of b)) (set_of b) → Parted b
+parted : {b : Body} → IsSplitRow b → IsSetOf (length (functions_of b)) (set_of b) → Parted b
 parted (affine_interval {f} {l} {u}) fits = record {
   source = row refl refl;
   lower = part (row refl refl) refl refl refl;
@@ -255,7 +255,7 @@ module _ (edge : Edge) (own : family_of edge ≡ SplitSet) where
 
     -- one of the two rows
     row_of : (part : Set) → IsPart item.body part → IsSetOf (length fs) part
-        → LeadsTo edge (with_set item.body part) → IsRowOf edge item (with_set item.body part)
+        → LeadsToKind edge (with_set item.body part) → IsRowOf edge item (with_set item.body part)
     row_of part is fits leads = record {
       made = is.row;
       shaped = is.shaped;
@@ -352,7 +352,7 @@ module _ (edge : Edge) (own : family_of edge ≡ SplitSet) where
     of_two P h (u ∷ (w ∷ [])) e = h u w
     of_two P h (u ∷ (w ∷ (z ∷ zs))) e = absurd (omega (arith, e))
 
-    two_rows : LeadsTo edge (lower item.body) → LeadsTo edge (upper item.body)
+    two_rows : LeadsToKind edge (lower item.body) → LeadsToKind edge (upper item.body)
         → MadeOfRows edge item bodies
     two_rows lower_leads upper_leads = record {
       source = p.source;

@@ -6,7 +6,7 @@ use Rattle.std.proofs.lemmas.List.{length-map}
 use Rattle.rational_laws.specs.Field.{*ℚ-zero, -ℚ-itself}
 use Rattle.aff_core.specs.Address.{Address, address_cmp}
 use Rattle.bridge_face.specs.ChildDualLaws.{carries_duals}
-use Rattle.bridge_face.specs.Law.{Balances, ChildDuals, EdgeLaw, GrowsBy, HasComponents, IsCovered, IsLawful, IsValidWithin, LeadsTo, MentionsKnown, Miss, expressed, growth, held_item}
+use Rattle.bridge_face.specs.Law.{Balances, ChildDuals, EdgeLaw, GrowsBy, HasComponents, IsCovered, IsLawful, IsValidWithin, LeadsToKind, MentionsKnown, Miss, expressed, growth, held_item}
 use Rattle.item_core.specs.declared.item.Body.{Body}
 use Rattle.item_core.specs.declared.image.Expression.TheVariants.{Bridged}
 use Rattle.item_core.specs.declared.edge.Edge.TheVariants.{E45}
@@ -139,7 +139,7 @@ module _ (edge : Edge) (item : Item) (valid : IsValidItem item) (at_zero : AtZer
     positions = refl;
     valid = λ room. All-nil IsValidWithin;
     sizes = All-nil (GrowsBy (growth (family_of edge)) item);
-    kinds = All-nil (λ child. LeadsTo edge child.body);
+    kinds = All-nil (λ child. LeadsToKind edge child.body);
     components = All-nil HasComponents;
     mentioned = All-nil (MentionsKnown item image);
     exprs = λ _. length-map fs Bridged ∙ long;

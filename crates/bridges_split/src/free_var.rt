@@ -32,7 +32,7 @@ impl GroupRule for FreeVarRule {
 
     ghost family = { families.FreeVar };
 
-    ghost source = { laws.Sourced };
+    ghost source = { laws.FreeVarSourced };
 
     ghost made = { λ edge. images.free_var };
 

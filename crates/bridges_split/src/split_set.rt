@@ -9,7 +9,7 @@
 ghost use Rattle.std.specs.Prelude.{◌≡◌, IfOk};
 ghost use Rattle.item_core.specs.Item as items;
 ghost use Rattle.bridge_face.specs.Images as images;
-ghost use Rattle.bridges_split.specs.SplitSetLaws.{IsSplit, IsSplitSet};
+ghost use Rattle.bridges_split.specs.SplitSetLaws.{IsSplitRow, IsSplitSet};
 
 use bridge_face::{ChildRows, KeptItem, KeptItems, Rewriting, place_sums, rows_image};
 use item_core::{Body, Edge, Family, Image, Item};
@@ -62,7 +62,7 @@ impl Rewriting for SplitSetRule {
 
 // The set of the row.
 fn set_of(body: &Body) -> &Set
-    requires { IsSplit body.now }
+    requires { IsSplitRow body.now }
     ensures { result.now ≡ items.set_of body.now }
 {
     match body {
@@ -73,7 +73,7 @@ fn set_of(body: &Body) -> &Set
 
 // The row in another set.
 fn with_set(body: &Body, set: Set) -> Result<Body, Memory>
-    requires { IsSplit body.now }
+    requires { IsSplitRow body.now }
     ensures { IfOk result (λ row. row ≡ images.with_set body.now set) }
 {
     match body {

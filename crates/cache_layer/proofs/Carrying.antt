@@ -6,7 +6,7 @@ use Rattle.std.specs.Option.{option_map}
 use Rattle.std.proofs.Common.{ap, arith, get_or, inl, inr, subst, sym, true≢false, ◌∙◌}
 use Rattle.std.proofs.lemmas.List.Elements.{All-append, All-cons, All-head, All-map, All-nil, All-tail}
 use Rattle.adjoint_core.specs.CanCarry.{CanCarry, HasItsDuals, HasLeafDuals}
-use Rattle.adjoint_core.specs.CarriedBack.{CarriesBack, IsFirstUnfit, UnfitGap, UnfitRow, cancelled, group_place, placed, users}
+use Rattle.adjoint_core.specs.CarriedBack.{CarriesAnswerBack, IsFirstUnfitAddress, UnfitGap, UnfitRow, cancelled, group_place, placed, users}
 use Rattle.adjoint_core.specs.Told.{FirstNot}
 use Rattle.adjoint_core.specs.Walk.{row_place}
 use Rattle.adjoint_core.specs.declared.fault.BackFault.{BackFault}
@@ -15,7 +15,7 @@ use Rattle.address_map.specs.AddressMap.{AddressMap}
 use Rattle.aff_core.specs.Address.{Address, address_eq, address_eq-Decides}
 use Rattle.bridge_set.specs.Bridges.{families_of, means_of}
 use Rattle.bridge_set.specs.Nodes.{nodes_by}
-use Rattle.bridge_face.specs.State.{State}
+use Rattle.bridge_face.specs.BridgeState.{BridgeState}
 use Rattle.bridge_plan.specs.Means.{AreSound}
 use Rattle.bridged_report.specs.Places.{place_at}
 use Rattle.cache_layer.proofs.PlaceLemmas.{IsTold, groups_told, objective_told, rows_told}
@@ -24,9 +24,9 @@ use Rattle.cert_core.specs.Folds.{gap_parts_of}
 use Rattle.certificates.specs.Good.{Good}
 use Rattle.certificates.specs.Points.{address_of}
 use Rattle.certificates.specs.declared.certificate.Certificate.{Certificate}
-use Rattle.dual_laws.specs.Held.{DualRow}
-use Rattle.equality_form.specs.ReadBack.{Answer, infeasible, optimal, unbounded}
-use Rattle.equality_form.specs.Right.{AreDuals, HasDuals, IsRight, held}
+use Rattle.dual_laws.specs.Held.{DualRow, HasDuals}
+use Rattle.equality_form.specs.ReadBack.{AnswerByAddress, infeasible, optimal, unbounded}
+use Rattle.equality_form.specs.Right.{AreLeafDuals, IsRight, held}
 use Rattle.expansion.specs.Bridged.{EachBridgedIn, each_in, none_in}
 use Rattle.expansion.specs.Rules.{Rules}
 use Rattle.map_laws.specs.EachLaws.{all_from_map}
@@ -45,7 +45,7 @@ use Rattle.report_core.specs.declared.refused.Place.TheVariants as place
 use Rattle.std.specs.FinMap as finite
 use Rattle.solver_store.specs.declared.answer.LeafAnswer.{LeafAnswer}
 use Rattle.std_form.specs.Answers.{answer_of}
-use Rattle.tree_laws.specs.Carried.{LeafDuals}
+use Rattle.tree_laws.specs.Carried.{LeafAnswerDuals}
 use Rattle.tree_laws.specs.Certificate.{infeasible_duals, rows_of}
 use Rattle.user_model.specs.Model.{ModelValue, variable_address, variables}
 use Rattle.user_model.specs.Valid.{IsValid}
@@ -54,11 +54,11 @@ use Rattle.user_model.specs.declared.group.GroupVar.{GroupVar}
 -- ---- a right answer has its duals
 
 has_duals : (leaves : LeafModel) (costs : Address → Rational) (y : Address → List Rational)
-    → AreDuals leaves costs y → HasLeafDuals leaves y
+    → AreLeafDuals leaves costs y → HasLeafDuals leaves y
 has_duals leaves costs y h = λ k d within.
     (all_from_map HasDuals (held y) (finite.entries leaves.rows) h.duals k d within).size
 
-its_duals : (leaves : LeafModel) (answer : Answer) → IsRight leaves answer
+its_duals : (leaves : LeafModel) (answer : AnswerByAddress) → IsRight leaves answer
     → HasItsDuals leaves answer
 its_duals leaves (optimal x y) right = has_duals leaves _ y right.duals
 its_duals leaves (infeasible y) right = has_duals leaves _ y right.duals
@@ -66,8 +66,8 @@ its_duals leaves (unbounded x d) right = tt
 
 -- ---- and the bridging that stands carries it back
 
-pub can_carry : (lazy : Owned) (model : ModelValue) (states : List State) (places : AddressMap)
-    (answer : Answer) → states ≡ lazy.bridges.states → places ≡ lazy.map
+pub can_carry : (lazy : Owned) (model : ModelValue) (states : List BridgeState) (places : AddressMap)
+    (answer : AnswerByAddress) → states ≡ lazy.bridges.states → places ≡ lazy.map
     → AreSound (means_of lazy.bridges) → IsTrue (supports_native lazy.bridges.table)
     → IsBridgingOf lazy model → IsRight (leaf_model_in lazy) answer
     → CanCarry states places model answer
@@ -79,7 +79,7 @@ can_carry lazy model states places answer same there sound native stands right =
   native = supported (setting_in lazy) native;
   bridging = stands.bridging;
   kept =
-      subst (All (λ (bridge : State). bridge.kept ≡ nodes_by stands.bridging bridge.family)) (sym same)
+      subst (All (λ (bridge : BridgeState). bridge.kept ≡ nodes_by stands.bridging bridge.family)) (sym same)
       stands.kept;
   exprs = ap (λ (m : AddressMap). m.exprs) there ∙ stands.exprs;
   duals =
@@ -88,7 +88,7 @@ can_carry lazy model states places answer same there sound native stands right =
 }
 
 -- so does a map and a list of bridges that are the bridging's, of an answer by index
-module _ (lazy : Owned) (model : ModelValue) (states : List State) (places : AddressMap)
+module _ (lazy : Owned) (model : ModelValue) (states : List BridgeState) (places : AddressMap)
     (a : LeafAnswer) (same : states ≡ lazy.bridges.states) (there : places ≡ lazy.map)
     (sound : AreSound (means_of lazy.bridges)) (native : IsTrue (supports_native lazy.bridges.table))
     (stands : IsBridgingOf lazy model)
@@ -104,11 +104,11 @@ module _ (lazy : Owned) (model : ModelValue) (states : List State) (places : Add
 
   pub carried_here : (result : Result Certificate BackFault)
       → ((can : CanCarry states places model (answer_of places a))
-      → CarriesBack can.bridging (answer_of places a) result)
-      → CarriesBack stands.bridging (answer_of lazy.map a) result
+      → CarriesAnswerBack can.bridging (answer_of places a) result)
+      → CarriesAnswerBack stands.bridging (answer_of lazy.map a) result
   unfolding can_here can_carry
   carried_here result carried =
-      subst (λ (m : AddressMap). CarriesBack stands.bridging (answer_of m a) result) there
+      subst (λ (m : AddressMap). CarriesAnswerBack stands.bridging (answer_of m a) result) there
       (carried can_here)
 
   pub good_here : (result : Result Certificate BackFault)
@@ -184,7 +184,7 @@ module _ (P : Address → Type 0) where
       (All-head (λ x. P (place x)) x xs all)
       (all_firsts place xs ys (All-tail (λ x. P (place x)) x xs all))
 
-module _ (P : Address → Type 0) {rules : Rules Item Entry} (d : LeafDuals) where
+module _ (P : Address → Type 0) {rules : Rules Item Entry} (d : LeafAnswerDuals) where
   unfit_row : (n : ℕ) {inner : List Entry} {items : List Item}
       (trees : EachBridgedIn rules inner items) (at : Address)
       → All (λ (item : Item). P item.at) items → UnfitRow d n trees at → P at
@@ -216,7 +216,8 @@ module _ {setting : Setting} (model : ModelValue) (valid : IsValid model)
       (all_firsts HasPlace row_place model.rows _ (rows_told model valid))
       (all_firsts HasPlace group_place model.groups _ (groups_told model valid))
 
-  row_told : (d : LeafDuals) (at : Address) → UnfitRow d (length model.rows) bridging.made.others at
+  row_told : (d : LeafAnswerDuals) (at : Address)
+      → UnfitRow d (length model.rows) bridging.made.others at
       → HasPlace at
   row_told d at u = unfit_row HasPlace d (length model.rows) bridging.made.others at others_told u
 
@@ -224,7 +225,8 @@ module _ {setting : Setting} (model : ModelValue) (valid : IsValid model)
       → HasPlace at
   user_told Q at u = first_not HasPlace Q (λ v. v) (users model) at (users_told model) u
 
-  unfit_told : (answer : Answer) (at : Address) → IsFirstUnfit bridging answer at → HasPlace at
+  unfit_told : (answer : AnswerByAddress) (at : Address) → IsFirstUnfitAddress bridging answer at
+      → HasPlace at
   unfit_told (optimal x y) at (inl u) = user_told _ at u
   unfit_told (optimal x y) at (inr (_, inl u)) = row_told _ at u
   unfit_told (optimal x y) at (inr (_, inr (_, inl u))) = user_told _ at u
@@ -237,7 +239,8 @@ module _ {setting : Setting} (model : ModelValue) (valid : IsValid model)
       unfit_part HasPlace (placed model rows vars) zero_ℚ at (placed_told rows vars) u
   unfit_told (unbounded x d) at u = user_told _ at u
 
-  pub can_tell : (answer : Answer) (fault : BackFault) → CarriesBack bridging answer (Err fault)
+  pub can_tell : (answer : AnswerByAddress) (fault : BackFault)
+      → CarriesAnswerBack bridging answer (Err fault)
       → CanTell model fault
   can_tell answer (back.Overflow at) is = unfit_told answer at is
   can_tell answer back.Memory is = tt

@@ -20,7 +20,7 @@ use Rattle.std.specs.Ordering.{nat_cmp}
 use Rattle.std.specs.Option.{option_map_or}
 use Rattle.model_bridging.specs.declared.fault.PushFault.{PushFault}
 use Rattle.model_bridging.specs.declared.fault.PushFault.TheVariants as push
-use Rattle.model_store.specs.Store.{Stored}
+use Rattle.model_store.specs.Store.{StoredModel}
 use Rattle.report_core.specs.declared.refused.Place.{Place}
 use Rattle.user_model.specs.Edited.{edited}
 use Rattle.user_model.specs.Model.{ModelValue}
@@ -28,9 +28,9 @@ use Rattle.user_model.specs.Refusals.{first_refusal}
 use Rattle.user_model.specs.declared.edit.Edit.{Edit}
 use Rattle.cache_layer.specs.Answers.{Becomes, IsAttached, IsEdited}
 use Rattle.cache_layer.specs.Bridging.{IsBridgedInNames, IsFaultOf, IsPlaceToldAs, IsToldAs, state_by, stays}
-use Rattle.cache_layer.specs.Cached.{Cached, IsInStep, Stands, cached, state_of}
+use Rattle.cache_layer.specs.Cached.{Cached, IsCacheInStep, StandsAttached, cached, state_of}
 use Rattle.cache_layer.specs.Faults.{attach_fault, bridge_fault}
-use Rattle.cache_layer.specs.State.{Bridging, Changes, State, leaves}
+use Rattle.cache_layer.specs.CacheState.{Bridging, CacheState, ChangesLeaves, leaves}
 use Rattle.cache_layer.specs.declared.fault.AttachFault.{AttachFault}
 use Rattle.cache_layer.specs.declared.fault.AttachFault.TheVariants as attach
 use Rattle.cache_layer.specs.declared.fault.BridgeFault.{BridgeFault}
@@ -116,16 +116,16 @@ IsBridging model leaves setting =
     × (leaves ≡ leaves_of bridging)
 
 -- by the setting of a state, which is that of the bridging
-standing : (lazy : Owned) (s : State) → IsBridgingOf lazy s.model → setting_in lazy ≡ s.setting
+standing : (lazy : Owned) (s : CacheState) → IsBridgingOf lazy s.model → setting_in lazy ≡ s.setting
     → (b : Bridging s) × (leaf_model_in lazy ≡ leaves b)
 standing lazy s h e =
     let along = subst (IsBridging s.model (leaf_model_in lazy)) e (h.bridging, h.made, h.leaves) in
     (record { bridging = along.0; made = along.1 }, along.2)
 
-changed : (old new : Owned) (before after : State) (n : ℕ) → IsBridgingOf old before.model
+changed : (old new : Owned) (before after : CacheState) (n : ℕ) → IsBridgingOf old before.model
     → setting_in old ≡ before.setting → IsBridgingOf new after.model
     → setting_in new ≡ after.setting → Counts (leaf_model_in old) (leaf_model_in new) n
-    → Changes before after n
+    → ChangesLeaves before after n
 changed old new before after n stands is stands_after is_after counts =
     let b = standing old before stands is in
     let a = standing new after stands_after is_after in
@@ -139,19 +139,19 @@ changed old new before after n stands is stands_after is_after counts =
 
 -- ---- another table, or another model
 
-abbrev state_with : ModelValue → Setting → Bool → State
+abbrev state_with : ModelValue → Setting → Bool → CacheState
 state_with model setting attached =
     record { model = model; setting = setting; attached = attached }
 
-same_state : (user new_user : Stored) (old new : Owned) (attached : Bool) → new_user ≡ user
+same_state : (user new_user : StoredModel) (old new : Owned) (attached : Bool) → new_user ≡ user
     → setting_in new ≡ setting_in old
     → state_of (cached new_user new attached) ≡ state_of (cached user old attached)
 same_state user new_user old new attached e s =
-    ap (λ (u : Stored). state_with u.model (setting_in new) attached) e
+    ap (λ (u : StoredModel). state_with u.model (setting_in new) attached) e
     ∙ ap (λ t. state_with user.model t attached) s
 
 -- whatever a bridging refuses leaves the model and the table as they were
-pub unbridged : (user new_user : Stored) (old new : Owned) (table : Table) (model : ModelValue)
+pub unbridged : (user new_user : StoredModel) (old new : Owned) (table : Table) (model : ModelValue)
     (fault : BridgeFault) → new_user ≡ user → IsBridgedInNames old table model (Err fault) new
     → Becomes (state_of (cached user old true)) (state_by old table model)
     (Err (bridge_fault fault))
@@ -163,24 +163,24 @@ unbridged user new_user old new table model (bridge.Overflow place) e h =
 unbridged user new_user old new table model bridge.Memory e h =
     same_state user new_user old new false e h.1
 
-pub in_step_still : (user new_user : Stored) (old new : Owned) (table : Table) (model : ModelValue)
+pub in_step_still : (user new_user : StoredModel) (old new : Owned) (table : Table) (model : ModelValue)
     (fault : BridgeFault) → new_user ≡ user → IsBridgedInNames old table model (Err fault) new
     → IsBridgingOf old user.model → user.parked ≡ []
-    → IsInStep (cached new_user new (stays (Err (bridge_fault fault))))
+    → IsCacheInStep (cached new_user new (stays (Err (bridge_fault fault))))
 in_step_still user new_user old new table model fault e h stands settled = record {
   stands =
-      subst (λ (s : Stored). Stands (stays (Err (bridge_fault fault))) new s.model) (sym e)
+      subst (λ (s : StoredModel). StandsAttached (stays (Err (bridge_fault fault))) new s.model) (sym e)
       (by fault h);
-  settled = ap (λ (s : Stored). s.parked) e ∙ settled;
+  settled = ap (λ (s : StoredModel). s.parked) e ∙ settled;
 }
   where
     by : (fault : BridgeFault) → IsBridgedInNames old table model (Err fault) new
-        → Stands (stays (Err (bridge_fault fault))) new user.model
+        → StandsAttached (stays (Err (bridge_fault fault))) new user.model
     by (bridge.Unsupported kind) h = still_bridging old new user.model h.1 stands
     by (bridge.Overflow place) h = still_bridging old new user.model h.1 stands
     by bridge.Memory h = h.0
 
-pub bridged : (user new_user : Stored) (old new : Owned) (table : Table) (model : ModelValue)
+pub bridged : (user new_user : StoredModel) (old new : Owned) (table : Table) (model : ModelValue)
     (n : ℕ) → new_user.model ≡ model → IsBridgingOf old user.model
     → IsBridgedBy old table model (Ok n) new
     → Becomes (state_of (cached user old true)) (state_by old table model) (Ok (Some n))
@@ -194,7 +194,7 @@ bridged user new_user old new table model n e stands h = (
 
 -- ---- an edit
 
-pub edit_unbridged : (user new_user : Stored) (old new : Owned) (edit : Edit) (model : ModelValue)
+pub edit_unbridged : (user new_user : StoredModel) (old new : Owned) (edit : Edit) (model : ModelValue)
     (fault : BridgeFault) → first_refusal user.model edit ≡ None → model ≡ edited user.model edit
     → new_user ≡ user → IsBridgedInNames old old.bridges.table model (Err fault) new
     → IsEdited (state_of (cached user old true)) edit (Err (bridge_fault fault))
@@ -214,7 +214,7 @@ edit_unbridged user new_user old new edit model fault accepted after e h =
     by (bridge.Overflow place) h = (accepted, h)
     by bridge.Memory h = h
 
-pub edit_bridged : (user new_user : Stored) (old new : Owned) (edit : Edit) (model : ModelValue)
+pub edit_bridged : (user new_user : StoredModel) (old new : Owned) (edit : Edit) (model : ModelValue)
     (n : ℕ) → first_refusal user.model edit ≡ None → model ≡ edited user.model edit
     → new_user.model ≡ model → IsBridgingOf old user.model
     → IsBridgedBy old old.bridges.table model (Ok n) new
@@ -261,7 +261,7 @@ empty_leaves lazy h =
       objective = finite.empty;
     }))
 
-pub attached_to : (user : Stored) (old new : Owned) (n : ℕ) → HoldsNothing old
+pub attached_to : (user : StoredModel) (old new : Owned) (n : ℕ) → HoldsNothing old
     → IsBridgedBy old old.bridges.table user.model (Ok n) new
     → IsAttached (state_of (cached user old false)) (Ok n) (state_of (cached user new true))
 attached_to user old new n nothing h =
@@ -276,7 +276,7 @@ attached_to user old new n nothing h =
       ap (λ s. state_with user.model s true) h.1,
     )
 
-pub unattached : (user : Stored) (old new : Owned) (fault : BridgeFault)
+pub unattached : (user : StoredModel) (old new : Owned) (fault : BridgeFault)
     → IsBridgedInNames old old.bridges.table user.model (Err fault) new
     → IsAttached (state_of (cached user old false)) (Err (attach_fault fault))
     (state_of (cached user new false))
@@ -289,7 +289,7 @@ unattached user old new (bridge.Overflow place) h = (
 )
 unattached user old new bridge.Memory h = (refl, same_state user user old new false refl h.1)
 
-pub still_detached : (user : Stored) (old new : Owned) (fault : BridgeFault)
+pub still_detached : (user : StoredModel) (old new : Owned) (fault : BridgeFault)
     → IsBridgedInNames old old.bridges.table user.model (Err fault) new → HoldsNothing old
     → HoldsNothing new
 still_detached user old new (bridge.Unsupported kind) h nothing = nothing_tried old new h.1 nothing
@@ -298,7 +298,7 @@ still_detached user old new bridge.Memory h nothing = h.0
 
 -- ---- by the answer that is given
 
-pub table_answer : (user new_user : Stored) (old new : Owned) (table : Table) (model : ModelValue)
+pub table_answer : (user new_user : StoredModel) (old new : Owned) (table : Table) (model : ModelValue)
     (fault : BridgeFault) (given : EditFault) → given ≡ bridge_fault fault → new_user ≡ user
     → IsBridgedInNames old table model (Err fault) new
     → Becomes (state_of (cached user old true)) (state_by old table model) (Err given)
@@ -308,7 +308,7 @@ table_answer user new_user old new table model fault given is e h =
     (state_of (cached new_user new (stays (Err r))))) (sym is)
     (unbridged user new_user old new table model fault e h)
 
-pub edit_answer : (user new_user : Stored) (old new : Owned) (edit : Edit) (model : ModelValue)
+pub edit_answer : (user new_user : StoredModel) (old new : Owned) (edit : Edit) (model : ModelValue)
     (fault : BridgeFault) (given : EditFault) → given ≡ bridge_fault fault
     → first_refusal user.model edit ≡ None → model ≡ edited user.model edit → new_user ≡ user
     → IsBridgedInNames old old.bridges.table model (Err fault) new
@@ -319,12 +319,12 @@ edit_answer user new_user old new edit model fault given is accepted after e h =
     (state_of (cached new_user new (stays (Err r))))) (sym is)
     (edit_unbridged user new_user old new edit model fault accepted after e h)
 
-pub step_answer : (user new_user : Stored) (old new : Owned) (table : Table) (model : ModelValue)
+pub step_answer : (user new_user : StoredModel) (old new : Owned) (table : Table) (model : ModelValue)
     (fault : BridgeFault) (given : EditFault) → given ≡ bridge_fault fault → new_user ≡ user
     → IsBridgedInNames old table model (Err fault) new → IsBridgingOf old user.model
-    → user.parked ≡ [] → IsInStep (cached new_user new (stays (Err given)))
+    → user.parked ≡ [] → IsCacheInStep (cached new_user new (stays (Err given)))
 step_answer user new_user old new table model fault given is e h stands settled =
-    subst (λ r. IsInStep (cached new_user new (stays (Err r)))) (sym is)
+    subst (λ r. IsCacheInStep (cached new_user new (stays (Err r)))) (sym is)
     (in_step_still user new_user old new table model fault e h stands settled)
 
 -- ---- a cache to which a solver is to be attached
@@ -334,7 +334,7 @@ pub by_fault : {A E : Type 0} (r : Result A E) (fault : E) (Q : Result A E → T
 by_fault (Ok a) fault Q h q = absurd h
 by_fault (Err e) fault Q h q = subst (λ x. Q (Err x)) (sym h) q
 
-pub attach_answer : (cache : Cached) (user : Stored) (old new : Owned) (attached : Bool)
+pub attach_answer : (cache : Cached) (user : StoredModel) (old new : Owned) (attached : Bool)
     (fault : BridgeFault) (r : Result ℕ AttachFault) → cached user old attached ≡ cache
     → attached ≡ false → IsBridgedInNames old old.bridges.table user.model (Err fault) new
     → IsErrAnd r (λ e. e ≡ attach_fault fault)
@@ -347,24 +347,24 @@ attach_answer cache user old new attached fault r view none h given =
     (λ x. IsAttached (state_of (cached user old false)) x (state_of (cached user new false))) given
     (unattached user old new fault h)))
 
-pub attach_done : (cache : Cached) (user : Stored) (old new : Owned) (attached : Bool) (n : ℕ)
-    → cached user old attached ≡ cache → attached ≡ false → IsInStep (cached user old attached)
+pub attach_done : (cache : Cached) (user : StoredModel) (old new : Owned) (attached : Bool) (n : ℕ)
+    → cached user old attached ≡ cache → attached ≡ false → IsCacheInStep (cached user old attached)
     → IsBridgedBy old old.bridges.table user.model (Ok n) new
     → IsAttached (state_of cache) (Ok n) (state_of (cached user new true))
 attach_done cache user old new attached n view none step h =
     subst (λ c. IsAttached (state_of c) (Ok n) (state_of (cached user new true))) view
     (subst (λ b. IsAttached (state_of (cached user old b)) (Ok n) (state_of (cached user new true)))
     (sym none)
-    (attached_to user old new n (subst (λ b. Stands b old user.model) none step.stands) h))
+    (attached_to user old new n (subst (λ b. StandsAttached b old user.model) none step.stands) h))
 
-pub still_in_step : (user : Stored) (old new : Owned) (attached : Bool) (fault : BridgeFault)
-    → attached ≡ false → IsInStep (cached user old attached)
+pub still_in_step : (user : StoredModel) (old new : Owned) (attached : Bool) (fault : BridgeFault)
+    → attached ≡ false → IsCacheInStep (cached user old attached)
     → IsBridgedInNames old old.bridges.table user.model (Err fault) new
-    → IsInStep (cached user new attached)
+    → IsCacheInStep (cached user new attached)
 still_in_step user old new attached fault none step h = record {
   stands =
-      subst (λ b. Stands b new user.model) (sym none)
+      subst (λ b. StandsAttached b new user.model) (sym none)
       (still_detached user old new fault h
-      (subst (λ b. Stands b old user.model) none step.stands));
+      (subst (λ b. StandsAttached b old user.model) none step.stands));
   settled = step.settled;
 }

@@ -4,19 +4,19 @@ use Rattle.std.proofs.Common.{ap, sym, subst, ◌∙◌}
 use Rattle.item_core.specs.declared.table.Table.{Table}
 use Rattle.lazy_bridge.specs.Owned.{IsBridgingOf, Owned}
 use Rattle.lazy_bridge.specs.Pushed.{IsBridgedBy}
-use Rattle.model_store.specs.Store.{Stored}
+use Rattle.model_store.specs.Store.{StoredModel}
 use Rattle.report_core.specs.declared.refused.Place.{Place}
-use Rattle.small_numbers.specs.SmallNumbers.{HasSmallNumbers}
+use Rattle.small_number_laws.specs.SmallNumbers.{HasSmallNumbers}
 use Rattle.user_model.specs.Model.{ModelValue}
 use Rattle.user_model.specs.declared.edit.Edit.{Edit}
 use Rattle.user_model.specs.declared.refusal.Refusal.{Refusal as EditRefusal}
 use Rattle.user_model.specs.declared.undo.Undo.{Undo}
-use Rattle.cache_layer.specs.Answers.{Becomes, IsGrouped, UnlessRefused, as_edits}
+use Rattle.cache_layer.specs.Answers.{Becomes, IsGroupAnswer, UnlessRefused, as_edits}
 use Rattle.cache_layer.specs.Bridging.{IsBridgedInNames, state_by, stays}
-use Rattle.cache_layer.specs.Cached.{Cached, IsInStep, cached, state_of}
+use Rattle.cache_layer.specs.Cached.{Cached, IsCacheInStep, cached, state_of}
 use Rattle.cache_layer.specs.Faults.{bridge_fault, group_fault}
 use Rattle.cache_layer.specs.FewCalls.{EditsFew}
-use Rattle.model_load.specs.Loads.{AreKept, AreMade, after_edits}
+use Rattle.model_load.specs.Loads.{AreEditsMade, AreKept, after_edits}
 use Rattle.cache_layer.specs.declared.fault.BridgeFault.{BridgeFault}
 use Rattle.cache_layer.specs.declared.fault.BridgeFault.TheVariants as bridge
 use Rattle.cache_layer.specs.declared.fault.GroupFault.{GroupFault}
@@ -33,17 +33,18 @@ alone bridge.Memory given is = ap (λ g. as_edits (Err g)) is
 
 -- ---- the model after all edits is bridged
 
-pub grouped : (user mid new_user : Stored) (old new : Owned) (edits : List Edit)
-    (undos : List Undo) (n : ℕ) → AreMade user edits undos mid → new_user.model ≡ mid.model
+pub grouped : (user mid new_user : StoredModel) (old new : Owned) (edits : List Edit)
+    (undos : List Undo) (n : ℕ) → AreEditsMade user edits undos mid → new_user.model ≡ mid.model
     → IsBridgingOf old user.model → IsBridgedBy old old.bridges.table mid.model (Ok n) new
-    → IsGrouped (state_of (cached user old true)) edits (Ok (Some n))
+    → IsGroupAnswer (state_of (cached user old true)) edits (Ok (Some n))
     (state_of (cached new_user new true))
 grouped user mid new_user old new edits undos n h e stands b =
     (mid.model, h.made, bridged user new_user old new old.bridges.table mid.model n e stands b)
 
-pub grouped_in_step : (user mid new_user : Stored) (old new : Owned) (n : ℕ)
+pub grouped_in_step : (user mid new_user : StoredModel) (old new : Owned) (n : ℕ)
     → new_user.model ≡ mid.model → new_user.parked ≡ user.parked → user.parked ≡ []
-    → IsBridgedBy old old.bridges.table mid.model (Ok n) new → IsInStep (cached new_user new true)
+    → IsBridgedBy old old.bridges.table mid.model (Ok n) new
+    → IsCacheInStep (cached new_user new true)
 grouped_in_step user mid new_user old new n e parked settled b = record {
   stands = subst (IsBridgingOf new) (sym e) b.0;
   settled = parked ∙ settled;
@@ -51,10 +52,10 @@ grouped_in_step user mid new_user old new n e parked settled b = record {
 
 -- ---- or it is not
 
-group_unbridged : (user mid new_user : Stored) (old new : Owned) (edits : List Edit)
-    (undos : List Undo) (fault : BridgeFault) → AreMade user edits undos mid → new_user ≡ user
+group_unbridged : (user mid new_user : StoredModel) (old new : Owned) (edits : List Edit)
+    (undos : List Undo) (fault : BridgeFault) → AreEditsMade user edits undos mid → new_user ≡ user
     → IsBridgedInNames old old.bridges.table mid.model (Err fault) new
-    → IsGrouped (state_of (cached user old true)) edits (Err (group_fault fault))
+    → IsGroupAnswer (state_of (cached user old true)) edits (Err (group_fault fault))
     (state_of (cached new_user new (stays (as_edits (Err (group_fault fault))))))
 group_unbridged user mid new_user old new edits undos fault h e b =
     by fault (unbridged user new_user old new old.bridges.table mid.model fault e b)
@@ -62,32 +63,32 @@ group_unbridged user mid new_user old new edits undos fault h e b =
     by : (fault : BridgeFault)
         → Becomes (state_of (cached user old true)) (state_by old old.bridges.table mid.model)
         (Err (bridge_fault fault)) (state_of (cached new_user new (stays (Err (bridge_fault fault)))))
-        → IsGrouped (state_of (cached user old true)) edits (Err (group_fault fault))
+        → IsGroupAnswer (state_of (cached user old true)) edits (Err (group_fault fault))
         (state_of (cached new_user new (stays (as_edits (Err (group_fault fault))))))
     by (bridge.Unsupported kind) b = (mid.model, h.made, b)
     by (bridge.Overflow place) b = (mid.model, h.made, b)
     by bridge.Memory b = b
 
-pub group_answer : (user mid new_user : Stored) (old new : Owned) (edits : List Edit)
+pub group_answer : (user mid new_user : StoredModel) (old new : Owned) (edits : List Edit)
     (undos : List Undo) (fault : BridgeFault) (given : GroupFault) → given ≡ group_fault fault
-    → AreMade user edits undos mid → new_user ≡ user
+    → AreEditsMade user edits undos mid → new_user ≡ user
     → IsBridgedInNames old old.bridges.table mid.model (Err fault) new
-    → IsGrouped (state_of (cached user old true)) edits (Err given)
+    → IsGroupAnswer (state_of (cached user old true)) edits (Err given)
     (state_of (cached new_user new (stays (as_edits (Err given)))))
 group_answer user mid new_user old new edits undos fault given is h e b =
-    subst (λ r. IsGrouped (state_of (cached user old true)) edits (Err r)
+    subst (λ r. IsGroupAnswer (state_of (cached user old true)) edits (Err r)
     (state_of (cached new_user new (stays (as_edits (Err r)))))) (sym is)
     (group_unbridged user mid new_user old new edits undos fault h e b)
 
-pub group_step : (user new_user : Stored) (old new : Owned) (model : ModelValue)
+pub group_step : (user new_user : StoredModel) (old new : Owned) (model : ModelValue)
     (fault : BridgeFault) (given : GroupFault) → given ≡ group_fault fault → new_user ≡ user
     → IsBridgedInNames old old.bridges.table model (Err fault) new → IsBridgingOf old user.model
-    → user.parked ≡ [] → IsInStep (cached new_user new (stays (as_edits (Err given))))
+    → user.parked ≡ [] → IsCacheInStep (cached new_user new (stays (as_edits (Err given))))
 group_step user new_user old new model fault given is e b stands settled =
-    subst (λ r. IsInStep (cached new_user new (stays r))) (sym (alone fault given is))
+    subst (λ r. IsCacheInStep (cached new_user new (stays r))) (sym (alone fault given is))
     (in_step_still user new_user old new old.bridges.table model fault e b stands settled)
 
-pub group_untouched : (user new_user : Stored) (old new : Owned) (model : ModelValue)
+pub group_untouched : (user new_user : StoredModel) (old new : Owned) (model : ModelValue)
     (fault : BridgeFault) (given : GroupFault) (attached : Bool) → given ≡ group_fault fault
     → new_user ≡ user → IsBridgedInNames old old.bridges.table model (Err fault) new
     → UnlessRefused (as_edits {A = Option ℕ} (Err given)) (cached user old true)
@@ -120,8 +121,8 @@ never_grouped (bridge.Overflow at) given r same is never place e = absurd (never
 never_grouped bridge.Memory given r same is never place e = cc
 
 -- the model that all edits make is one
-pub made_small : (user mid : Stored) (edits : List Edit) (undos : List Undo) (made : ModelValue)
-    → AreMade user edits undos mid → after_edits user.model edits ≡ Ok made
+pub made_small : (user mid : StoredModel) (edits : List Edit) (undos : List Undo) (made : ModelValue)
+    → AreEditsMade user edits undos mid → after_edits user.model edits ≡ Ok made
     → HasSmallNumbers made → HasSmallNumbers mid.model
 made_small user mid edits undos made h e small =
     subst HasSmallNumbers (one (after_edits user.model edits) e h.made) small
@@ -131,10 +132,10 @@ made_small user mid edits undos made h e small =
 
 -- ---- without a solver
 
-pub alone_made : (cache : Cached) (user new_user : Stored) (lazy : Owned) (attached : Bool)
+pub alone_made : (cache : Cached) (user new_user : StoredModel) (lazy : Owned) (attached : Bool)
     (edits : List Edit) → cached user lazy attached ≡ cache → attached ≡ false
     → AreKept user edits new_user
-    → IsGrouped (state_of cache) edits (Ok None) (state_of (cached new_user lazy attached))
+    → IsGroupAnswer (state_of cache) edits (Ok None) (state_of (cached new_user lazy attached))
 alone_made cache user new_user lazy attached edits view off h =
-    subst (λ c. IsGrouped (state_of c) edits (Ok None) (state_of (cached new_user lazy attached)))
+    subst (λ c. IsGroupAnswer (state_of c) edits (Ok None) (state_of (cached new_user lazy attached)))
     view (new_user.model, h.made, (off, refl))

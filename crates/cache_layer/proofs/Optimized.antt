@@ -1,19 +1,19 @@
 -- What an optimise answers, by what the calls under it tell.
 use Rattle.std.specs.Prelude.{◌≡◌, ℕ, Bool, true, None, Result, Ok, Err, is_some, refl}
 use Rattle.std.proofs.Common.{ap, subst, sym, true≢false, ◌∙◌}
-use Rattle.adjoint_core.specs.CarriedBack.{CarriesBack}
+use Rattle.adjoint_core.specs.CarriedBack.{CarriesAnswerBack}
 use Rattle.adjoint_core.specs.declared.fault.BackFault.{BackFault}
 use Rattle.adjoint_core.specs.declared.fault.BackFault.TheVariants as back
 use Rattle.address_map.specs.AddressMap.{AddressMap}
 use Rattle.aff_core.specs.Address.{Address}
 use Rattle.bridged_report.specs.Places.{place_at}
 use Rattle.certificates.specs.declared.certificate.Certificate.{Certificate}
-use Rattle.equality_form.specs.ReadBack.{Answer}
+use Rattle.equality_form.specs.ReadBack.{AnswerByAddress}
 use Rattle.lazy_bridge.specs.Owned.{IsBridgingOf, Owned, leaf_model_in}
 use Rattle.fresh_bridging.specs.FreshBridging.{FreshBridging}
 use Rattle.fresh_bridging.specs.TheRules.{Setting}
 use Rattle.leaf_model.specs.ReadThrough.{read_through}
-use Rattle.model_store.specs.Store.{Stored}
+use Rattle.model_store.specs.Store.{StoredModel}
 use Rattle.solver_store.specs.SolverModel as stored
 use Rattle.solver_store.specs.declared.answer.LeafAnswer.{LeafAnswer}
 use Rattle.std_form.specs.Readable.{IsReadable}
@@ -21,8 +21,8 @@ use Rattle.cache_layer.specs.Cached.{cached, state_of}
 use Rattle.user_model.specs.Model.{ModelValue}
 use Rattle.cache_layer.specs.Bridging.{state_by}
 use Rattle.cache_layer.specs.Optimizing.{CanTell, TellsCertificate, TellsFault, TellsLeaf}
-use Rattle.cache_layer.specs.Outcome.{IsAnswered, IsOptimized, Outcome, Stops, answered, at_carrying_back, stopped}
-use Rattle.cache_layer.specs.State.{Bridging}
+use Rattle.cache_layer.specs.Outcome.{IsOptimized, IsReadBackAs, Outcome, Stops, answered, at_carrying_back, stopped}
+use Rattle.cache_layer.specs.CacheState.{Bridging}
 use Rattle.cache_layer.specs.declared.fault.OptFault.{OptFault}
 use Rattle.cache_layer.specs.declared.fault.OptFault.TheVariants.{Limit, Memory, NotAttached, Overflow, TooLarge}
 
@@ -46,11 +46,11 @@ module _ (lazy : Owned) (model : ModelValue) (stands : IsBridgingOf lazy model) 
   is_stopped map (Overflow place) h = (refl, stopped_here (Overflow place) h)
   is_stopped map (Limit n) h = (refl, stopped_here (Limit n) h)
 
-  pub is_carried : (answer : Answer) → IsAnswered (leaf_model_in lazy) pivots answer
+  pub is_carried : (answer : AnswerByAddress) → IsReadBackAs (leaf_model_in lazy) pivots answer
       → (result : Result Certificate OptFault) → TellsCertificate stands.bridging answer result
       → Optimizes result
   is_carried answer is (Ok c) told =
-      let here = subst (λ l. IsAnswered l pivots answer) stands.leaves is in (
+      let here = subst (λ l. IsReadBackAs l pivots answer) stands.leaves is in (
         refl,
         (
           the_bridging,
@@ -59,7 +59,7 @@ module _ (lazy : Owned) (model : ModelValue) (stands : IsBridgingOf lazy model) 
         ),
       )
   is_carried answer is (Err (Overflow place)) told =
-      let here = subst (λ l. IsAnswered l pivots answer) stands.leaves is in
+      let here = subst (λ l. IsReadBackAs l pivots answer) stands.leaves is in
       (refl, (the_bridging, at_carrying_back answer told.0 here told.1 told.2))
   is_carried answer is (Err Memory) told = refl
   is_carried answer is (Err NotAttached) told = absurd told
@@ -71,13 +71,13 @@ module _ (lazy : Owned) (model : ModelValue) (stands : IsBridgingOf lazy model) 
 -- what the call below tells, with the place in place of the address
 pub certificate_told : {setting : Setting} {model : ModelValue}
     (bridging : FreshBridging setting model)
-    (answer : Answer) (c : Certificate) → CarriesBack bridging answer (Ok c)
+    (answer : AnswerByAddress) (c : Certificate) → CarriesAnswerBack bridging answer (Ok c)
     → TellsCertificate bridging answer (Ok c)
 certificate_told bridging answer c told = told
 
 pub fault_told : {setting : Setting} {model : ModelValue} (bridging : FreshBridging setting model)
-    (answer : Answer) (fault : BackFault) (told : OptFault)
-    → CarriesBack bridging answer (Err fault) → TellsFault model fault told
+    (answer : AnswerByAddress) (fault : BackFault) (told : OptFault)
+    → CarriesAnswerBack bridging answer (Err fault) → TellsFault model fault told
     → TellsCertificate bridging answer (Err told)
 fault_told bridging answer (back.Overflow at) (Overflow place) is h = (at, is, h)
 fault_told bridging answer (back.Overflow at) Memory is h = tt
@@ -98,7 +98,7 @@ always_told model fault at is can missing =
 
 -- ---- while a solver is attached
 
-pub optimized_there : (user : Stored) (lazy : Owned) (attached : Bool) (pivots : ℕ)
+pub optimized_there : (user : StoredModel) (lazy : Owned) (attached : Bool) (pivots : ℕ)
     (result : Result Certificate OptFault) → attached ≡ true
     → IsOptimized (state_by lazy lazy.bridges.table user.model) pivots result
     → IsOptimized (state_of (cached user lazy attached)) pivots result
@@ -106,7 +106,7 @@ optimized_there user lazy attached pivots result on h =
     subst (λ a. IsOptimized (state_of (cached user lazy a)) pivots result) (sym on) h
 
 -- what is said of the leaves through a map and a solver's model which are the bridging's
-pub told_here : (lazy : Owned) (places : AddressMap) (solver : stored.Stored) (pivots : ℕ)
+pub told_here : (lazy : Owned) (places : AddressMap) (solver : stored.StoredLeaves) (pivots : ℕ)
     (result : Result LeafAnswer OptFault) → places ≡ lazy.map → solver ≡ lazy.solver
     → IsReadable lazy.map lazy.solver.leaves
     → ((at : Address) → IsReadable places solver.leaves
@@ -114,8 +114,8 @@ pub told_here : (lazy : Owned) (places : AddressMap) (solver : stored.Stored) (p
     → TellsLeaf lazy.map (leaf_model_in lazy) pivots result
 told_here lazy places solver pivots result there same readable told =
     subst (λ (m : AddressMap). Tells m lazy.solver) there
-    (subst (λ (s : stored.Stored). Tells places s) same (told lazy.objective_at)) readable
+    (subst (λ (s : stored.StoredLeaves). Tells places s) same (told lazy.objective_at)) readable
   where
-    Tells : AddressMap → stored.Stored → Type 0
+    Tells : AddressMap → stored.StoredLeaves → Type 0
     Tells m s = IsReadable m s.leaves
         → TellsLeaf m (read_through m s.leaves lazy.objective_at) pivots result

@@ -7,7 +7,7 @@ use Rattle.address_map.specs.AddressMap.{AddressMap}
 use Rattle.aff_core.specs.Address.{Address}
 use Rattle.cache_layer.specs.Faults.{form_fault, read_fault, solve_fault}
 use Rattle.cache_layer.specs.Optimizing.{TellsLeaf}
-use Rattle.cache_layer.specs.Outcome.{IsMade, IsSolved, Stops, at_a_pivot, at_a_right_side, at_reading_back, form_in, out_of_pivots, too_large}
+use Rattle.cache_layer.specs.Outcome.{IsFormMade, IsFormSolved, Stops, at_a_pivot, at_a_right_side, at_reading_back, form_in, out_of_pivots, too_large}
 use Rattle.cache_layer.specs.declared.fault.OptFault.{OptFault}
 use Rattle.cache_layer.specs.declared.fault.OptFault.TheVariants.{Limit, TooLarge}
 use Rattle.equality_form.specs.Right.{IsRight}
@@ -22,7 +22,7 @@ use Rattle.simplex_core.specs.declared.form.StdForm.{StdForm}
 use Rattle.solver_store.specs.SolverModel.{Leaves}
 use Rattle.solver_store.specs.declared.answer.LeafAnswer.{LeafAnswer}
 use Rattle.std_form.specs.Answers.{answer_of}
-use Rattle.std_form.specs.Listed.{Listed, listed}
+use Rattle.std_form.specs.ListedLeaves.{ListedLeaves, listed}
 use Rattle.std_form.specs.Readable.{IsReadable}
 use Rattle.std_form.specs.Told.{TellsAnswer, TellsForm}
 use Rattle.std_form.specs.declared.fault.FormFault.{FormFault}
@@ -35,14 +35,14 @@ handed_on Q (Ok a) fault h told = absurd h
 handed_on Q (Err e) fault h told = subst (λ f. Q (Err f)) (sym h) told
 
 -- what holds of a listing holds of the model and the map that were listed
-module _ (listing : Listed) (map : AddressMap) (stored : Leaves) (is : listing ≡ listed map stored)
+module _ (listing : ListedLeaves) (map : AddressMap) (stored : Leaves) (is : listing ≡ listed map stored)
   where
     pub form_listed : (r : Result StdForm FormFault)
         → ((at : Address) → IsReadable listing.map listing.leaves
         → TellsForm (read_through listing.map listing.leaves at) r)
         → (at : Address) → IsReadable map stored → TellsForm (read_through map stored at) r
     form_listed r told =
-        subst (λ (l : Listed). (at : Address) → IsReadable l.map l.leaves
+        subst (λ (l : ListedLeaves). (at : Address) → IsReadable l.map l.leaves
         → TellsForm (read_through l.map l.leaves at) r) is told
 
     pub answer_listed : (answer : SolverAnswer) (r : Result LeafAnswer NumberFault)
@@ -50,7 +50,7 @@ module _ (listing : Listed) (map : AddressMap) (stored : Leaves) (is : listing �
         → TellsAnswer listing.map (read_through listing.map listing.leaves at) answer r)
         → (at : Address) → TellsAnswer map (read_through map stored at) answer r
     answer_listed answer r told =
-        subst (λ (l : Listed). (at : Address)
+        subst (λ (l : ListedLeaves). (at : Address)
         → TellsAnswer l.map (read_through l.map l.leaves at) answer r) is told
 
     pub right_listed : (form : StdForm) (answer : SolverAnswer) (r : Result LeafAnswer NumberFault)
@@ -60,7 +60,7 @@ module _ (listing : Listed) (map : AddressMap) (stored : Leaves) (is : listing �
         → (at : Address) → IsReadable map stored → IsRightAnswer (equality_form form) answer
         → IfOk r (λ leaf. IsRight (read_through map stored at) (answer_of map leaf))
     right_listed form answer r told =
-        subst (λ (l : Listed). (at : Address) → IsReadable l.map l.leaves
+        subst (λ (l : ListedLeaves). (at : Address) → IsReadable l.map l.leaves
         → IsRightAnswer (equality_form form) answer → IfOk r (λ leaf.
         IsRight (read_through l.map l.leaves at) (answer_of l.map leaf))) is told
 
@@ -72,7 +72,7 @@ module _ (map : AddressMap) (leaves : LeafModel) (pivots : ℕ) where
   unmade form.Overflow h = at_a_right_side h.0 h.1
   unmade form.Memory h = tt
 
-  made : (f : StdForm) → TellsForm leaves (Ok f) → IsMade leaves
+  made : (f : StdForm) → TellsForm leaves (Ok f) → IsFormMade leaves
   made f h = record { cells = h.1; rights = h.2 }
 
   of_the_form : (f : StdForm) (result : Result SolverAnswer SolveFault) → TellsForm leaves (Ok f)
@@ -80,7 +80,8 @@ module _ (map : AddressMap) (leaves : LeafModel) (pivots : ℕ) where
   of_the_form f result h says =
       subst (λ g. SaysOutcome (equality_form g) pivots result) h.0 says
 
-  stops_at : (fault : SolveFault) → IsMade leaves → SaysOutcome (form_in leaves) pivots (Err fault)
+  stops_at : (fault : SolveFault) → IsFormMade leaves
+      → SaysOutcome (form_in leaves) pivots (Err fault)
       → TellsLeaf map leaves pivots (Err (solve_fault fault))
   stops_at (solve.Limit basis n) h says =
       subst (λ m. Stops leaves pivots (Limit m)) (sym says.3) (out_of_pivots h says.0 says.1)
@@ -93,7 +94,7 @@ module _ (map : AddressMap) (leaves : LeafModel) (pivots : ℕ) where
   unsolved f fault h says = stops_at fault (made f h) (of_the_form f (Err fault) h says)
 
   is_solved : (f : StdForm) (answer : SolverAnswer) → TellsForm leaves (Ok f)
-      → SaysOutcome (equality_form f) pivots (Ok answer) → IsSolved leaves pivots answer
+      → SaysOutcome (equality_form f) pivots (Ok answer) → IsFormSolved leaves pivots answer
   is_solved f answer h says =
       let here = of_the_form f (Ok answer) h says in
       record { made = made f h; state = here.0; turn = here.1; ends = here.2; read = here.3 }

@@ -7,20 +7,20 @@ use Rattle.address_map.specs.AddressMap.{AddressMap}
 use Rattle.aff_core.specs.Address.{Address}
 use Rattle.bridge_set.specs.Bridges.{kept_by, means_of}
 use Rattle.bridge_set.specs.Nodes.{nodes_by}
-use Rattle.bridge_face.specs.State.{Kept, State}
+use Rattle.bridge_face.specs.BridgeState.{BridgeState, KeptByAddress}
 use Rattle.bridge_plan.specs.Means.{Means}
 use Rattle.map_laws.specs.EachLaws.{all_from_map}
 use Rattle.fresh_bridging.specs.FreshBridging.{FreshBridging, is_made, leaves_of}
 use Rattle.fresh_bridging.specs.TheRules.{Setting}
 use Rattle.item_core.specs.declared.family.Family.{Family}
 use Rattle.leaf_update.specs.Named.{NamesEach}
-use Rattle.lazy_bridge.specs.Mentioned.{IsIndexOf, marks_of}
+use Rattle.lazy_bridge.specs.Mentioned.{IsMentionIndex, marks_of}
 use Rattle.lazy_bridge.specs.Owned.{HoldsNothing, IsBridgingOf, Owned, setting_in}
 use Rattle.lazy_bridge.specs.Pushed.{IsTried}
 use Rattle.leaf_model.specs.ReadThrough.{read_through}
 use Rattle.model_bridging.specs.Expressions.{expressions_by}
 use Rattle.model_bridging.specs.Planned.{kept_variables}
-use Rattle.solver_store.specs.SolverModel.{Stored, no_leaves}
+use Rattle.solver_store.specs.SolverModel.{StoredLeaves, no_leaves}
 use Rattle.user_model.specs.Model.{ModelValue}
 use Rattle.user_model.specs.Valid.{IsValid}
 
@@ -28,8 +28,8 @@ use Rattle.user_model.specs.Valid.{IsValid}
 
 record Parts : Type 0 where
   setting : Setting
-  kept : List (Family × Kept)
-  solver : Stored
+  kept : List (Family × KeptByAddress)
+  solver : StoredLeaves
   map : AddressMap
   objective_at : Address
 
@@ -39,12 +39,12 @@ record AreOf (parts : Parts) (model : ModelValue) : Type 0 where
   made : is_made bridging ≡ true
   leaves : read_through parts.map parts.solver.leaves parts.objective_at ≡ leaves_of bridging
   named : NamesEach parts.map parts.solver.leaves
-  kept : All (λ (k : Family × Kept). k.1 ≡ nodes_by bridging k.0) parts.kept
+  kept : All (λ (k : Family × KeptByAddress). k.1 ≡ nodes_by bridging k.0) parts.kept
   exprs : parts.map.exprs ≡ expressions_by bridging
-  noted : IsIndexOf model parts.map.noted
+  noted : IsMentionIndex model parts.map.noted
   marks : parts.map.kept ≡ marks_of (kept_variables bridging)
 
-abbrev parts_by : Means → Stored → AddressMap → Address → Parts
+abbrev parts_by : Means → StoredLeaves → AddressMap → Address → Parts
 parts_by means solver at_map at = record {
   setting = means.setting;
   kept = means.kept;
@@ -65,8 +65,8 @@ parts_of lazy model h = record {
   leaves = h.leaves;
   named = h.named;
   kept =
-      All-map (λ (k : Family × Kept). k.1 ≡ nodes_by h.bridging k.0)
-      (λ (s : State). (s.family, s.kept)) lazy.bridges.states h.kept;
+      All-map (λ (k : Family × KeptByAddress). k.1 ≡ nodes_by h.bridging k.0)
+      (λ (s : BridgeState). (s.family, s.kept)) lazy.bridges.states h.kept;
   exprs = h.exprs;
   noted = h.noted;
   marks = h.marks;
@@ -81,8 +81,8 @@ from_parts lazy model h = record {
   leaves = h.leaves;
   named = h.named;
   kept =
-      all_from_map (λ (k : Family × Kept). k.1 ≡ nodes_by h.bridging k.0)
-      (λ (s : State). (s.family, s.kept)) lazy.bridges.states h.kept;
+      all_from_map (λ (k : Family × KeptByAddress). k.1 ≡ nodes_by h.bridging k.0)
+      (λ (s : BridgeState). (s.family, s.kept)) lazy.bridges.states h.kept;
   exprs = h.exprs;
   noted = h.noted;
   marks = h.marks;
@@ -106,9 +106,9 @@ still_bridging old new model t h =
 pub still_nothing : (old new : Owned) → new.solver ≡ old.solver → new.map ≡ old.map
     → kept_by new.bridges.states ≡ kept_by old.bridges.states → HoldsNothing old → HoldsNothing new
 still_nothing old new solver at_map kept h =
-    let Empty : Family × Kept → Type 0 = λ (k : Family × Kept). k.1 ≡ finite.empty in
-    let part : State → Family × Kept = λ (s : State). (s.family, s.kept) in record {
-      leaves = subst (λ (s : Stored). s.leaves ≡ no_leaves s.leaves.calls) (sym solver) h.leaves;
+    let Empty : Family × KeptByAddress → Type 0 = λ (k : Family × KeptByAddress). k.1 ≡ finite.empty in
+    let part : BridgeState → Family × KeptByAddress = λ (s : BridgeState). (s.family, s.kept) in record {
+      leaves = subst (λ (s : StoredLeaves). s.leaves ≡ no_leaves s.leaves.calls) (sym solver) h.leaves;
       vars = ap (λ (m : AddressMap). m.vars.indices) at_map ∙ h.vars;
       rows = ap (λ (m : AddressMap). m.rows.indices) at_map ∙ h.rows;
       exprs = ap (λ (m : AddressMap). m.exprs) at_map ∙ h.exprs;

@@ -2,7 +2,7 @@
 -- before, and without memory it is that one without its solver.
 use Rattle.std.specs.Prelude.{◌≡◌, ◌+◌, ℕ, true, false, List, Option, Some, None, Result, Ok, Err}
 use Rattle.cache_layer.specs.Cached.{Cached}
-use Rattle.cache_layer.specs.State.{Changes, HasLeaves, OverflowsAt, State, attached, detached, with_model}
+use Rattle.cache_layer.specs.CacheState.{CacheState, ChangesLeaves, HasLeaves, OverflowsAt, attached, detached, with_model}
 use Rattle.cache_layer.specs.declared.fault.AttachFault.{AttachFault}
 use Rattle.cache_layer.specs.declared.fault.AttachFault.TheVariants as attach
 use Rattle.cache_layer.specs.declared.fault.EditFault.{EditFault}
@@ -19,9 +19,9 @@ use Rattle.user_model.specs.Refusals.{first_refusal}
 
 -- the next state is reached; but while a solver is attached not where an item of its model has no
 -- tree, nor where a number of the bridging doesn't fit
-abbrev pub Becomes : State → State → Result (Option ℕ) EditFault → State → Type 0
+abbrev pub Becomes : CacheState → CacheState → Result (Option ℕ) EditFault → CacheState → Type 0
 Becomes old next (Ok None) new = (old.attached ≡ false) × (new ≡ next)
-Becomes old next (Ok (Some n)) new = (old.attached ≡ true) × Changes old next n × (new ≡ next)
+Becomes old next (Ok (Some n)) new = (old.attached ≡ true) × ChangesLeaves old next n × (new ≡ next)
 Becomes old next (Err (Unsupported kind)) new =
     (old.attached ≡ true) × IsUnsupported next.setting next.model kind × (new ≡ old)
 Becomes old next (Err (Overflow place)) new =
@@ -30,7 +30,7 @@ Becomes old next (Err Memory) new = new ≡ detached old
 Becomes old next (Err (Refused refusal)) new = ⊥
 
 -- an edit is refused first for itself, and then for its model's bridging
-abbrev pub IsEdited : State → Edit → Result (Option ℕ) EditFault → State → Type 0
+abbrev pub IsEdited : CacheState → Edit → Result (Option ℕ) EditFault → CacheState → Type 0
 IsEdited old edit (Err (Refused refusal)) new =
     (first_refusal old.model edit ≡ Some refusal) × (new ≡ old)
 IsEdited old edit (Err Memory) new = new ≡ detached old
@@ -39,7 +39,7 @@ IsEdited old edit answer new =
     × Becomes old (with_model old (edited old.model edit)) answer new
 
 -- all edits are made, or none
-abbrev pub IsLoaded : State → List Edit → Result Unit EditFault → State → Type 0
+abbrev pub IsLoaded : CacheState → List Edit → Result Unit EditFault → CacheState → Type 0
 IsLoaded old edits (Ok done) new =
     (after_edits old.model edits ≡ Ok new.model) × (new ≡ with_model old new.model)
 IsLoaded old edits (Err (Refused refusal)) new =
@@ -61,17 +61,18 @@ as_edits (Err fault) = Err (fault_alone fault)
 
 -- a group of edits is refused first for the first of them that is refused, by its number from 1, and
 -- then for the bridging of the model after all of them
-abbrev pub IsGrouped : State → List Edit → Result (Option ℕ) GroupFault → State → Type 0
-IsGrouped old edits (Err (group.Refused index refusal)) new =
+abbrev pub IsGroupAnswer : CacheState → List Edit → Result (Option ℕ) GroupFault → CacheState
+    → Type 0
+IsGroupAnswer old edits (Err (group.Refused index refusal)) new =
     (after_edits old.model edits ≡ Err refusal)
     × (index ≡ accepted_first old.model edits + 1) × (new ≡ old)
-IsGrouped old edits (Err group.Memory) new = new ≡ detached old
-IsGrouped old edits answer new =
+IsGroupAnswer old edits (Err group.Memory) new = new ≡ detached old
+IsGroupAnswer old edits answer new =
     (model : ModelValue) × (after_edits old.model edits ≡ Ok model)
     × Becomes old (with_model old model) (as_edits answer) new
 
 -- a solver is attached, and has this number of leaves
-abbrev pub IsAttached : State → Result ℕ AttachFault → State → Type 0
+abbrev pub IsAttached : CacheState → Result ℕ AttachFault → CacheState → Type 0
 IsAttached old (Ok n) new =
     (old.attached ≡ false) × HasLeaves old n × (new ≡ attached old)
 IsAttached old (Err attach.AlreadyAttached) new = (old.attached ≡ true) × (new ≡ old)

@@ -3,7 +3,7 @@ use Rattle.std.specs.Prelude.{◌≡◌, ℕ, Bool, true, false, Option, Some, R
 use Rattle.aff_core.specs.Address.{Address}
 use Rattle.bridge_set.specs.Bridges.{setting_by}
 use Rattle.bridged_report.specs.Places.{place_at}
-use Rattle.cache_layer.specs.State.{OverflowsAt, State}
+use Rattle.cache_layer.specs.CacheState.{CacheState, OverflowsAt}
 use Rattle.cache_layer.specs.declared.fault.BridgeFault.{BridgeFault}
 use Rattle.cache_layer.specs.declared.fault.BridgeFault.TheVariants.{Memory, Overflow, Unsupported}
 use Rattle.cache_layer.specs.declared.fault.EditFault.{EditFault}
@@ -18,7 +18,7 @@ use Rattle.model_bridging.specs.declared.fault.PushFault.TheVariants as push
 use Rattle.user_model.specs.Model.{ModelValue}
 
 -- a solver is attached, by the families of the bridges
-abbrev pub state_by : Owned → Table → ModelValue → State
+abbrev pub state_by : Owned → Table → ModelValue → CacheState
 state_by lazy table model =
     record { model = model; setting = setting_by table lazy.bridges.states; attached = true }
 

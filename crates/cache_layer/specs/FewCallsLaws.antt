@@ -9,7 +9,7 @@ use Rattle.aff_core.specs.Address.{address_cmp}
 use Rattle.lazy_bridge.specs.Few.{ChangesFew}
 use Rattle.lazy_bridge.specs.Owned.{HoldsNothing, Owned}
 use Rattle.leaf_update.specs.Splice.{KeepsIndices}
-use Rattle.solver_store.specs.SolverModel.{Stored}
+use Rattle.solver_store.specs.SolverModel.{StoredLeaves}
 use Rattle.cache_layer.specs.FewCalls.{EditsFew}
 use Rattle.cache_layer.specs.declared.fault.EditFault.{EditFault}
 use Rattle.cache_layer.specs.declared.fault.EditFault.TheVariants.{Memory, Overflow, Refused, Unsupported}
@@ -39,7 +39,7 @@ pub few_kept : (old new : Owned) → new.solver ≡ old.solver → new.map ≡ o
     → ChangesFew old 0 new
 few_kept old new solver at_map =
     let same : new.solver.leaves.calls ≡ old.solver.leaves.calls =
-    ap (λ (s : Stored). s.leaves.calls) solver in
+    ap (λ (s : StoredLeaves). s.leaves.calls) solver in
     record {
       rises = omega (arith, same);
       calls = omega (arith, same);

@@ -1,4 +1,4 @@
-pub mod State
+pub mod CacheState
 pub mod Cached
 pub mod Faults
 pub mod Answers

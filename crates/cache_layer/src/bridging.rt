@@ -9,7 +9,7 @@ ghost use Rattle.local_laws.specs.Unlisted.{LeadBackTo};
 ghost use Rattle.cache_layer.specs.Bridging.{IsBridgedInNames, IsFaultOf, IsToldAs};
 ghost use Rattle.report_core.specs.declared.refused.Place.{Place};
 ghost use Rattle.user_model.specs.Model.{ModelValue};
-ghost use Rattle.small_numbers.specs.SmallNumbers.{HasSmallNumbers};
+ghost use Rattle.small_number_laws.specs.SmallNumbers.{HasSmallNumbers};
 
 use crate::fault::BridgeFault;
 use bridge_face::Bridge;

@@ -5,16 +5,16 @@ ghost use Rattle.bridge_graph.specs.Hypergraph.{is_edge_cost};
 ghost use Rattle.lazy_bridge.specs.Few.{ChangesFew};
 ghost use Rattle.lazy_bridge.specs.Native.{supports_native};
 ghost use Rattle.lazy_bridge.specs.Owned.{HoldsNothing};
-ghost use Rattle.cache_layer.specs.Answers.{Becomes, IsAttached, IsEdited, IsGrouped, IsLoaded, UnlessAttached, UnlessRefused, as_edits};
+ghost use Rattle.cache_layer.specs.Answers.{Becomes, IsAttached, IsEdited, IsGroupAnswer, IsLoaded, UnlessAttached, UnlessRefused, as_edits};
 ghost use Rattle.cache_layer.specs.Bridging.{stays};
-ghost use Rattle.cache_layer.specs.Cached.{Stands, model_in, state_of};
+ghost use Rattle.cache_layer.specs.Cached.{StandsAttached, model_in, state_of};
 ghost use Rattle.cache_layer.specs.FewCalls.{AttachesFew, EditsFew};
 ghost use Rattle.cache_layer.specs.Outcome.{IsOptimized};
-ghost use Rattle.cache_layer.specs.State.{detached, with_table};
+ghost use Rattle.cache_layer.specs.CacheState.{detached, with_table};
 ghost use Rattle.certificates.specs.Good.{Good};
 ghost use Rattle.model_load.specs.Loads.{after_edits};
 ghost use Rattle.report_core.specs.declared.refused.Place.{Place};
-ghost use Rattle.small_numbers.specs.SmallNumbers.{HasSmallNumbers};
+ghost use Rattle.small_number_laws.specs.SmallNumbers.{HasSmallNumbers};
 ghost use Rattle.user_model.specs.Edited.{edited};
 ghost use Rattle.user_model.specs.Model.{ModelValue};
 
@@ -43,7 +43,7 @@ pub struct Cache<B: Bridge> {
 }
 
 impl<B: Bridge> Model for Cache<B> {
-    ghost use Rattle.cache_layer.specs.Cached.{Cached, IsInStep, cached, cached_code};
+    ghost use Rattle.cache_layer.specs.Cached.{Cached, IsCacheInStep, cached, cached_code};
 
     ghost Value = { Cached };
 
@@ -51,7 +51,7 @@ impl<B: Bridge> Model for Cache<B> {
 
     ghost view = { λ c. cached c.user c.lazy c.attached };
 
-    ghost invariant = { λ c. IsInStep (cached c.user c.lazy c.attached) };
+    ghost invariant = { λ c. IsCacheInStep (cached c.user c.lazy c.attached) };
 }
 
 impl<B: Bridge> Cache<B> {
@@ -98,7 +98,7 @@ impl<B: Bridge> Cache<B> {
     /// which its model changes from before the first to behind the last, and it is called no more
     /// often, as by an edit.
     pub fn group(&mut self, edits: &[Edit]) -> Result<Option<u64>, GroupFault>
-        ensures answer { IsGrouped (state_of self.old) edits.now result (state_of self.new) }
+        ensures answer { IsGroupAnswer (state_of self.old) edits.now result (state_of self.new) }
         ensures untouched { UnlessRefused (as_edits result) self.old self.new }
         ensures small { (made : ModelValue) → after_edits (model_in self.old) edits.now ≡ Ok made
             → HasSmallNumbers made → (place : Place) → result ≢ Err (GroupFault.Overflow place) }
@@ -196,7 +196,7 @@ impl<B: Bridge> Cache<B> {
     /// Whether a solver is attached. While one is, the fresh bridging of the model stands.
     pub fn attached(&self) -> bool
         ensures value { result ≡ self.now.attached }
-        ensures stands { Stands self.now.attached self.now.lazy (model_in self.now) }
+        ensures stands { StandsAttached self.now.attached self.now.lazy (model_in self.now) }
     {
         self.attached
     }

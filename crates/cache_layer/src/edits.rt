@@ -6,11 +6,11 @@ ghost use Rattle.lazy_bridge.specs.Native.{supports_native};
 ghost use Rattle.lazy_bridge.specs.Owned.{IsBridgingOf};
 ghost use Rattle.cache_layer.specs.Answers.{Becomes, IsEdited, UnlessRefused};
 ghost use Rattle.cache_layer.specs.Bridging.{state_by, stays};
-ghost use Rattle.cache_layer.specs.Cached.{IsInStep, cached, state_of};
+ghost use Rattle.cache_layer.specs.Cached.{IsCacheInStep, cached, state_of};
 ghost use Rattle.cache_layer.specs.FewCalls.{EditsFew};
-ghost use Rattle.model_load.specs.Loads.{IsMadeBy};
+ghost use Rattle.model_load.specs.Loads.{IsEditMade};
 ghost use Rattle.report_core.specs.declared.refused.Place.{Place};
-ghost use Rattle.small_numbers.specs.SmallNumbers.{HasSmallNumbers};
+ghost use Rattle.small_number_laws.specs.SmallNumbers.{HasSmallNumbers};
 ghost use Rattle.user_model.specs.Edited.{edited};
 
 use crate::EditFault;
@@ -25,7 +25,7 @@ use user_model::{ApplyFault, Edit};
 
 /// Makes an edit for good.
 pub(crate) fn edit_alone(model: &mut UserModel, edit: Edit) -> Result<(), ApplyFault>
-    ensures { IsMadeBy model.old edit result model.new }
+    ensures { IsEditMade model.old edit result model.new }
 {
     let undo = model.apply(edit)?;
     model.settle(undo);
@@ -46,7 +46,7 @@ pub(crate) fn edit_bridged<B: Bridge>(
         (state_of (cached model.new lazy.new (stays result))) }
     ensures untouched { UnlessRefused result (cached model.old lazy.old true)
         (cached model.new lazy.new (stays result)) }
-    ensures in_step { IsInStep (cached model.new lazy.new (stays result)) }
+    ensures in_step { IsCacheInStep (cached model.new lazy.new (stays result)) }
     ensures small { HasSmallNumbers (edited model.old.model edit)
         → (place : Place) → result ≢ Err (EditFault.Overflow place) }
     ensures few { EditsFew result lazy.old lazy.new }
@@ -86,7 +86,7 @@ pub(crate) fn table_bridged<B: Bridge>(
         (state_of (cached model.now lazy.new (stays result))) }
     ensures untouched { UnlessRefused result (cached model.now lazy.old true)
         (cached model.now lazy.new (stays result)) }
-    ensures in_step { IsInStep (cached model.now lazy.new (stays result)) }
+    ensures in_step { IsCacheInStep (cached model.now lazy.new (stays result)) }
     ensures small { HasSmallNumbers model.now.model
         → (place : Place) → result ≢ Err (EditFault.Overflow place) }
     ensures few { EditsFew result lazy.old lazy.new }

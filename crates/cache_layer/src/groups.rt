@@ -1,13 +1,13 @@
 //! A group of edits, all or none, alone or with the bridging.
 ghost use Rattle.std.specs.Prelude.{◌≡◌, ◌≢◌, [], Err, IfErr, IfOk, Ok, OnErr, OnOk, true};
 ghost use Rattle.lazy_bridge.specs.Owned.{IsBridgingOf};
-ghost use Rattle.cache_layer.specs.Answers.{IsGrouped, UnlessRefused, as_edits};
+ghost use Rattle.cache_layer.specs.Answers.{IsGroupAnswer, UnlessRefused, as_edits};
 ghost use Rattle.cache_layer.specs.Bridging.{stays};
-ghost use Rattle.cache_layer.specs.Cached.{IsInStep, cached, state_of};
+ghost use Rattle.cache_layer.specs.Cached.{IsCacheInStep, cached, state_of};
 ghost use Rattle.cache_layer.specs.FewCalls.{EditsFew};
-ghost use Rattle.model_load.specs.Loads.{AreKept, AreMade, IsUnmade, after_edits};
+ghost use Rattle.model_load.specs.Loads.{AreEditsMade, AreKept, IsUnmade, after_edits};
 ghost use Rattle.report_core.specs.declared.refused.Place.{Place};
-ghost use Rattle.small_numbers.specs.SmallNumbers.{HasSmallNumbers};
+ghost use Rattle.small_number_laws.specs.SmallNumbers.{HasSmallNumbers};
 ghost use Rattle.user_model.specs.Model.{ModelValue};
 
 use crate::GroupFault;
@@ -45,11 +45,11 @@ pub(crate) fn group_bridged<B: Bridge>(
 ) -> Result<Option<u64>, GroupFault>
     requires stands { IsBridgingOf lazy.old model.old.model }
     requires settled { model.old.parked ≡ [] }
-    ensures answer { IsGrouped (state_of (cached model.old lazy.old true)) edits.now result
+    ensures answer { IsGroupAnswer (state_of (cached model.old lazy.old true)) edits.now result
         (state_of (cached model.new lazy.new (stays (as_edits result)))) }
     ensures untouched { UnlessRefused (as_edits result) (cached model.old lazy.old true)
         (cached model.new lazy.new (stays (as_edits result))) }
-    ensures in_step { IsInStep (cached model.new lazy.new (stays (as_edits result))) }
+    ensures in_step { IsCacheInStep (cached model.new lazy.new (stays (as_edits result))) }
     ensures small { (made : ModelValue) → after_edits model.old.model edits.now ≡ Ok made
         → HasSmallNumbers made → (place : Place) → result ≢ Err (GroupFault.Overflow place) }
     ensures few { EditsFew (as_edits result) lazy.old lazy.new }
@@ -78,7 +78,7 @@ pub(crate) fn group_bridged<B: Bridge>(
 
 // Makes copies of edits in turn, or none of them. Their undos, in the same order, wait.
 fn make_copies(alloc: Global, model: &mut UserModel, edits: &[Edit]) -> Result<Vec<Undo>, Unmade>
-    ensures made { IfOk result (λ undos. AreMade model.old edits.now undos.items model.new) }
+    ensures made { IfOk result (λ undos. AreEditsMade model.old edits.now undos.items model.new) }
     ensures unmade { IfErr result (IsUnmade model.old.model edits.now) }
     ensures kept { OnErr result (model.new ≡ model.old) }
 {

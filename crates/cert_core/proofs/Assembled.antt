@@ -11,7 +11,7 @@ use Rattle.aff_core.specs.Address.{Address, address_cmp}
 use Rattle.aff_core.specs.Function.{Function, evaluated, variable}
 use Rattle.aff_core.specs.FunctionLists.{evaluations, slopes, values}
 use Rattle.aff_core.specs.Points.{spread}
-use Rattle.dual_laws.specs.Held.{DualRow}
+use Rattle.dual_laws.specs.Held.{DualRow, HasDuals}
 use Rattle.linear_laws.specs.ListLaws.{evaluations_slopes, evaluations_values}
 use Rattle.linear_laws.specs.PointLaws.{spread_at}
 use Rattle.set_core.specs.declared.set.Set.{Set}
@@ -22,12 +22,12 @@ use Rattle.user_model.specs.declared.objective.Objective.{Objective}
 use Rattle.user_model.specs.declared.row.Row.{Row}
 use Rattle.user_model.specs.Model.{ModelValue, variables}
 use Rattle.certificates.specs.Points.{address_of, addresses_of, all_addresses, at_point, functions_of, functions_of_group, variables_of}
-use Rattle.certificates.specs.Duals.{AreDuals, HasDuals, group_with, groups_with, rows_with, with_duals}
+use Rattle.certificates.specs.Duals.{AreDuals, group_with, groups_with, rows_with, with_duals}
 use Rattle.certificates.specs.DualPointLaws.{component_count}
 use Rattle.certificates.specs.Feasible.{IsFeasible, IsRay}
 use Rattle.cert_core.specs.Checked.{HasEachDual, HasRowDuals}
 use Rattle.cert_core.specs.Folds.{EvaluationFits, FitIn, PointFits}
-use Rattle.cert_core.specs.Holding.{FunctionsHold, HasGroupSet, HasRowSet, HoldsAt, HasSets}
+use Rattle.cert_core.specs.Holding.{FunctionsHold, HasGroupSet, HasRowSet, ModelHoldsAt, HasSets}
 use Rattle.cert_core.specs.Variables.{Ascend}
 use Rattle.numbered_list.specs.Numbered.{Rise}
 use Rattle.user_model.specs.Consistent.{variable_number}
@@ -55,27 +55,28 @@ module _ (model : ModelValue) (x : List Rational) where
       (λ set fs. In (recession set) (slopes fs own))
   slopes_in = λ i set fs. In (multiplied_zero set i) (evaluations_slopes fs own i)
 
-  pub feasible : length x ≡ length (variables model) → HoldsAt model one_ℚ x → IsFeasible model x
+  pub feasible : length x ≡ length (variables model) → ModelHoldsAt model one_ℚ x
+      → IsFeasible model x
   feasible size h = record {
     size = size;
     groups = subst OfGroups values_in h.groups;
     rows = subst OfRows values_in h.rows;
   }
 
-  pub from_feasible : IsFeasible model x → HoldsAt model one_ℚ x
+  pub from_feasible : IsFeasible model x → ModelHoldsAt model one_ℚ x
   from_feasible h = record {
     groups = subst OfGroups (sym values_in) h.groups;
     rows = subst OfRows (sym values_in) h.rows;
   }
 
-  pub ray : length x ≡ length (variables model) → HoldsAt model zero_ℚ x → IsRay model x
+  pub ray : length x ≡ length (variables model) → ModelHoldsAt model zero_ℚ x → IsRay model x
   ray size h = record {
     size = size;
     groups = subst OfGroups slopes_in h.groups;
     rows = subst OfRows slopes_in h.rows;
   }
 
-  pub from_ray : IsRay model x → HoldsAt model zero_ℚ x
+  pub from_ray : IsRay model x → ModelHoldsAt model zero_ℚ x
   from_ray h = record {
     groups = subst OfGroups (sym slopes_in) h.groups;
     rows = subst OfRows (sym slopes_in) h.rows;
@@ -167,7 +168,7 @@ pub point_told : (model : ModelValue) (one : Rational) (x : List Rational) (a b 
     × (IsTrue b
     ↔ All (λ g. FunctionsHold one g.set (functions_of_group g) (at_point model x)) model.groups)
     → (IsTrue now ↔ (IsTrue a × IsTrue b))
-    → PointFits model one x × (IsTrue now ↔ HoldsAt model one x)
+    → PointFits model one x × (IsTrue now ↔ ModelHoldsAt model one x)
 point_told model one x a b now rows groups both = (
   record { rows = rows.0; groups = groups.0 },
   (

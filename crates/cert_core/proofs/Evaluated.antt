@@ -20,7 +20,7 @@ use Rattle.set_core.specs.declared.set.Set.{Set}
 use Rattle.set_core.specs.Membership.{In, MembershipFits}
 use Rattle.set_core.specs.Mirrored.{multiplied}
 use Rattle.certificates.specs.Points.{variables_at}
-use Rattle.cert_core.specs.Answers.{TellsWhere}
+use Rattle.cert_core.specs.Answers.{TellsWhereFits}
 use Rattle.cert_core.specs.Folds.{AddUp, EvaluationFits, FitIn, products_at}
 use Rattle.cert_core.specs.Holding.{FunctionsHold}
 
@@ -89,30 +89,30 @@ read_variable r one start k v x zero_is one_is h =
 -- ---- in a set
 
 pub told_in : (r : Result Bool NumberFault) (fits : Type 0) (s t : Set) (v : List Rational) → t ≡ s
-    → TellsWhere r fits (In s v) → TellsWhere r fits (In t v)
-told_in r fits s t v same = subst (λ s. TellsWhere r fits (In s v)) (sym same)
+    → TellsWhereFits r fits (In s v) → TellsWhereFits r fits (In t v)
+told_in r fits s t v same = subst (λ s. TellsWhereFits r fits (In s v)) (sym same)
 
 -- functions that were read, in their set
 pub hold_in : (r : Result Bool NumberFault) (one : Rational) (set : Set) (fs : List Function)
     (x : Address → Rational) (v : List Rational) → All (λ f. EvaluationFits one f x) fs
-    → v ≡ evaluations one fs x → TellsWhere r (MembershipFits set v) (In (multiplied one set) v)
-    → TellsWhere r (FitIn one set fs x) (FunctionsHold one set fs x)
+    → v ≡ evaluations one fs x → TellsWhereFits r (MembershipFits set v) (In (multiplied one set) v)
+    → TellsWhereFits r (FitIn one set fs x) (FunctionsHold one set fs x)
 hold_in r one set fs x v fit is said =
     exact_as r (MembershipFits set (evaluations one fs x)) (FitIn one set fs x)
     (λ holds. IsTrue holds ↔ FunctionsHold one set fs x)
     (λ holds. IsTrue holds ↔ FunctionsHold one set fs x)
     (λ m. record { functions = fit; membership = m })
     (λ f. f.membership) (λ _ h. h)
-    (subst (λ l. TellsWhere r (MembershipFits set l) (In (multiplied one set) l)) is said)
+    (subst (λ l. TellsWhereFits r (MembershipFits set l) (In (multiplied one set) l)) is said)
 
 -- a group's variables, in its set
 pub variables_in_set : (r : Result Bool NumberFault) (one : Rational) (set : Set)
     (us : List Address) (x : Address → Rational) (v : List Rational) → v ≡ map x us
-    → TellsWhere r (MembershipFits set v) (In (multiplied one set) v)
-    → TellsWhere r (MembershipFits set (evaluations one (variables_at us) x))
+    → TellsWhereFits r (MembershipFits set v) (In (multiplied one set) v)
+    → TellsWhereFits r (MembershipFits set (evaluations one (variables_at us) x))
     (FunctionsHold one set (variables_at us) x)
 variables_in_set r one set us x v is said =
-    subst (λ l. TellsWhere r (MembershipFits set l) (In (multiplied one set) l))
+    subst (λ l. TellsWhereFits r (MembershipFits set l) (In (multiplied one set) l))
     (is ∙ sym (evaluations_variables one us x)) said
 
 pub variables_membership : (one : Rational) (set : Set) (us : List Address)

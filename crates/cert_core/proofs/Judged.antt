@@ -20,10 +20,10 @@ use Rattle.ratio_core.specs.declared.fault.NumberFault.TheVariants.{Overflow, Me
 use Rattle.certificates.specs.Good.{Good}
 use Rattle.certificates.specs.declared.certificate.Certificate.{Certificate}
 use Rattle.certificates.specs.declared.certificate.Certificate.TheVariants.{Optimal, Infeasible, Unbounded}
-use Rattle.cert_core.specs.Answers.{TellsWhere}
+use Rattle.cert_core.specs.Answers.{TellsWhereFits}
 use Rattle.cert_core.specs.Checked.{Checks, HasEntries, HasRowDuals}
-use Rattle.cert_core.specs.Folds.{AddUp, CertificateFits, DualValueFits, InfeasibleFits, ObjectiveFits, OptimalFits, PointFits, ReducedCostFits, UnboundedFits, adjoint_parts, gap_parts}
-use Rattle.cert_core.specs.Holding.{HoldsAt}
+use Rattle.cert_core.specs.Folds.{AddUp, CertificateFits, DualValueFits, InfeasibleFits, ObjectiveValueFits, OptimalFits, PointFits, ReducedCostFits, UnboundedFits, adjoint_parts, gap_parts}
+use Rattle.cert_core.specs.Holding.{ModelHoldsAt}
 use Rattle.cert_core.proofs.Assembled.{are_duals, feasible, row_duals, from_duals, from_feasible, from_ray, ray}
 use Rattle.cert_core.proofs.Parts.{adjoint_is}
 
@@ -58,8 +58,8 @@ module _ (model : ModelValue) where
 
     pub is_optimal : (value primal dual gap : Rational) (x : List Rational)
         (feasible_b sets_b equal_b primal_b dual_b now : Bool) → HasSize x
-        → PointFits model one_ℚ x → (IsTrue feasible_b ↔ HoldsAt model one_ℚ x)
-        → ObjectiveFits model one_ℚ x → primal ≡ Along one_ℚ x
+        → PointFits model one_ℚ x → (IsTrue feasible_b ↔ ModelHoldsAt model one_ℚ x)
+        → ObjectiveValueFits model one_ℚ x → primal ≡ Along one_ℚ x
         → Sets → (IsTrue sets_b ↔ InSets) → Adjoint
         → All (ReducedCostFits model rows) us
         → (IsTrue equal_b ↔ All (HasReducedCost model rows vars) us)
@@ -135,9 +135,9 @@ module _ (model : ModelValue) where
 
   pub is_unbounded : (slope_q : Rational) (x d : List Rational)
       (feasible_b ray_b better_b now : Bool) → HasSize x → HasSize d
-      → PointFits model one_ℚ x → (IsTrue feasible_b ↔ HoldsAt model one_ℚ x)
-      → PointFits model zero_ℚ d → (IsTrue ray_b ↔ HoldsAt model zero_ℚ d)
-      → ObjectiveFits model zero_ℚ d → slope_q ≡ Along zero_ℚ d
+      → PointFits model one_ℚ x → (IsTrue feasible_b ↔ ModelHoldsAt model one_ℚ x)
+      → PointFits model zero_ℚ d → (IsTrue ray_b ↔ ModelHoldsAt model zero_ℚ d)
+      → ObjectiveValueFits model zero_ℚ d → slope_q ≡ Along zero_ℚ d
       → (IsTrue better_b ↔ IsBetter (sense_of model.objective) slope_q zero_ℚ)
       → (IsTrue now ↔ (IsTrue feasible_b × IsTrue ray_b × IsTrue better_b))
       → UnboundedFits model x d × (IsTrue now ↔ IsUnbounded model x d)
@@ -181,7 +181,8 @@ good_entries model (Infeasible gap rows vars) g =
 good_entries model (Unbounded x d) g = (g.feasible.size, g.ray.size)
 
 pub checks_told : (model : ModelValue) (r : Result Bool NumberFault) (c : Certificate)
-    → HasEntries model c → TellsWhere r (CertificateFits model c) (Good model c) → Checks model r c
+    → HasEntries model c → TellsWhereFits r (CertificateFits model c) (Good model c)
+    → Checks model r c
 checks_told model (Ok is_good) c entries h = (h.1, λ _. h.0)
 checks_told model (Err Overflow) c entries h = (entries, h)
 checks_told model (Err Memory) c entries h = tt

@@ -24,7 +24,7 @@ use Rattle.user_model.specs.declared.group.GroupVar.{GroupVar}
 use Rattle.user_model.specs.Consistent.{variable_number}
 use Rattle.user_model.specs.Model.{variable_address}
 use Rattle.certificates.specs.Points.{address_of, addresses_of}
-use Rattle.cert_core.specs.Variables.{Ascend, IsPlaceOf}
+use Rattle.cert_core.specs.Variables.{Ascend, IsVariablePlace}
 
 -- ---- variables whose numbers rise have addresses that ascend
 
@@ -60,7 +60,7 @@ sorted us up = λ k d low lt.
 
 pub searched : (us : List Address) (at : Address) (r : Result ℕ ℕ) → Ascend us
     → IsSearchInRange r (length us) → IsBinarySearchResult (λ u. address_cmp u at) us r
-    → IsPlaceOf us at (result_ok r)
+    → IsVariablePlace us at (result_ok r)
 searched us at (Ok i) up range equal =
     slice_get-get_or us i at range
     ∙ ap Some (exact_addresses (get_or us i at) at (equal at))
@@ -163,6 +163,6 @@ pub stands : (us : List Address) (i : ℕ) (v : Address) → slice_get us i ≡ 
 stands us i v is = (i, slice_get_within us i v is, get_or_from_slice_get us i v v is)
 
 pub places_below : (us : List Address) (at : Address) (place : Option ℕ)
-    → IsPlaceOf us at place → IfSome place (λ i. i < length us)
+    → IsVariablePlace us at place → IfSome place (λ i. i < length us)
 places_below us at (Some i) is = slice_get_within us i at is
 places_below us at None none = tt

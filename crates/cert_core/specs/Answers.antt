@@ -4,5 +4,5 @@ use Rattle.ratio_core.specs.declared.fault.NumberFault.{NumberFault}
 use Rattle.ratio_core.specs.Answers.{ExactWhere}
 
 -- whether P holds, exactly where what it takes fits
-abbrev pub TellsWhere : Result Bool NumberFault → Type 0 → Type 0 → Type 0
-TellsWhere result fits P = ExactWhere result fits (λ holds. IsTrue holds ↔ P)
+abbrev pub TellsWhereFits : Result Bool NumberFault → Type 0 → Type 0 → Type 0
+TellsWhereFits result fits P = ExactWhere result fits (λ holds. IsTrue holds ↔ P)

@@ -83,8 +83,8 @@ module _ (model : ModelValue) where
         model.groups
 
   -- the objective
-  abbrev pub ObjectiveFits : Rational → List Rational → Type 0
-  ObjectiveFits one x =
+  abbrev pub ObjectiveValueFits : Rational → List Rational → Type 0
+  ObjectiveValueFits one x =
       EvaluationFits one (objective_function model.objective) (at_point model x)
 
   -- the duals in their sets, the rows' adjoint of each variable, and the gap
@@ -106,7 +106,7 @@ module _ (model : ModelValue) where
   pub record OptimalFits (x : List Rational)
       (rows : List (List Rational)) (vars : List Rational) : Type 0 where
     pub point : PointFits one_ℚ x
-    pub value : ObjectiveFits one_ℚ x
+    pub value : ObjectiveValueFits one_ℚ x
     pub duals : DualsFit rows vars
     pub equations : All (ReducedCostFits rows) (addresses_of (variables model))
     pub dual_value : DualValueFits (sense_of model.objective)
@@ -120,7 +120,7 @@ module _ (model : ModelValue) where
   pub record UnboundedFits (x d : List Rational) : Type 0 where
     pub point : PointFits one_ℚ x
     pub ray : PointFits zero_ℚ d
-    pub slope : ObjectiveFits zero_ℚ d
+    pub slope : ObjectiveValueFits zero_ℚ d
 
   -- everything that the check of a certificate multiplies and adds
   abbrev pub CertificateFits : Certificate → Type 0

@@ -19,7 +19,7 @@ abbrev pub FunctionsHold : Rational → Set → List Function → (Address → R
 FunctionsHold one set fs x = In (multiplied one set) (evaluations one fs x)
 
 -- each row and each group of a model holds so
-pub record HoldsAt (model : ModelValue) (one : Rational) (x : List Rational) : Type 0 where
+pub record ModelHoldsAt (model : ModelValue) (one : Rational) (x : List Rational) : Type 0 where
   pub rows : All (λ r. FunctionsHold one r.set (functions_of r.func) (at_point model x)) model.rows
   pub groups :
       All (λ g. FunctionsHold one g.set (functions_of_group g) (at_point model x)) model.groups

@@ -8,6 +8,6 @@ pub record Ascend (us : List Address) : Type 0 where
   pub ascending : AllPairs (λ u w. address_cmp u w ≡ Less) us
 
 -- the address stands at the place, or nowhere
-abbrev pub IsPlaceOf : List Address → Address → Option ℕ → Type 0
-IsPlaceOf us at (Some place) = slice_get us place ≡ Some at
-IsPlaceOf us at None = ¬ (Contains us at)
+abbrev pub IsVariablePlace : List Address → Address → Option ℕ → Type 0
+IsVariablePlace us at (Some place) = slice_get us place ≡ Some at
+IsVariablePlace us at None = ¬ (Contains us at)

@@ -10,10 +10,10 @@ ghost use Rattle.user_model.specs.Valid.{HasValidParts};
 ghost use Rattle.certificates.specs.Duals.{dual_gap, with_duals};
 ghost use Rattle.certificates.specs.Feasible.{IsBetter};
 ghost use Rattle.certificates.specs.Good.{IsInfeasible, IsOptimal, IsUnbounded};
-ghost use Rattle.cert_core.specs.Answers.{TellsWhere};
+ghost use Rattle.cert_core.specs.Answers.{TellsWhereFits};
 ghost use Rattle.cert_core.specs.Checked.{Checks, HasEntries, HasRowDuals, model_of};
 ghost use Rattle.cert_core.specs.Folds.{AddUp, InfeasibleFits, OptimalFits, PointFits, UnboundedFits, gap_parts};
-ghost use Rattle.cert_core.specs.Holding.{HoldsAt, HasSets};
+ghost use Rattle.cert_core.specs.Holding.{ModelHoldsAt, HasSets};
 ghost use Rattle.cert_core.specs.Readings.{one_of};
 ghost use Rattle.certificates.specs.Points.{all_addresses, variables_of};
 
@@ -23,7 +23,7 @@ use crate::entries::has_row_duals;
 use crate::equations::{are_reduced_costs, cancel, dual_value};
 use crate::gap::{gap_of_rows, plus_groups};
 use crate::objective::{constant, reading_of, sense};
-use crate::point::Point;
+use crate::point::ModelPoint;
 use crate::points::{groups_hold, rows_hold};
 use crate::readings::ValueOrSlope;
 use crate::variables::Variables;
@@ -133,10 +133,10 @@ impl<'a> Parts<'a> {
         requires size { length x.now ≡ length self.now.variables }
         ensures { (next : NextNumbers) → let model = model_of self.now.groups.now.items
             self.now.rows.now.items self.now.objective.now next in
-            TellsWhere result (PointFits model (one_of reading) x.now)
-            (HoldsAt model (one_of reading) x.now) }
+            TellsWhereFits result (PointFits model (one_of reading) x.now)
+            (ModelHoldsAt model (one_of reading) x.now) }
     {
-        let at = Point::new(&self.variables, x);
+        let at = ModelPoint::new(&self.variables, x);
         let rows = rows_hold(alloc, reading, self.rows, &at)?;
         let groups = groups_hold(reading, self.groups, x)?;
         Ok(all_true(&[rows, groups]))
@@ -150,7 +150,7 @@ impl<'a> Parts<'a> {
         ensures { (next : NextNumbers) → let model = model_of self.now.groups.now.items
             self.now.rows.now.items self.now.objective.now next in
             let hs = with_duals model duals.now.rows.now duals.now.vars.now in
-            TellsWhere result
+            TellsWhereFits result
             (All (λ h. DualFits h.set h.duals) hs) (All (λ h. Dual h.set h.duals) hs) }
     {
         let rows = row_duals_hold(self.rows, duals.rows)?;
@@ -185,11 +185,11 @@ impl<'a> Parts<'a> {
         requires vars { length duals.now.vars.now ≡ length self.now.variables }
         ensures { (next : NextNumbers) → let model = model_of self.now.groups.now.items
             self.now.rows.now.items self.now.objective.now next in
-            TellsWhere result (OptimalFits model x.now duals.now.rows.now duals.now.vars.now)
+            TellsWhereFits result (OptimalFits model x.now duals.now.rows.now duals.now.vars.now)
             (IsOptimal model value.now x.now duals.now.rows.now duals.now.vars.now) }
     {
         let feasible = self.holds_at(alloc, ValueOrSlope::Value, x)?;
-        let at = Point::new(&self.variables, x);
+        let at = ModelPoint::new(&self.variables, x);
         let primal = reading_of(self.objective, ValueOrSlope::Value, &at)?;
         let in_sets = self.duals_hold(duals)?;
         let sums = adjoint_of_rows(alloc, &self.variables, self.rows, duals.rows)?;
@@ -208,7 +208,7 @@ impl<'a> Parts<'a> {
         requires vars { length duals.now.vars.now ≡ length self.now.variables }
         ensures { (next : NextNumbers) → let model = model_of self.now.groups.now.items
             self.now.rows.now.items self.now.objective.now next in
-            TellsWhere result (InfeasibleFits model duals.now.rows.now duals.now.vars.now)
+            TellsWhereFits result (InfeasibleFits model duals.now.rows.now duals.now.vars.now)
             (IsInfeasible model gap.now duals.now.rows.now duals.now.vars.now) }
     {
         let in_sets = self.duals_hold(duals)?;
@@ -226,11 +226,11 @@ impl<'a> Parts<'a> {
         requires ray { length d.now ≡ length self.now.variables }
         ensures { (next : NextNumbers) → let model = model_of self.now.groups.now.items
             self.now.rows.now.items self.now.objective.now next in
-            TellsWhere result (UnboundedFits model x.now d.now) (IsUnbounded model x.now d.now) }
+            TellsWhereFits result (UnboundedFits model x.now d.now) (IsUnbounded model x.now d.now) }
     {
         let feasible = self.holds_at(alloc, ValueOrSlope::Value, x)?;
         let ray = self.holds_at(alloc, ValueOrSlope::Slope, d)?;
-        let along = Point::new(&self.variables, d);
+        let along = ModelPoint::new(&self.variables, d);
         let slope = reading_of(self.objective, ValueOrSlope::Slope, &along)?;
         let is_better = improves(sense(self.objective), &slope);
         Ok(all_true(&[feasible, ray, is_better]))

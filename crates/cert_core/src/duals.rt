@@ -4,7 +4,7 @@ ghost use Rattle.ratio_core.specs.Rational.{Rational};
 ghost use Rattle.aff_core.specs.Address.{Address};
 ghost use Rattle.set_core.specs.Membership.{Dual, DualFits};
 ghost use Rattle.certificates.specs.Duals.{groups_with, rows_with};
-ghost use Rattle.cert_core.specs.Answers.{TellsWhere};
+ghost use Rattle.cert_core.specs.Answers.{TellsWhereFits};
 ghost use Rattle.cert_core.specs.Checked.{HasRowDuals};
 ghost use Rattle.cert_core.specs.Holding.{HasGroupSet, HasRowSet};
 ghost use Rattle.certificates.specs.Points.{all_addresses};
@@ -16,7 +16,7 @@ use user_model::{Groups, Rows};
 pub(crate) fn row_duals_hold(rows: &Rows, duals: &[Ratios]) -> Result<bool, NumberFault>
     requires sets { All HasRowSet rows.now.items }
     requires entries { HasRowDuals rows.now.items duals.now }
-    ensures { TellsWhere result
+    ensures { TellsWhereFits result
         (All (λ h. DualFits h.set h.duals) (rows_with duals.now rows.now.items))
         (All (λ h. Dual h.set h.duals) (rows_with duals.now rows.now.items)) }
 {
@@ -34,7 +34,7 @@ pub(crate) fn group_duals_hold(groups: &Groups, duals: &[Ratio]) -> Result<bool,
     requires sets { All HasGroupSet groups.now.items }
     requires size { length duals.now ≡ length (all_addresses groups.now.items) }
     ensures { (w : Address → Rational) → map w (all_addresses groups.now.items) ≡ duals.now
-        → TellsWhere result
+        → TellsWhereFits result
         (All (λ h. DualFits h.set h.duals) (groups_with w groups.now.items))
         (All (λ h. Dual h.set h.duals) (groups_with w groups.now.items)) }
 {

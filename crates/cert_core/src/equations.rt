@@ -6,7 +6,7 @@ ghost use Rattle.aff_core.specs.Address.{Address};
 ghost use Rattle.aff_core.specs.Function.{coefficient};
 ghost use Rattle.certificates.specs.Duals as dual;
 ghost use Rattle.certificates.specs.Points.{objective_function, sense_of};
-ghost use Rattle.cert_core.specs.Answers.{TellsWhere};
+ghost use Rattle.cert_core.specs.Answers.{TellsWhereFits};
 ghost use Rattle.cert_core.specs.Folds.{CostFits, DualValueFits};
 
 use crate::objective::{cost, sense};
@@ -25,7 +25,7 @@ pub(crate) fn are_reduced_costs(
     requires duals { length duals.now ≡ length variables.now }
     ensures { (a w : Address → Rational) → map a variables.now ≡ adjoint.now
         → map w variables.now ≡ duals.now
-        → TellsWhere result
+        → TellsWhereFits result
         (All (λ v. CostFits (sense_of objective.now)
         (coefficient (objective_function objective.now) v) (a v)) variables.now)
         (All (λ v. w v ≡ dual.reduced_cost (sense_of objective.now)
@@ -61,7 +61,7 @@ pub(crate) fn cancel(
     requires duals { length duals.now ≡ length variables.now }
     ensures { (a w : Address → Rational) → map a variables.now ≡ adjoint.now
         → map w variables.now ≡ duals.now
-        → TellsWhere result
+        → TellsWhereFits result
         (All (λ v. SumFits (a v) (w v)) variables.now)
         (All (λ v. a v +ℚ w v ≡ zero_ℚ) variables.now) }
 {

@@ -23,6 +23,6 @@ pub use components::component_count;
 pub use equations::reduced_cost;
 pub use gap::{plus_group, plus_row};
 pub use objective::{cost, reading_of, sense};
-pub use point::Point;
+pub use point::ModelPoint;
 pub use readings::ValueOrSlope;
 pub use variables::Variables;

@@ -8,7 +8,7 @@ ghost use Rattle.cert_core.specs.Folds.{EvaluationFits};
 ghost use Rattle.cert_core.specs.Readings.{one_of};
 ghost use Rattle.cert_core.specs.Points.{numbers_in};
 
-use crate::point::Point;
+use crate::point::ModelPoint;
 use crate::readings::ValueOrSlope;
 use aff_core::Address;
 use ratio_core::{NumberFault, Ratio};
@@ -63,7 +63,7 @@ fn unit(var: &Address, at: &Address) -> Ratio
 pub fn reading_of(
     objective: &Objective,
     reading: ValueOrSlope,
-    at: &Point,
+    at: &ModelPoint,
 ) -> Result<Ratio, NumberFault>
     ensures { let x = numbers_in at.now in
         ExactWhere result

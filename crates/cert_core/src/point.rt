@@ -10,16 +10,16 @@ use ratio_core::Ratio;
 
 /// A point: numbers of a model's variables.
 #[derive(Clone, Copy)]
-pub struct Point<'a> {
+pub struct ModelPoint<'a> {
     variables: &'a Variables,
     numbers: &'a [Ratio],
 }
 
-impl<'a> Point<'a> {
-    pub fn new(variables: &'a Variables, numbers: &'a [Ratio]) -> Point<'a>
+impl<'a> ModelPoint<'a> {
+    pub fn new(variables: &'a Variables, numbers: &'a [Ratio]) -> ModelPoint<'a>
         ensures { numbers_in result ≡ spread variables.now numbers.now }
     {
-        Point { variables, numbers }
+        ModelPoint { variables, numbers }
     }
 
     /// The number at an address, which is 0 where no variable stands.

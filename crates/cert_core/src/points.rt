@@ -6,7 +6,7 @@ ghost use Rattle.ratio_core.specs.Rational.{Rational};
 ghost use Rattle.ratio_core.specs.Answers.{ExactWhere};
 ghost use Rattle.set_core.specs.Membership.{MembershipFits};
 ghost use Rattle.certificates.specs.Points.{all_addresses, functions_of, functions_of_group, variables_at};
-ghost use Rattle.cert_core.specs.Answers.{TellsWhere};
+ghost use Rattle.cert_core.specs.Answers.{TellsWhereFits};
 ghost use Rattle.cert_core.specs.Folds.{EvaluationFits, FitIn};
 ghost use Rattle.cert_core.specs.Components.{functions_in};
 ghost use Rattle.cert_core.specs.Readings.{one_of};
@@ -14,7 +14,7 @@ ghost use Rattle.cert_core.specs.Holding.{FunctionsHold, HasRowSet, HasGroupSet}
 ghost use Rattle.cert_core.specs.Points.{numbers_in};
 
 use crate::components::{Components, components_of};
-use crate::point::Point;
+use crate::point::ModelPoint;
 use crate::readings::ValueOrSlope;
 use aff_core::{Address, Aff};
 use ratio_core::{NumberFault, Ratio};
@@ -26,11 +26,11 @@ pub(crate) fn rows_hold(
     alloc: Global,
     reading: ValueOrSlope,
     rows: &Rows,
-    at: &Point,
+    at: &ModelPoint,
 ) -> Result<bool, NumberFault>
     requires { All HasRowSet rows.now.items }
     ensures { let x = numbers_in at.now in
-        TellsWhere result
+        TellsWhereFits result
         (All (λ r. FitIn (one_of reading) r.set (functions_of r.func) x) rows.now.items)
         (All (λ r. FunctionsHold (one_of reading) r.set (functions_of r.func) x) rows.now.items) }
 {
@@ -46,11 +46,11 @@ fn row_holds(
     alloc: Global,
     reading: ValueOrSlope,
     row: &Row,
-    at: &Point,
+    at: &ModelPoint,
 ) -> Result<bool, NumberFault>
     requires { HasRowSet row.now }
     ensures { let x = numbers_in at.now in
-        TellsWhere result
+        TellsWhereFits result
         (FitIn (one_of reading) row.now.set (functions_of row.now.func) x)
         (FunctionsHold (one_of reading) row.now.set (functions_of row.now.func) x) }
 {
@@ -62,7 +62,7 @@ fn read_components(
     alloc: Global,
     reading: ValueOrSlope,
     components: Components,
-    at: &Point,
+    at: &ModelPoint,
 ) -> Result<Vec<Ratio>, NumberFault>
     ensures { let x = numbers_in at.now in
         ExactWhere result
@@ -79,7 +79,7 @@ fn read_variables(
     alloc: Global,
     reading: ValueOrSlope,
     vars: &[Address],
-    at: &Point,
+    at: &ModelPoint,
 ) -> Result<Vec<Ratio>, NumberFault>
     ensures { let x = numbers_in at.now in
         ExactWhere result
@@ -97,7 +97,7 @@ fn read_functions(
     alloc: Global,
     reading: ValueOrSlope,
     fs: &[Aff],
-    at: &Point,
+    at: &ModelPoint,
 ) -> Result<Vec<Ratio>, NumberFault>
     ensures { let x = numbers_in at.now in
         ExactWhere result
@@ -120,7 +120,7 @@ pub(crate) fn groups_hold(
     requires sets { All HasGroupSet groups.now.items }
     requires size { length numbers.now ≡ length (all_addresses groups.now.items) }
     ensures { (x : Address → Rational) → map x (all_addresses groups.now.items) ≡ numbers.now
-        → TellsWhere result
+        → TellsWhereFits result
         (All (λ g. MembershipFits g.set (evaluations (one_of reading) (functions_of_group g) x))
         groups.now.items)
         (All (λ g. FunctionsHold (one_of reading) g.set (functions_of_group g) x) groups.now.items) }

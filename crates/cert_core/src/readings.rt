@@ -6,12 +6,12 @@ ghost use Rattle.aff_core.specs.Function.{evaluated, variable};
 ghost use Rattle.set_core.specs.Membership.{In, MembershipFits};
 ghost use Rattle.set_core.specs.Mirrored.{multiplied};
 ghost use Rattle.set_core.specs.Shapes.{dimension_of};
-ghost use Rattle.cert_core.specs.Answers.{TellsWhere};
+ghost use Rattle.cert_core.specs.Answers.{TellsWhereFits};
 ghost use Rattle.cert_core.specs.Folds.{EvaluationFits};
 ghost use Rattle.cert_core.specs.Readings.{one_of};
 ghost use Rattle.cert_core.specs.Points.{numbers_in};
 
-use crate::point::Point;
+use crate::point::ModelPoint;
 use crate::sums::plus_terms;
 use aff_core::{Address, Aff};
 use ratio_core::{NumberFault, Ratio};
@@ -26,7 +26,7 @@ pub enum ValueOrSlope {
 
 impl ValueOrSlope {
     /// The function's value or slope.
-    pub fn of_function(self, f: &Aff, at: &Point) -> Result<Ratio, NumberFault>
+    pub fn of_function(self, f: &Aff, at: &ModelPoint) -> Result<Ratio, NumberFault>
         ensures { let x = numbers_in at.now in
             ExactWhere result (EvaluationFits (one_of self) f.now x)
             (λ q. q ≡ evaluated (one_of self) f.now x) }
@@ -38,7 +38,7 @@ impl ValueOrSlope {
     }
 
     /// The value or the slope of the function that is a variable.
-    pub fn of_variable(self, var: &Address, at: &Point) -> Result<Ratio, NumberFault>
+    pub fn of_variable(self, var: &Address, at: &ModelPoint) -> Result<Ratio, NumberFault>
         ensures { let x = numbers_in at.now in
             ExactWhere result (EvaluationFits (one_of self) (variable var.now) x)
             (λ q. q ≡ evaluated {R = address_cmp} (one_of self) (variable var.now) x) }
@@ -49,7 +49,7 @@ impl ValueOrSlope {
     /// Whether values are in a set, or slopes in its recession set.
     pub fn holds(self, set: &Set, v: &[Ratio]) -> Result<bool, NumberFault>
         requires { length v.now ≡ dimension_of set.now }
-        ensures { TellsWhere result (MembershipFits set.now v.now)
+        ensures { TellsWhereFits result (MembershipFits set.now v.now)
             (In (multiplied (one_of self) set.now) v.now) }
     {
         match self {

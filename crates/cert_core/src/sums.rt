@@ -6,7 +6,7 @@ ghost use Rattle.aff_core.specs.Terms.{StepFits, linear};
 ghost use Rattle.cert_core.specs.Folds.{AddUp, products_at};
 ghost use Rattle.cert_core.specs.Points.{numbers_in};
 
-use crate::point::Point;
+use crate::point::ModelPoint;
 use aff_core::Address;
 use ratio_core::{NumberFault, Ratio};
 
@@ -23,7 +23,7 @@ pub(crate) fn plus_product(sum: &Ratio, a: &Ratio, b: &Ratio) -> Result<Ratio, N
 pub(crate) fn plus_terms(
     start: &Ratio,
     terms: &[(Address, Ratio)],
-    at: &Point,
+    at: &ModelPoint,
 ) -> Result<Ratio, NumberFault>
     ensures { let x = numbers_in at.now in
         ExactWhere result (AddUp start.now (products_at terms.now x))

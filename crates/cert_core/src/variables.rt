@@ -3,7 +3,7 @@ ghost use Rattle.std.specs.Prelude.{◌≡◌, ◌<◌, ◌++◌, IfOk, IfSome, 
 ghost use Rattle.numbered_list.specs.Numbered.{Rise};
 ghost use Rattle.user_model.specs.Consistent.{variable_number};
 ghost use Rattle.certificates.specs.Points.{addresses_of, all_addresses, variables_of};
-ghost use Rattle.cert_core.specs.Variables.{Ascend, IsPlaceOf};
+ghost use Rattle.cert_core.specs.Variables.{Ascend, IsVariablePlace};
 
 use aff_core::{Address, Root};
 use ratio_core::Memory;
@@ -60,7 +60,7 @@ impl Variables {
 
     /// The place of an address among them.
     pub fn place(&self, at: &Address) -> Option<usize>
-        ensures at { IsPlaceOf self.now at.now result }
+        ensures at { IsVariablePlace self.now at.now result }
         ensures ascending { Ascend self.now }
         ensures below { IfSome result (λ place. place < length self.now) }
     {

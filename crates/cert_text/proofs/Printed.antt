@@ -8,7 +8,7 @@ use Rattle.ratio_core.specs.Rational.{Rational}
 use Rattle.ratio_core.specs.Text.{text_of}
 use Rattle.user_model.specs.declared.group.GroupVar.{GroupVar}
 use Rattle.user_model.specs.declared.row.Row.{Row}
-use Rattle.cert_text.specs.ReadsBack.{Reads, RowReads, VariableReads}
+use Rattle.cert_text.specs.ReadsBack.{ReadsAsItself, RowReads, VariableReads}
 use Rattle.certificates.specs.declared.certificate.Certificate.TheVariants.{Infeasible, Optimal, Unbounded}
 use Rattle.cert_text.specs.Text.{certificate_text, dual_lines, ended, number_line, numbers_text, row_line, row_lines, text_of_lines, variable_line, variable_lines}
 
@@ -102,19 +102,20 @@ module _ {rows : List Row} {duals : List (List Rational)} {start : List ℕ} whe
 pub record NumbersPrinted (all : List Rational) (start : List ℕ) (left : List Rational)
     (text : List ℕ) : Type 0 where
   pub written : text ++ numbers_text left ≡ start ++ numbers_text all
-  pub reads : All Reads left → All Reads all
+  pub reads : All ReadsAsItself left → All ReadsAsItself all
 
 module _ {all : List Rational} {start : List ℕ} where
   pub numbers_more : (q : Rational) (left others : List Rational) (text new : List ℕ)
       → NumbersPrinted all start left text → left ≡ q ∷ others
-      → new ≡ (text ++ codes " ") ++ text_of q → Reads q → NumbersPrinted all start others new
+      → new ≡ (text ++ codes " ") ++ text_of q → ReadsAsItself q
+      → NumbersPrinted all start others new
   numbers_more q left others text new h is e reads = record {
     written =
         ap (λ t. t ++ numbers_text others) (e ∙ append_assoc text (codes " ") (text_of q))
         ∙ append_assoc text (codes " " ++ text_of q) (numbers_text others)
         ∙ sym (ap (λ qs. text ++ numbers_text qs) is) ∙ h.written;
-    reads = λ rest. h.reads (subst (λ qs. All Reads qs) (sym is)
-        (All-cons Reads q others reads rest));
+    reads = λ rest. h.reads (subst (λ qs. All ReadsAsItself qs) (sym is)
+        (All-cons ReadsAsItself q others reads rest));
   }
 
 -- ---- certificates

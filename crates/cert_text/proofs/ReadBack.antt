@@ -19,7 +19,7 @@ use Rattle.cert_core.specs.Checked.{HasEachDual, HasRowDuals}
 use Rattle.cert_text.specs.declared.heading.Heading.{Heading}
 use Rattle.cert_text.specs.declared.heading.Heading.TheVariants.{Optimal, Infeasible, Unbounded}
 use Rattle.cert_text.specs.Reading.{Lines, after, at_end, body_of, certificate_in, certificate_of, duals_of, each_line, heading_of, infeasible_of, number_after, numbers_in, numbers_of, optimal_of, point_of, row_duals_of, unbounded_of, variable_number}
-use Rattle.cert_text.specs.ReadsBack.{Reads, RowReads, VariableReads}
+use Rattle.cert_text.specs.ReadsBack.{ReadsAsItself, RowReads, VariableReads}
 use Rattle.cert_text.specs.Text.{Line, certificate_lines, certificate_text, dual_lines, number_line, numbers_text, row_head, row_line, row_lines, variable_head, variable_line, variable_lines}
 use Rattle.script_tokens.specs.Each.{each}
 use Rattle.cert_text.proofs.Bytes.{OnLine, by_test, graphic_above, number_above, on_line}
@@ -34,26 +34,27 @@ after_joined beginning rest =
     ∙ (bytes_eq-Decides beginning beginning).1 refl)
     ∙ ap Some (drop-append_seam beginning rest)
 
-number_read : (beginning : List ℕ) (q : Rational) → Reads q
+number_read : (beginning : List ℕ) (q : Rational) → ReadsAsItself q
     → number_after beginning (number_line beginning q) ≡ Some q
 unfolding number_after
 number_read beginning q h =
     ap (λ o. option_and_then rational_of o) (after_joined beginning (text_of q)) ∙ h
 
-each_read : (qs : List Rational) → All Reads qs → each rational_of (map text_of qs) ≡ Some qs
+each_read : (qs : List Rational) → All ReadsAsItself qs
+    → each rational_of (map text_of qs) ≡ Some qs
 each_read [] h = refl
 each_read (q ∷ qs) h =
     ap₂ (λ o others. option_and_then (λ y. option_and_then (λ ys. Some (y ∷ ys)) others) o)
-    (All-head Reads q qs h) (each_read qs (All-tail Reads q qs h))
+    (All-head ReadsAsItself q qs h) (each_read qs (All-tail ReadsAsItself q qs h))
 
-numbers_read : (qs : List Rational) → All Reads qs → numbers_of (numbers_text qs) ≡ Some qs
+numbers_read : (qs : List Rational) → All ReadsAsItself qs → numbers_of (numbers_text qs) ≡ Some qs
 unfolding numbers_of
 numbers_read qs h = ap numbers_in (numbers_split qs) ∙ each_read qs h
 
 -- ---- lines
 
 duals_read : (row : Row) (qs : List Rational) → length qs ≡ length (functions_of row.func)
-    → All Reads qs → duals_of row (row_line (row, qs)) ≡ Some qs
+    → All ReadsAsItself qs → duals_of row (row_line (row, qs)) ≡ Some qs
 unfolding duals_of
 duals_read row qs e h =
     ap (λ o. option_and_then (λ rest. option_and_then
@@ -177,7 +178,7 @@ module _ {S A B C D : Type 0} where
 abbrev last : Lines
 last = [] ∷ []
 
-optimal_heading : (value : Rational) → Reads value
+optimal_heading : (value : Rational) → ReadsAsItself value
     → heading_of (number_line (codes "optimal ") value) ≡ Some (Optimal value)
 unfolding heading_of
 optimal_heading value h =
@@ -187,7 +188,7 @@ optimal_heading value h =
     (cond (bytes_eq line (codes "unbounded")) (Some Unbounded) None)))
     (number_read (codes "optimal ") value h)
 
-infeasible_heading : (gap : Rational) → Reads gap
+infeasible_heading : (gap : Rational) → ReadsAsItself gap
     → heading_of (number_line (codes "infeasible ") gap) ≡ Some (Infeasible gap)
 unfolding heading_of number_after
 infeasible_heading gap h =
@@ -244,7 +245,7 @@ module _ (variables : List GroupVar) (rows : List Row) where
       (of_vars : length vars ≡ length variables)
       (r : All RowReads (zip rows duals)) (w : All VariableReads (zip variables vars)) where
     pub optimal_read : (value : Rational) (x : List Rational) → length x ≡ length variables
-        → Reads value → All VariableReads (zip variables x)
+        → ReadsAsItself value → All VariableReads (zip variables x)
         → certificate_of variables rows (certificate_text variables rows
         (certificate.Optimal value x duals vars))
         ≡ Some (certificate.Optimal value x duals vars)
@@ -279,7 +280,7 @@ module _ (variables : List GroupVar) (rows : List Row) where
               (point_read variables (codes "dual var ") vars last of_vars w));
         })
 
-    pub infeasible_read : (gap : Rational) → Reads gap
+    pub infeasible_read : (gap : Rational) → ReadsAsItself gap
         → certificate_of variables rows (certificate_text variables rows
         (certificate.Infeasible gap duals vars)) ≡ Some (certificate.Infeasible gap duals vars)
     unfolding body_of infeasible_of

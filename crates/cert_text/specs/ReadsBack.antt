@@ -18,18 +18,18 @@ use Rattle.cert_text.specs.Text.{certificate_text}
 abbrev pub IsGraphic : List ℕ → Type 0
 IsGraphic bytes = All (λ b. (33 ≤ b) × (b ≤ 126)) bytes
 
-abbrev pub Reads : Rational → Type 0
-Reads q = rational_of (text_of q) ≡ Some q
+abbrev pub ReadsAsItself : Rational → Type 0
+ReadsAsItself q = rational_of (text_of q) ≡ Some q
 
 -- the name is graphic, and the number reads back
 pub record VariableReads (entry : GroupVar × Rational) : Type 0 where
   pub name : IsGraphic (escaped entry.0.name)
-  pub number : Reads entry.1
+  pub number : ReadsAsItself entry.1
 
 -- the name is graphic, and the numbers read back
 pub record RowReads (entry : Row × List Rational) : Type 0 where
   pub name : IsGraphic (escaped entry.0.name)
-  pub numbers : All Reads entry.1
+  pub numbers : All ReadsAsItself entry.1
 
 -- what is printed of a certificate with the right numbers of entries reads as the certificate
 abbrev pub ReadsBack : List Group → List Row → Certificate → Type 0

@@ -7,7 +7,5 @@ mod printing;
 mod reading;
 mod variables;
 
-pub use cert_core::{Certificate, DualRows};
-pub use name_index::Text;
 pub use printing::print;
 pub use reading::read;

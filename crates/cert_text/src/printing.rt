@@ -4,13 +4,12 @@ ghost use Rattle.std.specs.List.{zip};
 ghost use Rattle.name_index.specs.Escape.{escaped};
 ghost use Rattle.certificates.specs.Points.{variables_of};
 ghost use Rattle.cert_text.specs.Text as texts;
-ghost use Rattle.cert_text.specs.ReadsBack.{IsGraphic, Reads, ReadsBack, RowReads, VariableReads};
+ghost use Rattle.cert_text.specs.ReadsBack.{IsGraphic, ReadsAsItself, ReadsBack, RowReads, VariableReads};
 
-use crate::Text;
 use crate::variables::Variables;
 use cert_core::Certificate;
 use lists::Sequence;
-use name_index::Name;
+use name_index::{Name, Text};
 use ratio_core::{Memory, Ratio, Ratios};
 use std::alloc::Global;
 use user_model::{GroupVar, Groups, Row, Rows};
@@ -225,7 +224,7 @@ fn push_row(text: &mut Vec<u8>, row: &Row, duals: &[Ratio]) -> Result<(), Memory
 fn push_each(text: &mut Vec<u8>, numbers: &[Ratio]) -> Result<(), Memory>
     ensures value { OnOk result (text.new.items ≡ text.old.items
         ++ texts.numbers_text numbers.now) }
-    ensures reads { OnOk result (All Reads numbers.now) }
+    ensures reads { OnOk result (All ReadsAsItself numbers.now) }
 {
     for number in numbers {
         push(text, b" ")?;
@@ -248,7 +247,7 @@ pub(crate) fn push_row_head(text: &mut Vec<u8>, name: &Name) -> Result<(), Memor
 fn push_number_line(text: &mut Vec<u8>, beginning: &[u8], number: &Ratio) -> Result<(), Memory>
     ensures value { OnOk result (text.new.items ≡ text.old.items
         ++ texts.ended (texts.number_line beginning.now number.now)) }
-    ensures reads { OnOk result (Reads number.now) }
+    ensures reads { OnOk result (ReadsAsItself number.now) }
 {
     push(text, beginning)?;
     number.print(text)?;

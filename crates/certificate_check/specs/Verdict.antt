@@ -36,12 +36,12 @@ Judges model c answer =
     × ((Good model c × (answer ≡ yes)) ⊎ (¬ (Good model c) × (answer ≡ no))))
     ⊎ (¬ (CertificateFits model c) × (answer ≡ refused (Overflow Check)))
 
-abbrev pub IsAnswer : Answer → Answer → Type 0
-IsAnswer said answer = answer ≡ said
+abbrev pub IsThisAnswer : Answer → Answer → Type 0
+IsThisAnswer said answer = answer ≡ said
 
 -- a text that isn't a certificate's for the model is `no`
 abbrev pub JudgesText : ModelValue → Option Certificate → Answer → Type 0
-JudgesText model None = IsAnswer no
+JudgesText model None = IsThisAnswer no
 JudgesText model (Some c) = Judges model c
 
 abbrev pub fetch_answer : FetchFault → Answer
@@ -53,7 +53,7 @@ fetch_answer fetch.Memory = Memory
 abbrev pub JudgesFile : ModelValue → Result (List ℕ) FetchFault → Answer → Type 0
 JudgesFile model (Ok text) =
     JudgesText model (certificate_of (variables_of model.groups) model.rows text)
-JudgesFile model (Err fault) = IsAnswer (fetch_answer fault)
+JudgesFile model (Err fault) = IsThisAnswer (fetch_answer fault)
 
 -- for a model the certificate is fetched
 abbrev pub FetchesText : Told → List ℕ → ModelValue → Answer → Type 0
@@ -64,7 +64,7 @@ FetchesText shelf certificate model answer =
 -- the model that the edits make, or their first refusal
 abbrev pub JudgesMade : Told → List ℕ → Result ModelValue Refusal → Answer → Type 0
 JudgesMade shelf certificate (Ok model) = FetchesText shelf certificate model
-JudgesMade shelf certificate (Err refusal) = IsAnswer (refused (refused_of refusal))
+JudgesMade shelf certificate (Err refusal) = IsThisAnswer (refused (refused_of refusal))
 
 -- the file of this name may be read, and its edits make a model
 pub record MakesModel (shelf : Told) (name : List ℕ) : Type 0 where
@@ -77,7 +77,7 @@ pub record MakesModel (shelf : Told) (name : List ℕ) : Type 0 where
 abbrev pub JudgesRead : Told → List ℕ → Result (List Edit) FileFault → Answer → Type 0
 JudgesRead shelf certificate (Ok edits) =
     JudgesMade shelf certificate (after_edits empty_model edits)
-JudgesRead shelf certificate (Err fault) = IsAnswer (fault_answer fault)
+JudgesRead shelf certificate (Err fault) = IsThisAnswer (fault_answer fault)
 
 -- what is answered to two files of a shelf, by their names
 abbrev pub IsVerdict : Told → List ℕ → List ℕ → Answer → Type 0
@@ -97,7 +97,7 @@ asks_read certificate (Ok edits) = asks_made certificate (after_edits empty_mode
 asks_read certificate (Err fault) = []
 
 -- the model's file, and after that the certificate's, where the model was made
-abbrev pub AsksFiles : Told → List ℕ → List ℕ → (List (List ℕ) → Type 0) → Type 0
-AsksFiles shelf model certificate asked =
+abbrev pub AsksModelAndCertificate : Told → List ℕ → List ℕ → (List (List ℕ) → Type 0) → Type 0
+AsksModelAndCertificate shelf model certificate asked =
     (read : Result (List Edit) FileFault) × IsReadOf shelf model read
     × asked (model ∷ asks_read certificate read)

@@ -4,7 +4,7 @@ ghost use Rattle.model_load.specs.Loads.{after_edits};
 ghost use Rattle.certificates.specs.Points.{variables_of};
 ghost use Rattle.cert_text.specs.Reading.{certificate_of};
 ghost use Rattle.cert_text.specs.ReadsBack.{HasItsEntries};
-ghost use Rattle.certificate_check.specs.Verdict.{AsksFiles, FetchesText, IsVerdict, Judges, JudgesMade, JudgesText, asks_made};
+ghost use Rattle.certificate_check.specs.Verdict.{AsksModelAndCertificate, FetchesText, IsVerdict, Judges, JudgesMade, JudgesText, asks_made};
 ghost use Rattle.io_face.specs.Fault.{HasFaulted};
 ghost use Rattle.io_face.specs.Shelf.{AsksFor};
 ghost use Rattle.io_face.specs.Told.{told_by};
@@ -39,7 +39,7 @@ pub fn verdict<H: Shelf>(alloc: Global, shelf: &mut H, model: &Name, certificate
         → HasFaulted (H.faults shelf.old) (H.faults shelf.new) }
     ensures sound { result ≢ Answer.ReadFault → H.faults shelf.new ≡ H.faults shelf.old }
     ensures asks { result ≢ Answer.Memory
-        → AsksFiles (told_by (H.files shelf.old) (H.sure shelf.old)) model.now certificate.now
+        → AsksModelAndCertificate (told_by (H.files shelf.old) (H.sure shelf.old)) model.now certificate.now
         (AsksFor (H.asked shelf.old) (H.asked shelf.new)) }
 {
     judge_model(alloc, shelf, model, certificate).unwrap_or(Answer::Memory)
@@ -57,7 +57,8 @@ fn judge_model<H: Shelf>(
     ensures cause { result ≡ Ok Answer.ReadFault
         → HasFaulted (H.faults shelf.old) (H.faults shelf.new) }
     ensures sound { result ≢ Ok Answer.ReadFault → H.faults shelf.new ≡ H.faults shelf.old }
-    ensures asks { OnOk result (AsksFiles (told_by (H.files shelf.old) (H.sure shelf.old))
+    ensures asks { OnOk result
+        (AsksModelAndCertificate (told_by (H.files shelf.old) (H.sure shelf.old))
         model.now certificate.now (AsksFor (H.asked shelf.old) (H.asked shelf.new))) }
 {
     match fetch_edits(alloc, shelf, model) {

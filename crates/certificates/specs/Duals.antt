@@ -10,8 +10,7 @@ use Rattle.ratio_core.specs.Rational.{Rational, neg_ℚ, ◌+ℚ◌, ◌-ℚ◌}
 use Rattle.aff_core.specs.Address.{Address}
 use Rattle.aff_core.specs.declared.sense.Sense.{Sense}
 use Rattle.aff_core.specs.declared.sense.Sense.TheVariants.{Min, Max}
-use Rattle.dual_laws.specs.Held.{DualRow, adjoint, gap}
-use Rattle.set_core.specs.Membership.{Dual}
+use Rattle.dual_laws.specs.Held.{DualRow, HasDuals, adjoint, gap}
 use Rattle.user_model.specs.declared.group.Group.{Group}
 use Rattle.user_model.specs.declared.row.Row.{Row}
 use Rattle.user_model.specs.Model.{ModelValue, variables}
@@ -44,11 +43,6 @@ module _ (model : ModelValue) (rows : List (List Rational)) where
 
     abbrev pub dual_gap : Rational
     dual_gap = gap with_duals
-
--- a dual for each component, together in the dual of the set
-pub record HasDuals (h : DualRow) : Type 0 where
-  pub size : length h.duals ≡ length h.functions
-  pub dual : Dual h.set h.duals
 
 -- duals for each row and each variable, in the dual sets
 pub record AreDuals (model : ModelValue)

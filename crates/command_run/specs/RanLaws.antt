@@ -3,15 +3,15 @@ use Rattle.std.specs.Prelude.{◌≡◌, ◌≢◌, ◌⊎◌, ℕ, List, [], �
 use Rattle.std.proofs.Common.{inl, inr, subst, sym, true≢false, ◌∙◌}
 use Rattle.std.proofs.lemmas.Option.{none-some}
 use Rattle.command_run.specs.Run.{Asked, IsRun, IsRunOnFile, Seen}
-use Rattle.file_command.specs.Ending.{CanBeFetched, EndsWith, IsSound, IsThis}
+use Rattle.file_command.specs.Ending.{CanBeFetched, EndsWith, IsThis}
 use Rattle.file_command.specs.EndingLaws.{ends_more, ends_well}
 use Rattle.file_command.specs.Loading.{AnswersFile}
 use Rattle.file_command.specs.LoadingLaws.{SaysNoFault, file_fails, file_too_long}
 use Rattle.file_command.specs.RunLaws.{for_a_fault, for_no_fault, for_no_memory, never_usage}
-use Rattle.file_command.specs.Status.{IsEnded}
+use Rattle.file_command.specs.Status.{IsAnswerWritten}
 use Rattle.file_command.specs.declared.status.Status.{Status}
 use Rattle.file_command.specs.declared.status.Status.TheVariants as status
-use Rattle.io_face.specs.Fault.{HasFaulted}
+use Rattle.io_face.specs.Fault.{CountsNoFault, HasFaulted}
 use Rattle.io_face.specs.Shelf.{AsksFor}
 use Rattle.io_face.specs.Told.{Told}
 use Rattle.report_core.specs.declared.answer.Answer.{Answer}
@@ -43,7 +43,7 @@ module _ {C : Type 0} (answers : C → Answer → Type 0) (asks_for : C → Aske
     pub sound : answer ≢ ReadFault → new.reads ≡ old.reads
     pub ends : EndsWith (IsThis answer) end old.written new.written
     pub write_fault : end ≡ status.WriteFault → HasFaulted old.writes new.writes
-    pub sound_writes : IsEnded end → new.writes ≡ old.writes
+    pub sound_writes : IsAnswerWritten end → new.writes ≡ old.writes
 
   -- with nothing against it, a run ends well that is said to end so
   abbrev pub EndsWell : C → Type 0
@@ -51,8 +51,8 @@ module _ {C : Type 0} (answers : C → Answer → Type 0) (asks_for : C → Aske
       → EndsWith (answers c) end old.written new.written
       → (end ≡ status.ReadFault → HasFaulted old.reads new.reads)
       → (end ≡ status.WriteFault → HasFaulted old.writes new.writes)
-      → can_be_fetched c old.reads new.reads → IsSound old.writes new.writes
-      → IsEnded end ⊎ (end ≡ status.Memory)
+      → can_be_fetched c old.reads new.reads → CountsNoFault old.writes new.writes
+      → IsAnswerWritten end ⊎ (end ≡ status.Memory)
 
   pub ran : (command : Option C) (c : C) → command ≡ Some c → (answer : Answer) (old new : Seen)
       (end : Status) → IsAnswered c answer old new end → EndsWell c

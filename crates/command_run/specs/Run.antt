@@ -4,12 +4,12 @@
 --                    against fetching what it asks for
 --     IsRunOnFile    a command that asks for the file of a model alone
 use Rattle.std.specs.Prelude.{◌≡◌, ◌≢◌, ◌⊎◌, ◌↔◌, ℕ, List, [], ◌∷◌, IfSome, None, Option}
-use Rattle.file_command.specs.Ending.{CanBeFetched, EndsWith, IsSound}
+use Rattle.file_command.specs.Ending.{CanBeFetched, EndsWith}
 use Rattle.file_command.specs.Loading.{AnswersFile}
-use Rattle.file_command.specs.Status.{IsEnded}
+use Rattle.file_command.specs.Status.{IsAnswerWritten}
 use Rattle.file_command.specs.declared.status.Status.{Status}
 use Rattle.file_command.specs.declared.status.Status.TheVariants as status
-use Rattle.io_face.specs.Fault.{HasFaulted}
+use Rattle.io_face.specs.Fault.{CountsNoFault, HasFaulted}
 use Rattle.io_face.specs.Shelf.{AsksFor}
 use Rattle.io_face.specs.Told.{Told}
 use Rattle.report_core.specs.declared.answer.Answer.{Answer}
@@ -42,13 +42,13 @@ pub record IsRun {C : Type 0} (command : Option C) (answers : C → Answer → T
   -- a fault was counted, and each that was counted ends the run
   pub read_fault : end ≡ status.ReadFault → HasFaulted old.reads new.reads
   pub write_fault : end ≡ status.WriteFault → HasFaulted old.writes new.writes
-  pub sound_fetches : IsEnded end → new.reads ≡ old.reads
-  pub sound_writes : IsEnded end → new.writes ≡ old.writes
+  pub sound_fetches : IsAnswerWritten end → new.reads ≡ old.reads
+  pub sound_writes : IsAnswerWritten end → new.writes ≡ old.writes
   -- these files are asked for, and no others are
   pub asks : end ≢ status.Memory → IfSome command (λ c. asks_for c old.asked new.asked)
   -- with nothing against it, the run ends, unless memory runs out
   pub complete : IfSome command (λ c. can_be_fetched c old.reads new.reads
-      → IsSound old.writes new.writes → IsEnded end ⊎ (end ≡ status.Memory))
+      → CountsNoFault old.writes new.writes → IsAnswerWritten end ⊎ (end ≡ status.Memory))
 
 -- the file of a model is asked for once, and answered by what is said of its model
 abbrev pub IsRunOnFile : {C : Type 0} → Option C → (C → List ℕ)

@@ -1,12 +1,12 @@
 -- The numbers that a script is generated from, as words: SEED VARS ROWS EDITS.
 use Rattle.std.specs.Prelude.{List, [], ◌∷◌, Option, None}
-use Rattle.generated_script.specs.Numbers.{Numbers, in_range, numbers_of}
+use Rattle.generated_script.specs.ScriptNumbers.{ScriptNumbers, in_range, numbers_of}
 use Rattle.command_words.specs.Options.{Word}
 use Rattle.script_tokens.specs.Each.{◌>>=◌}
 use Rattle.script_tokens.specs.Number.{number_of}
 
 -- the four numbers, each one to ten decimal digits, where they are within their limits
-abbrev pub recipe_in : List Word → Option Numbers
+abbrev pub recipe_in : List Word → Option ScriptNumbers
 recipe_in (seed ∷ vars ∷ rows ∷ edits ∷ []) = do
   seed ← number_of seed
   vars ← number_of vars

@@ -4,11 +4,11 @@ use Rattle.std.specs.Prelude.{IfOk, Result}
 use Rattle.std.proofs.lemmas.Option.{none-some}
 use Rattle.std.proofs.lemmas.Result.{IfOk-weaker}
 use Rattle.cache_layer.specs.Answers.{IsAttached, IsEdited}
-use Rattle.cache_layer.specs.State.{State, attached}
+use Rattle.cache_layer.specs.CacheState.{CacheState, attached}
 use Rattle.cache_layer.specs.declared.fault.AttachFault.{AttachFault}
 use Rattle.cache_layer.specs.declared.fault.EditFault.{EditFault}
 use Rattle.cache_layer.specs.declared.fault.EditFault.TheVariants.{Memory, Overflow, Refused, Unsupported}
-use Rattle.conflict_command.specs.Says.{Says, SaysSought, bare}
+use Rattle.conflict_command.specs.Says.{SaysOfConflict, SaysSought, bare}
 use Rattle.fresh_bridging.specs.TheRules.{Setting}
 use Rattle.lists.specs.declared.memory.Memory.{Memory as NoMemory}
 use Rattle.model_command.specs.Telling.{attach_fault_answer}
@@ -30,7 +30,7 @@ never_refused : (model : ModelValue) → first_refusal model edit.Feasibility �
 unfolding first_refusal
 never_refused model = refl
 
-module _ (old new : State) (detached : old.attached ≡ false) where
+module _ (old new : CacheState) (detached : old.attached ≡ false) where
   pub only_memory : (fault : EditFault) → IsEdited old edit.Feasibility (Err fault) new
       → fault ≡ Memory
   only_memory (Refused refusal) h =
@@ -53,24 +53,25 @@ module _ (old new : State) (detached : old.attached ≡ false) where
 
 -- ---- a solver is attached, or is not
 
-module _ (setting : Setting) (model : ModelValue) (s after : State) (is : s ≡ bare setting model)
+module _ (setting : Setting) (model : ModelValue) (s after : CacheState) (is : s ≡ bare setting model)
   where
     pub can_walk : (n : ℕ) → model.next.row + length model.rows ≤ LAST_NUMBER + 1
         → IsAttached s (Ok n) after → CanWalk after (length after.model.rows)
     can_walk n room h =
-        subst (λ (t : State). CanWalk t (length t.model.rows))
+        subst (λ (t : CacheState). CanWalk t (length t.model.rows))
         (sym (h.2 ∙ ap attached is))
         (record { attached = refl; bare = refl; room = room })
 
     module _ (told : Result Answer NoMemory) where
       pub says_sought : (n : ℕ) → IsAttached s (Ok n) after → IfOk told (SaysSought after)
-          → IfOk told (Says setting model)
+          → IfOk told (SaysOfConflict setting model)
       says_sought n h =
-          IfOk-weaker told (SaysSought after) (Says setting model)
+          IfOk-weaker told (SaysSought after) (SaysOfConflict setting model)
           (λ answer said. (Ok n, after, subst (λ t. IsAttached t (Ok n) after) is h, said))
 
       pub says_unattached : (why : AttachFault) → IsAttached s (Err why) after
-          → IfOk told (λ answer. answer ≡ attach_fault_answer why) → IfOk told (Says setting model)
+          → IfOk told (λ answer. answer ≡ attach_fault_answer why)
+          → IfOk told (SaysOfConflict setting model)
       says_unattached why h =
-          IfOk-weaker told (λ answer. answer ≡ attach_fault_answer why) (Says setting model)
+          IfOk-weaker told (λ answer. answer ≡ attach_fault_answer why) (SaysOfConflict setting model)
           (λ answer said. (Err why, after, subst (λ t. IsAttached t (Err why) after) is h, said))

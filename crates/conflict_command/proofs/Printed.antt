@@ -7,7 +7,7 @@ use Rattle.certificates.specs.declared.certificate.Certificate.{Certificate}
 use Rattle.certificates.specs.declared.certificate.Certificate.TheVariants.{Infeasible, Optimal, Unbounded}
 use Rattle.conflict_command.specs.Says.{SaysFound}
 use Rattle.conflict_command.specs.Text.{conflict_text, feasible_text, found_text, rows_text, without_text}
-use Rattle.model_conflict.specs.Conflict.{Shows, conflict_of, rows_of}
+use Rattle.model_conflict.specs.Conflict.{ShowsFound, conflict_of, rows_of}
 use Rattle.model_conflict.specs.Walk.{NamesRows}
 use Rattle.model_conflict.specs.declared.found.Found.{Found}
 use Rattle.model_conflict.specs.declared.found.Found.TheVariants.{Conflict, Feasible}
@@ -96,7 +96,7 @@ same_names : (names others : List (List ℕ)) (c d : Certificate)
     → Conflict names c points ≡ Conflict others d others_points → names ≡ others
 same_names names others c d points others_points e = cc
 
-pub says_found : (old new : ModelValue) (found : Found) (answer : Answer) → Shows old found
+pub says_found : (old new : ModelValue) (found : Found) (answer : Answer) → ShowsFound old found
     → new.groups ≡ old.groups → NamesRows new found
     → answer ≡ Printed (found_text (variables_of new.groups) new.rows found)
     → SaysFound old (Ok found) answer

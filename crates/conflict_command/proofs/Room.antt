@@ -11,7 +11,7 @@ use Rattle.io_face.specs.Told.{Told}
 use Rattle.io_face.specs.declared.shelf.FetchFault.{FetchFault}
 use Rattle.io_face.specs.declared.shelf.FetchFault.TheVariants as fetch
 use Rattle.file_command.specs.Loading.{IsModelOf}
-use Rattle.model_store.specs.Store.{Stored}
+use Rattle.model_store.specs.Store.{StoredModel}
 use Rattle.mof_fetch.specs.Fetched.{fault_of, read_of, walked}
 use Rattle.mof_fetch.specs.declared.fault.FileFault.TheVariants.{Failed, Memory, TooLong}
 use Rattle.mof_file.specs.declared.constraints.FileConstraint.{FileConstraint}
@@ -187,7 +187,8 @@ given_of_file (Err fetch.Memory) edits is = absurd (never_ok edits Memory (sym i
 -- ---- so
 
 -- as many row numbers as there are rows
-pub file_in_step : (shelf : Told) (name : List ℕ) (stored : Stored) → IsModelOf shelf name stored
+pub file_in_step : (shelf : Told) (name : List ℕ) (stored : StoredModel)
+    → IsModelOf shelf name stored
     → stored.model.next.row ≡ length stored.model.rows
 file_in_step shelf name stored h =
     all_in_step h.edits empty_model stored.model (given_of_file h.read.0 h.edits h.read.2) refl

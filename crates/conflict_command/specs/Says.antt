@@ -2,7 +2,7 @@
 -- optimise, what is found of it without its objective.
 use Rattle.std.specs.Prelude.{◌≡◌, ℕ, List, Result, Ok, Err}
 use Rattle.cache_layer.specs.Answers.{IsAttached}
-use Rattle.cache_layer.specs.State.{State}
+use Rattle.cache_layer.specs.CacheState.{CacheState}
 use Rattle.cache_layer.specs.declared.fault.AttachFault.{AttachFault}
 use Rattle.cache_layer.specs.declared.fault.OptFault.{OptFault}
 use Rattle.certificates.specs.Feasible.{IsFeasible}
@@ -35,20 +35,20 @@ SaysFound model (Ok (Conflict names certificate points)) answer =
 SaysFound model (Err fault) answer = answer ≡ optimize_fault_answer fault
 
 -- what is found of a state to which a solver is attached
-abbrev pub SaysSought : State → Answer → Type 0
+abbrev pub SaysSought : CacheState → Answer → Type 0
 SaysSought s answer =
     (result : Result Found OptFault) × Finds s pivots result × SaysFound s.model result answer
 
 -- once a solver was attached, or was not
-abbrev pub SaysAttached : Result ℕ AttachFault → State → Answer → Type 0
-SaysAttached (Ok leaves) s answer = SaysSought s answer
-SaysAttached (Err fault) s answer = answer ≡ attach_fault_answer fault
+abbrev pub SaysConflictAttached : Result ℕ AttachFault → CacheState → Answer → Type 0
+SaysConflictAttached (Ok leaves) s answer = SaysSought s answer
+SaysConflictAttached (Err fault) s answer = answer ≡ attach_fault_answer fault
 
 -- the model without its objective, and no solver attached
-abbrev pub bare : Setting → ModelValue → State
+abbrev pub bare : Setting → ModelValue → CacheState
 bare setting model = alone setting (record model { objective = Feasibility })
 
-abbrev pub Says : Setting → ModelValue → Answer → Type 0
-Says setting model answer =
-    (made : Result ℕ AttachFault) × (after : State) × IsAttached (bare setting model) made after
-    × SaysAttached made after answer
+abbrev pub SaysOfConflict : Setting → ModelValue → Answer → Type 0
+SaysOfConflict setting model answer =
+    (made : Result ℕ AttachFault) × (after : CacheState) × IsAttached (bare setting model) made after
+    × SaysConflictAttached made after answer

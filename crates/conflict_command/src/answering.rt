@@ -3,7 +3,7 @@ ghost use Rattle.std.specs.Prelude.{◌≡◌, ◌≢◌, ◌≤◌, ◌+◌, []
 ghost use Rattle.std.specs.Prelude as prelude;
 ghost use Rattle.std.specs.FinMap as finite;
 ghost use Rattle.bridge_set.specs.Bridges.{families_of, occur_once};
-ghost use Rattle.conflict_command.specs.Says.{Says};
+ghost use Rattle.conflict_command.specs.Says.{SaysOfConflict};
 ghost use Rattle.file_command.specs.Loading.{AnswersFile};
 ghost use Rattle.io_face.specs.Fault.{HasFaulted};
 ghost use Rattle.io_face.specs.Shelf.{AsksFor};
@@ -32,7 +32,7 @@ pub(crate) fn answer<H: Shelf, B: Bridge>(
     requires kept { All (λ s. s.kept ≡ finite.empty) (prelude.map B.state bridges.items) }
     ensures answers { let setting = standard_by (prelude.map B.state bridges.items) in
         let told = told_by (H.files shelf.old) (H.sure shelf.old) in
-        result ≢ Answer.Memory → AnswersFile (Says setting) told name.now result }
+        result ≢ Answer.Memory → AnswersFile (SaysOfConflict setting) told name.now result }
     ensures cause { result ≡ Answer.ReadFault
         → HasFaulted (H.faults shelf.old) (H.faults shelf.new) }
     ensures sound { result ≢ Answer.ReadFault → H.faults shelf.new ≡ H.faults shelf.old }
@@ -56,7 +56,7 @@ fn answer_on<B: Bridge>(alloc: Global, model: UserModel, bridges: Vec<B>) -> Ans
     requires once { IsTrue (occur_once (families_of (prelude.map B.state bridges.items))) }
     requires kept { All (λ s. s.kept ≡ finite.empty) (prelude.map B.state bridges.items) }
     ensures { result ≢ Answer.Memory
-        → Says (standard_by (prelude.map B.state bridges.items)) model.model result }
+        → SaysOfConflict (standard_by (prelude.map B.state bridges.items)) model.model result }
 {
     let mut cache = cache_of(alloc, model, bridges);
     sought(alloc, &mut cache).unwrap_or(Answer::Memory)

@@ -1,7 +1,7 @@
 //! The conflict of a model, found and reported.
 ghost use Rattle.std.specs.Prelude.{◌≡◌, ◌≤◌, ◌+◌, IfOk, OnOk, false, length};
 ghost use Rattle.cache_layer.specs.Cached.{model_in, state_of};
-ghost use Rattle.conflict_command.specs.Says.{Says, SaysSought, bare};
+ghost use Rattle.conflict_command.specs.Says.{SaysOfConflict, SaysSought, bare};
 ghost use Rattle.model_conflict.specs.Steps.{CanWalk};
 ghost use Rattle.user_model.specs.Limits.{LAST_NUMBER};
 
@@ -24,7 +24,7 @@ pub(crate) fn sought<B: Bridge>(alloc: Global, cache: &mut Cache<B>) -> Result<A
     requires detached { cache.old.attached ≡ false }
     requires room { (model_in cache.old).next.row + length (model_in cache.old).rows
         ≤ LAST_NUMBER + 1 }
-    ensures { IfOk result (Says (state_of cache.old).setting (model_in cache.old)) }
+    ensures { IfOk result (SaysOfConflict (state_of cache.old).setting (model_in cache.old)) }
 {
     drop_objective(cache)?;
     match cache.attach() {

@@ -8,11 +8,11 @@ use Rattle.map_laws.specs.EachLaws.{all_from_map}
 use Rattle.ratio_core.specs.Rational.{Rational, zero_ℚ, ◌+ℚ◌, ◌‹ℚ◌}
 use Rattle.aff_core.specs.FunctionLists.{values}
 use Rattle.aff_core.specs.Points.{spread}
-use Rattle.certificates.specs.Duals.{HasDuals, groups_with, rows_with}
+use Rattle.certificates.specs.Duals.{groups_with, rows_with}
 use Rattle.certificates.specs.Feasible.{IsFeasible}
 use Rattle.certificates.specs.Good.{IsInfeasible}
 use Rattle.certificates.specs.Points.{all_addresses, functions_of, functions_of_group, variables_of}
-use Rattle.dual_laws.specs.Held.{DualRow, adjoint}
+use Rattle.dual_laws.specs.Held.{DualRow, HasDuals, adjoint}
 use Rattle.dual_laws.specs.Held as held
 use Rattle.set_core.specs.Membership.{In}
 use Rattle.user_model.specs.Model.{ModelValue}

@@ -8,10 +8,10 @@ use Rattle.ratio_core.specs.Rational.{Rational, zero_ℚ, ◌+ℚ◌}
 use Rattle.rational_laws.specs.Field.{+ℚ-zero, +ℚ_comm}
 use Rattle.rational_laws.specs.Sums.{sum_by_ℚ, sum_by_ℚ-append}
 use Rattle.aff_core.specs.Points.{spread}
-use Rattle.certificates.specs.Duals.{HasDuals, groups_with, row_with, rows_with}
+use Rattle.certificates.specs.Duals.{groups_with, row_with, rows_with}
 use Rattle.certificates.specs.Good.{IsInfeasible}
 use Rattle.certificates.specs.Points.{all_addresses}
-use Rattle.dual_laws.specs.Held.{DualRow, adjoint, adjoint_of, gap_of}
+use Rattle.dual_laws.specs.Held.{DualRow, HasDuals, adjoint, adjoint_of, gap_of}
 use Rattle.dual_laws.specs.Held as held
 use Rattle.conflict_laws.specs.Contents.{InfeasibleBy, infeasible_of, parts_of}
 use Rattle.user_model.specs.Model.{ModelValue}

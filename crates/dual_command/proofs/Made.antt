@@ -3,20 +3,20 @@ use Rattle.std.proofs.Common.{◌≡◌, ◌≢◌, ◌∙◌, List, ap, refl, s
 use Rattle.std.specs.Prelude.{IfOk, Result}
 use Rattle.std.specs.Result.{result_unwrap_or}
 use Rattle.dual_command.specs.Duals.{Duals, IsDualOf}
-use Rattle.dual_command.specs.Says.{MakesDual, Says, SaysDual, full, made, unfit}
+use Rattle.dual_command.specs.Says.{MakesDual, SaysDual, SaysOfDual, full, made, unfit}
 use Rattle.dual_command.specs.declared.command.Task.{Task}
 use Rattle.dual_model.specs.DualOf.{dual_of_model}
 use Rattle.dualization.specs.Answers.{IsDual, IsUnfit}
 use Rattle.dualization.specs.DualEdits.{dual_edits}
 use Rattle.file_answers.specs.FileAnswers.{refused}
-use Rattle.file_command.specs.Loading.{AnswersMade, Makes}
+use Rattle.file_command.specs.Loading.{AnswersMade, MakesStored}
 use Rattle.fresh_bridging.specs.TheRules.{Setting}
 use Rattle.limit_laws.specs.Leads.{all_edited}
 use Rattle.limit_laws.specs.LeadsLaws.{made_after}
 use Rattle.limit_laws.specs.Limits.{LimitsAlone}
 use Rattle.lists.specs.declared.memory.Memory.{Memory as NoMemory}
 use Rattle.model_load.specs.Loads.{after_edits}
-use Rattle.model_store.specs.Store.{Stored}
+use Rattle.model_store.specs.Store.{StoredModel}
 use Rattle.report_core.specs.declared.answer.Answer.{Answer}
 use Rattle.report_core.specs.declared.answer.Answer.TheVariants.{Memory}
 use Rattle.report_core.specs.declared.refused.Place.{Place}
@@ -48,7 +48,8 @@ module _ (model : ModelValue) where
         full is.0 refusal (leads_too (Err refusal) h)
         (limits refusal (sym (ap (after_edits empty_model) same) ∙ h)) said
 
-    pub dual_made : (result : Result Stored Answer) → Makes (after_edits empty_model listed) result
+    pub dual_made : (result : Result StoredModel Answer)
+        → MakesStored (after_edits empty_model listed) result
         → Duals model result
     dual_made (Ok stored) h = record {
       fits = is.0;
@@ -69,18 +70,18 @@ module _ (model : ModelValue) where
   -- ---- what is answered
 
   pub says_without : (setting : Setting) (task : Task) (answer : Answer) → Duals model (Err answer)
-      → answer ≢ Memory → Says setting task model answer
+      → answer ≢ Memory → SaysOfDual setting task model answer
   says_without setting task answer h not = by answer (h not)
     where
-      by : (said : Answer) → MakesDual (λ other. ⊥) model said → Says setting task model said
+      by : (said : Answer) → MakesDual (λ other. ⊥) model said → SaysOfDual setting task model said
       by said (made fits leads says) = absurd says
       by said (full fits refusal leads limit is) = full fits refusal leads limit is
       by said (unfit place at is) = unfit place at is
 
-  pub says_with : (setting : Setting) (task : Task) (stored : Stored)
+  pub says_with : (setting : Setting) (task : Task) (stored : StoredModel)
       (told : Result Answer NoMemory) (answer : Answer) → IsDualOf model stored
       → IfOk told (SaysDual model setting task) → answer ≡ result_unwrap_or told Memory
-      → answer ≢ Memory → Says setting task model answer
+      → answer ≢ Memory → SaysOfDual setting task model answer
   says_with setting task stored (Ok a) answer h said is not =
       made h.fits h.leads (subst (SaysDual model setting task) (sym is) said)
   says_with setting task stored (Err e) answer h said is not = absurd (not is)

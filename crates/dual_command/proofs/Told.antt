@@ -3,13 +3,13 @@ use Rattle.std.proofs.Common.{◌≡◌, ◌∙◌, ℕ, suc, ◌+◌, List, [],
 use Rattle.std.specs.Prelude.{IfOk, Result}
 use Rattle.cache_layer.specs.Answers.{IsAttached}
 use Rattle.cache_layer.specs.Outcome.{IsOptimized}
-use Rattle.cache_layer.specs.State.{State}
+use Rattle.cache_layer.specs.CacheState.{CacheState}
 use Rattle.cache_layer.specs.declared.fault.AttachFault.{AttachFault}
 use Rattle.cache_layer.specs.declared.fault.OptFault.{OptFault}
 use Rattle.certificates.specs.Good.{IsOptimal, IsUnbounded}
 use Rattle.certificates.specs.declared.certificate.Certificate.{Certificate}
 use Rattle.certificates.specs.declared.certificate.Certificate.TheVariants.{Infeasible, Unbounded}
-use Rattle.dual_command.specs.Says.{NoneRight, SaysCarried, SaysCertificate, SaysDual, SaysOptimized, SaysSolved, pivots}
+use Rattle.dual_command.specs.Says.{NoneRight, SaysCarried, SaysDual, SaysDualCertificate, SaysDualOptimized, SaysDualSolved, pivots}
 use Rattle.dual_command.specs.Text.{duals_text, file_line, none_text, unbounded_text}
 use Rattle.dual_command.specs.declared.command.Task.{Task}
 use Rattle.dual_command.specs.declared.command.Task.TheVariants.{Solve, Write}
@@ -44,41 +44,41 @@ if_told P Q (Err e) h p = tt
 module _ (model : ModelValue) (told : Result Answer NoMemory) where
   -- ---- the certificate
 
-  pub says_given : (s : State) (c : Certificate) → IsOptimized s pivots (Ok c)
-      → IfOk told (SaysCertificate model c) → IfOk told (SaysOptimized model s)
+  pub says_given : (s : CacheState) (c : Certificate) → IsOptimized s pivots (Ok c)
+      → IfOk told (SaysDualCertificate model c) → IfOk told (SaysDualOptimized model s)
   says_given s c outcome =
-      if_told (SaysCertificate model c) (SaysOptimized model s) told
+      if_told (SaysDualCertificate model c) (SaysDualOptimized model s) told
       (λ answer said. (Ok c, outcome, said))
 
-  pub says_not_given : (s : State) (fault : OptFault) → IsOptimized s pivots (Err fault)
+  pub says_not_given : (s : CacheState) (fault : OptFault) → IsOptimized s pivots (Err fault)
       → IfOk told (λ answer. answer ≡ optimize_fault_answer fault)
-      → IfOk told (SaysOptimized model s)
+      → IfOk told (SaysDualOptimized model s)
   says_not_given s fault outcome =
-      if_told (λ answer. answer ≡ optimize_fault_answer fault) (SaysOptimized model s) told
+      if_told (λ answer. answer ≡ optimize_fault_answer fault) (SaysDualOptimized model s) told
       (λ answer said. (Err fault, outcome, said))
 
   -- ---- the solver
 
-  pub says_attached : (old after : State) (n : ℕ) → IsAttached old (Ok n) after
-      → IfOk told (SaysOptimized model after) → IfOk told (SaysSolved model old)
+  pub says_attached : (old after : CacheState) (n : ℕ) → IsAttached old (Ok n) after
+      → IfOk told (SaysDualOptimized model after) → IfOk told (SaysDualSolved model old)
   says_attached old after n is =
-      if_told (SaysOptimized model after) (SaysSolved model old) told
+      if_told (SaysDualOptimized model after) (SaysDualSolved model old) told
       (λ answer said. (Ok n, after, is, said))
 
-  pub says_unattached : (old after : State) (fault : AttachFault)
+  pub says_unattached : (old after : CacheState) (fault : AttachFault)
       → IsAttached old (Err fault) after
       → IfOk told (λ answer. answer ≡ attach_fault_answer fault)
-      → IfOk told (SaysSolved model old)
+      → IfOk told (SaysDualSolved model old)
   says_unattached old after fault is =
-      if_told (λ answer. answer ≡ attach_fault_answer fault) (SaysSolved model old) told
+      if_told (λ answer. answer ≡ attach_fault_answer fault) (SaysDualSolved model old) told
       (λ answer said. (Err fault, after, is, said))
 
   -- the dual alone
-  pub says_alone : (s : State) (setting : Setting) (dual : ModelValue) → s ≡ alone setting dual
-      → dual ≡ dual_of_model model → IfOk told (SaysSolved model s)
+  pub says_alone : (s : CacheState) (setting : Setting) (dual : ModelValue) → s ≡ alone setting dual
+      → dual ≡ dual_of_model model → IfOk told (SaysDualSolved model s)
       → IfOk told (SaysDual model setting Solve)
   says_alone s setting dual is same =
-      subst (λ t. IfOk told (SaysSolved model t)) (is ∙ ap (alone setting) same)
+      subst (λ t. IfOk told (SaysDualSolved model t)) (is ∙ ap (alone setting) same)
 
   -- ---- the task
 
@@ -98,20 +98,20 @@ module _ (model : ModelValue) (told : Result Answer NoMemory) where
 
   pub says_none : (c : Certificate) (gap : Rational) (rows : List (List Rational))
       (vars : List Rational) → c ≡ Infeasible gap rows vars → NoneRight model
-      → IfOk told (λ answer. answer ≡ Printed none_text) → IfOk told (SaysCertificate model c)
+      → IfOk told (λ answer. answer ≡ Printed none_text) → IfOk told (SaysDualCertificate model c)
   says_none c gap rows vars is none h =
-      subst (λ d. IfOk told (SaysCertificate model d)) (sym is)
+      subst (λ d. IfOk told (SaysDualCertificate model d)) (sym is)
       (if_told (λ answer. answer ≡ Printed none_text)
-      (SaysCertificate model (Infeasible gap rows vars)) told (λ answer said. (none, said)) h)
+      (SaysDualCertificate model (Infeasible gap rows vars)) told (λ answer said. (none, said)) h)
 
   pub says_unbounded : (c : Certificate) (x d : List Rational) → c ≡ Unbounded x d
       → IsUnbounded (dual_of_model model) x d
       → IfOk told (λ answer. answer ≡ Printed unbounded_text)
-      → IfOk told (SaysCertificate model c)
+      → IfOk told (SaysDualCertificate model c)
   says_unbounded c x d is ray h =
-      subst (λ e. IfOk told (SaysCertificate model e)) (sym is)
+      subst (λ e. IfOk told (SaysDualCertificate model e)) (sym is)
       (if_told (λ answer. answer ≡ Printed unbounded_text)
-      (SaysCertificate model (Unbounded x d)) told (λ answer said. (ray, said)) h)
+      (SaysDualCertificate model (Unbounded x d)) told (λ answer said. (ray, said)) h)
 
   -- ---- the way back
 

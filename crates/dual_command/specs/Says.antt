@@ -1,6 +1,6 @@
 -- What is answered to a command on a model, and what that says of the model.
 --
---     Says            what is answered, by what the dual, the model's limits, the bridging, the
+--     SaysOfDual      what is answered, by what the dual, the model's limits, the bridging, the
 --                     solver and the way back say: a refusal comes exactly where one of them is one
 --     AreBestDuals    what printed duals are (dual_model): right, with the printed objective, than
 --                     which no right duals have a better one
@@ -10,7 +10,7 @@
 use Rattle.std.specs.Prelude.{◌≡◌, ℕ, List, Result, Ok, Err}
 use Rattle.cache_layer.specs.Answers.{IsAttached}
 use Rattle.cache_layer.specs.Outcome.{IsOptimized}
-use Rattle.cache_layer.specs.State.{State}
+use Rattle.cache_layer.specs.CacheState.{CacheState}
 use Rattle.cache_layer.specs.declared.fault.AttachFault.{AttachFault}
 use Rattle.cache_layer.specs.declared.fault.OptFault.{OptFault}
 use Rattle.certificates.specs.Good.{IsUnbounded}
@@ -63,38 +63,38 @@ module _ (model : ModelValue) where
   SaysCarried value (Err dual.Memory) answer = ⊥
 
   -- by the certificate of the dual
-  abbrev pub SaysCertificate : Certificate → Answer → Type 0
-  SaysCertificate (Optimal value x rows vars) answer =
+  abbrev pub SaysDualCertificate : Certificate → Answer → Type 0
+  SaysDualCertificate (Optimal value x rows vars) answer =
       (carried : Result Carried DualFault) × CarriesPoint model x carried
       × SaysCarried value carried answer
-  SaysCertificate (Infeasible gap rows vars) answer =
+  SaysDualCertificate (Infeasible gap rows vars) answer =
       NoneRight model × (answer ≡ Printed none_text)
-  SaysCertificate (Unbounded x d) answer =
+  SaysDualCertificate (Unbounded x d) answer =
       IsUnbounded (dual_of_model model) x d × (answer ≡ Printed unbounded_text)
 
-  abbrev pub SaysGiven : Result Certificate OptFault → Answer → Type 0
-  SaysGiven (Ok certificate) answer = SaysCertificate certificate answer
-  SaysGiven (Err fault) answer = answer ≡ optimize_fault_answer fault
+  abbrev pub SaysDualGiven : Result Certificate OptFault → Answer → Type 0
+  SaysDualGiven (Ok certificate) answer = SaysDualCertificate certificate answer
+  SaysDualGiven (Err fault) answer = answer ≡ optimize_fault_answer fault
 
   -- to the dual that a solver is attached to
-  abbrev pub SaysOptimized : State → Answer → Type 0
-  SaysOptimized s answer =
-      (given : Result Certificate OptFault) × IsOptimized s pivots given × SaysGiven given answer
+  abbrev pub SaysDualOptimized : CacheState → Answer → Type 0
+  SaysDualOptimized s answer =
+      (given : Result Certificate OptFault) × IsOptimized s pivots given × SaysDualGiven given answer
 
-  abbrev pub SaysAttached : Result ℕ AttachFault → State → Answer → Type 0
-  SaysAttached (Ok leaves) s answer = SaysOptimized s answer
-  SaysAttached (Err fault) s answer = answer ≡ attach_fault_answer fault
+  abbrev pub SaysDualAttached : Result ℕ AttachFault → CacheState → Answer → Type 0
+  SaysDualAttached (Ok leaves) s answer = SaysDualOptimized s answer
+  SaysDualAttached (Err fault) s answer = answer ≡ attach_fault_answer fault
 
   -- to the dual before one is
-  abbrev pub SaysSolved : State → Answer → Type 0
-  SaysSolved s answer =
-      (made : Result ℕ AttachFault) × (after : State) × IsAttached s made after
-      × SaysAttached made after answer
+  abbrev pub SaysDualSolved : CacheState → Answer → Type 0
+  SaysDualSolved s answer =
+      (made : Result ℕ AttachFault) × (after : CacheState) × IsAttached s made after
+      × SaysDualAttached made after answer
 
   -- to the dual as a model
   abbrev pub SaysDual : Setting → Task → Answer → Type 0
   SaysDual setting Write answer = answer ≡ Printed (file_line (dual_of_model model))
-  SaysDual setting Solve answer = SaysSolved (alone setting (dual_of_model model)) answer
+  SaysDual setting Solve answer = SaysDualSolved (alone setting (dual_of_model model)) answer
 
 -- ---- what is answered to a model
 
@@ -110,5 +110,5 @@ pub data MakesDual (says : Answer → Type 0) (model : ModelValue) : Answer → 
   unfit : {answer : Answer} (place : Place) → IsUnfit model place
       → answer ≡ refused (Overflow place) → MakesDual says model answer
 
-abbrev pub Says : Setting → Task → ModelValue → Answer → Type 0
-Says setting task model answer = MakesDual (SaysDual model setting task) model answer
+abbrev pub SaysOfDual : Setting → Task → ModelValue → Answer → Type 0
+SaysOfDual setting task model answer = MakesDual (SaysDual model setting task) model answer

@@ -1,11 +1,11 @@
 -- What is answered to a model is no fault of the shelf.
 use Rattle.std.specs.Prelude.{◌≡◌, ℕ, None, Result, Ok, Err, refl}
-use Rattle.cache_layer.specs.State.{State}
+use Rattle.cache_layer.specs.CacheState.{CacheState}
 use Rattle.cache_layer.specs.declared.fault.AttachFault.{AttachFault}
 use Rattle.cache_layer.specs.declared.fault.OptFault.{OptFault}
 use Rattle.certificates.specs.declared.certificate.Certificate.{Certificate}
 use Rattle.certificates.specs.declared.certificate.Certificate.TheVariants.{Infeasible, Optimal, Unbounded}
-use Rattle.dual_command.specs.Says.{Says, SaysAttached, SaysCarried, SaysCertificate, SaysDual, SaysGiven, full, made, unfit}
+use Rattle.dual_command.specs.Says.{SaysCarried, SaysDual, SaysDualAttached, SaysDualCertificate, SaysDualGiven, SaysOfDual, full, made, unfit}
 use Rattle.dual_command.specs.declared.command.Task.{Task}
 use Rattle.dual_command.specs.declared.command.Task.TheVariants.{Solve, Write}
 use Rattle.dualization.specs.declared.carrying.Carried.{Carried}
@@ -25,18 +25,19 @@ module _ (model : ModelValue) (answer : Answer) where
   carried_plain value (Err (dual.Overflow place)) h = same_fault answer _ h refl
   carried_plain value (Err dual.Memory) h = absurd h
 
-  certificate_plain : (c : Certificate) → SaysCertificate model c answer
+  certificate_plain : (c : Certificate) → SaysDualCertificate model c answer
       → shelf_fault answer ≡ None
   certificate_plain (Optimal value x rows vars) h = carried_plain value h.0 h.2
   certificate_plain (Infeasible gap rows vars) h = same_fault answer _ h.1 refl
   certificate_plain (Unbounded x d) h = same_fault answer _ h.1 refl
 
-  given_plain : (given : Result Certificate OptFault) → SaysGiven model given answer
+  given_plain : (given : Result Certificate OptFault) → SaysDualGiven model given answer
       → shelf_fault answer ≡ None
   given_plain (Ok c) h = certificate_plain c h
   given_plain (Err fault) h = same_fault answer _ h (optimize_fault fault)
 
-  attached_plain : (made : Result ℕ AttachFault) (s : State) → SaysAttached model made s answer
+  attached_plain : (made : Result ℕ AttachFault) (s : CacheState)
+      → SaysDualAttached model made s answer
       → shelf_fault answer ≡ None
   attached_plain (Ok leaves) s h = given_plain h.0 h.2
   attached_plain (Err fault) s h = same_fault answer _ h (attach_fault fault)
@@ -46,7 +47,7 @@ module _ (model : ModelValue) (answer : Answer) where
   dual_plain setting Write h = same_fault answer _ h refl
   dual_plain setting Solve h = attached_plain h.0 h.1 h.3
 
-pub says_plain : (setting : Setting) (task : Task) → SaysNoFault (Says setting task)
+pub says_plain : (setting : Setting) (task : Task) → SaysNoFault (SaysOfDual setting task)
 says_plain setting task model answer (made fits leads h) =
     dual_plain model answer setting task h
 says_plain setting task model answer (full fits refusal leads limit is) = same_fault answer _ is refl

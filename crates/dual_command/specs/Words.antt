@@ -2,7 +2,7 @@
 use Rattle.std.specs.Prelude.{List, [], ◌∷◌, Option, Some, None, bytes_eq, codes, if◌then◌else◌, option_and_then, option_map}
 use Rattle.command_words.specs.Options.{Word}
 use Rattle.file_command.specs.Words.{model_word}
-use Rattle.dual_command.specs.declared.command.Command.{Command}
+use Rattle.dual_command.specs.declared.command.DualCommand.{DualCommand}
 use Rattle.dual_command.specs.declared.command.Task.{Task}
 use Rattle.dual_command.specs.declared.command.Task.TheVariants.{Solve, Write}
 
@@ -11,7 +11,7 @@ task_in word =
     if bytes_eq word (codes "write") then Some Write
     else (if bytes_eq word (codes "solve") then Some Solve else None)
 
-abbrev pub command_in : List Word → Option Command
+abbrev pub command_in : List Word → Option DualCommand
 command_in [] = None
 command_in (first ∷ others) =
     option_and_then (λ task. option_map (λ file. record { task = task; file = file })

@@ -3,7 +3,7 @@ ghost use Rattle.std.specs.Prelude.{◌≡◌, ◌≢◌, ◌≤◌, [], ◌∷�
 ghost use Rattle.std.specs.Prelude as prelude;
 ghost use Rattle.std.specs.FinMap as finite;
 ghost use Rattle.bridge_set.specs.Bridges.{families_of, occur_once};
-ghost use Rattle.dual_command.specs.Says.{Says, SaysDual};
+ghost use Rattle.dual_command.specs.Says.{SaysDual, SaysOfDual};
 ghost use Rattle.dual_command.specs.Duals.{Duals};
 ghost use Rattle.dual_model.specs.DualOf.{dual_of_model};
 ghost use Rattle.file_command.specs.Loading.{AnswersFile};
@@ -12,7 +12,7 @@ ghost use Rattle.io_face.specs.Shelf.{AsksFor};
 ghost use Rattle.io_face.specs.Told.{told_by};
 ghost use Rattle.model_command.specs.Alone.{standard_by};
 
-use crate::command::{Command, Task};
+use crate::command::{DualCommand, Task};
 use crate::printing::file_of;
 use crate::solving::solved;
 use bridge_face::Bridge;
@@ -27,7 +27,7 @@ use std::alloc::Global;
 /// What is answered to a command. Its file is asked for once, and no other is.
 pub(crate) fn answer<H: Shelf, B: Bridge>(
     alloc: Global,
-    command: &Command,
+    command: &DualCommand,
     shelf: &mut H,
     bridges: Vec<B>,
 ) -> Answer
@@ -36,7 +36,7 @@ pub(crate) fn answer<H: Shelf, B: Bridge>(
     ensures answers { let setting = standard_by (prelude.map B.state bridges.items) in
         let told = told_by (H.files shelf.old) (H.sure shelf.old) in
         result ≢ Answer.Memory
-        → AnswersFile (Says setting command.now.task) told command.now.file result }
+        → AnswersFile (SaysOfDual setting command.now.task) told command.now.file result }
     ensures cause { result ≡ Answer.ReadFault
         → HasFaulted (H.faults shelf.old) (H.faults shelf.new) }
     ensures sound { result ≢ Answer.ReadFault → H.faults shelf.new ≡ H.faults shelf.old }
@@ -54,7 +54,7 @@ fn answer_on<B: Bridge>(alloc: Global, task: Task, model: &UserModel, bridges: V
     requires once { IsTrue (occur_once (families_of (prelude.map B.state bridges.items))) }
     requires kept { All (λ s. s.kept ≡ finite.empty) (prelude.map B.state bridges.items) }
     ensures { result ≢ Answer.Memory
-        → Says (standard_by (prelude.map B.state bridges.items)) task model.now.model result }
+        → SaysOfDual (standard_by (prelude.map B.state bridges.items)) task model.now.model result }
 {
     match dual_of(alloc, model) {
         Ok(dual) => answer_dual(alloc, task, model, dual, bridges).unwrap_or(Answer::Memory),

@@ -19,14 +19,14 @@ pub(crate) enum Task {
 
 /// What is to be done with the dual of a file's model.
 #[derive(Debug, Drop)]
-pub(crate) struct Command {
+pub(crate) struct DualCommand {
     pub task: Task,
     pub file: Name,
 }
 
 /// The command of arguments, `write FILE` or `solve FILE`; none where they are others. Memory runs
 /// out only where they are of one.
-pub(crate) fn command_of(alloc: Global, words: &[String]) -> Result<Option<Command>, Memory>
+pub(crate) fn command_of(alloc: Global, words: &[String]) -> Result<Option<DualCommand>, Memory>
     ensures said { IfOk result (λ command. command ≡ command_in (texts words.now)) }
     ensures of_one { OnErr result (IsSome (command_in (texts words.now))) }
 {
@@ -37,7 +37,7 @@ pub(crate) fn command_of(alloc: Global, words: &[String]) -> Result<Option<Comma
         return Ok(None);
     };
     match model_word(alloc, others)? {
-        Some(file) => Ok(Some(Command { task, file })),
+        Some(file) => Ok(Some(DualCommand { task, file })),
         None => Ok(None),
     }
 }

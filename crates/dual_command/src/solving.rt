@@ -5,7 +5,7 @@ ghost use Rattle.std.specs.FinMap as finite;
 ghost use Rattle.bridge_set.specs.Bridges.{families_of, occur_once};
 ghost use Rattle.cache_layer.specs.Cached.{model_in, state_of};
 ghost use Rattle.certificates.specs.Good.{Good};
-ghost use Rattle.dual_command.specs.Says.{SaysCarried, SaysCertificate, SaysDual, SaysOptimized, SaysSolved};
+ghost use Rattle.dual_command.specs.Says.{SaysCarried, SaysDual, SaysDualCertificate, SaysDualOptimized, SaysDualSolved};
 ghost use Rattle.dual_command.specs.declared.command.Task.TheVariants.{Solve};
 ghost use Rattle.group_numbering.specs.NewGroups.{variable_count};
 ghost use Rattle.dual_model.specs.Carried.{carried_rows, carried_variables};
@@ -56,7 +56,7 @@ fn attached<B: Bridge>(
     cache: &mut Cache<B>,
 ) -> Result<Answer, Memory>
     requires { model_in cache.old ≡ dual_of_model model.now.model }
-    ensures { IfOk result (SaysSolved model.now.model (state_of cache.old)) }
+    ensures { IfOk result (SaysDualSolved model.now.model (state_of cache.old)) }
 {
     match cache.attach() {
         Ok(_leaves) => optimized(alloc, model, cache),
@@ -70,7 +70,7 @@ fn optimized<B: Bridge>(
     cache: &Cache<B>,
 ) -> Result<Answer, Memory>
     requires { model_in cache.now ≡ dual_of_model model.now.model }
-    ensures { IfOk result (SaysOptimized model.now.model (state_of cache.now)) }
+    ensures { IfOk result (SaysDualOptimized model.now.model (state_of cache.now)) }
 {
     // what this ensures: the dual is valid
     let _valid = cache.model().rows();
@@ -84,7 +84,7 @@ fn optimized<B: Bridge>(
 fn told(alloc: Global, model: &UserModel, certificate: &Certificate) -> Result<Answer, Memory>
     requires valid { IsValid (dual_of_model model.now.model) }
     requires good { Good (dual_of_model model.now.model) certificate.now }
-    ensures { IfOk result (SaysCertificate model.now.model certificate.now) }
+    ensures { IfOk result (SaysDualCertificate model.now.model certificate.now) }
 {
     // what this ensures: the model is valid
     let _valid = model.rows();

@@ -58,3 +58,8 @@ gap hs = sum_by_ℚ gap_of hs
 
 abbrev pub AllHold : Rational → List DualRow → (Address → Rational) → Type 0
 AllHold one hs x = All (λ h. Holds one h x) hs
+
+-- a dual for each component, together in the dual of the set
+pub record HasDuals (h : DualRow) : Type 0 where
+  pub size : length h.duals ≡ length h.functions
+  pub dual : Dual h.set h.duals

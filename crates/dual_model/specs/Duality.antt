@@ -19,7 +19,7 @@ use Rattle.aff_core.specs.KeyOrder.{address_order}
 use Rattle.aff_core.specs.declared.sense.Sense.{Sense}
 use Rattle.aff_core.specs.declared.sense.Sense.TheVariants.{Min, Max}
 use Rattle.linear_laws.specs.ListLaws.{slope_negated}
-use Rattle.dual_laws.specs.Held.{gap, pull, pull_of}
+use Rattle.dual_laws.specs.Held.{HasDuals, gap, pull, pull_of}
 use Rattle.dual_laws.specs.PullLaws.{gap-append}
 use Rattle.user_model.specs.declared.group.Group.{Group}
 use Rattle.user_model.specs.declared.row.Row.{Row}
@@ -28,11 +28,11 @@ use Rattle.user_model.specs.Valid.{IsValid, IsValidGroup, IsValidRow}
 use Rattle.set_core.specs.Shapes.{IsSetOf}
 use Rattle.certificates.specs.Points.{address_of, addresses_of, all_addresses, at_point, functions_of, objective_coefficient, objective_constant, objective_function, objective_value, sense_of}
 use Rattle.certificates.specs.Feasible.{IsBetter, IsFeasible}
-use Rattle.certificates.specs.Duals.{HasDuals, adjoint_of_rows, dual_gap, groups_with, reduced_cost, rows_with, with_duals}
+use Rattle.certificates.specs.Duals.{adjoint_of_rows, dual_gap, groups_with, reduced_cost, rows_with, with_duals}
 use Rattle.certificates.specs.Good.{HasReducedCost, dual_objective}
 use Rattle.certificates.specs.DualPointLaws.{component_count, pull_at, weighs}
 use Rattle.certificates.specs.PointLaws.{split_addresses}
-use Rattle.dual_parts.specs.Parts.{IsLeft, on_parts, own_bounds, shifts_on}
+use Rattle.dual_parts.specs.Parts.{IsLeftOfDuals, on_parts, own_bounds, shifts_on}
 use Rattle.dual_parts.specs.GroupPartLaws.{shifts_below}
 use Rattle.dual_parts.specs.PartLaws.{below_low, length-on_parts}
 use Rattle.group_numbering.specs.HoldLaws.{HoldFrom, groups_from_hold, hold_both, hold_first, hold_from_groups, hold_second}
@@ -42,7 +42,7 @@ use Rattle.group_numbering.specs.PlaceLaws.{count-append, first_point_at, group_
 use Rattle.dual_model.specs.DualOf.{at_bounds, bound_numbers, column_in, cost_of, costs, dual_of_model, each_placed, group_groups, new_groups, opposite, row_costs, row_groups, row_size, row_variables, signed}
 use Rattle.dual_model.specs.Carried.{AreRightDuals, CarriesTo, HoldsDuals, IsCarriedFrom, carried_rows, carried_variable, carried_variables, part_size}
 use Rattle.dual_model.specs.RowPartLaws.{AddsUp, ArePartsOf, Count, HasSetOf, adjoint_weighed, carried_are, count-rows, duals_of_rows, length-costs, length-rows_duals, parts_of_rows, rows_count, rows_duals, rows_from_parts, total_parts}
-use Rattle.dual_model.specs.GroupRowLaws.{AreLeft, AreOwnOf, CountOwn, HasGroupSetOf, IsLeftAt, count-groups, duals_of_groups, groups_count, groups_of_own, left_at, left_from_rows, length-own, own_of_groups, own_total, rows_from_left}
+use Rattle.dual_model.specs.GroupRowLaws.{AreGroupsLeft, AreOwnOf, CountOwn, HasGroupSetOf, IsLeftAt, count-groups, duals_of_groups, groups_count, groups_of_own, left_at, left_from_rows, length-own, own_of_groups, own_total, rows_from_left}
 use Rattle.dual_model.specs.PlaceLaws.{each_same, each_shift, length-bound_numbers, point_at}
 use Rattle.dual_model.specs.LaidLaws.{equal_adds, laid_count, laid_count_own, laid_duals, laid_left, laid_own, laid_parts, length-own_numbers, length-row_numbers, own_numbers, row_numbers}
 use Rattle.dual_model.specs.SenseLaws.{no_better, reduced_is, same_value, signed_dot}
@@ -82,7 +82,7 @@ parts_count x at n (r ∷ rows) sets h = (
 module _ (model : ModelValue) (x w at : Address → Rational) where
   own_count : (n : ℕ) (groups : List Group) → All HasGroupSetOf groups
       → All (IsLeftAt model x w) (all_addresses groups) → AreOwnOf x n groups
-      → AreLeft model x n groups → CountOwn x w (λ p q. p ≤ℚ q) at_most_adds at n groups
+      → AreGroupsLeft model x n groups → CountOwn x w (λ p q. p ≤ℚ q) at_most_adds at n groups
   own_count n [] sets same own left = tt
   own_count n (g ∷ groups) sets same own left =
       let vs : List Address = addresses_of g.vars in
@@ -92,7 +92,7 @@ module _ (model : ModelValue) (x w at : Address → Rational) where
       (all_first (IsLeftAt model x w) vs (all_addresses groups) all) in (
         shifts_below (length vs) g.set (map w vs) (numbers_from x n size)
             (All-head HasGroupSetOf g groups sets) (length-map vs w) (length-numbers_from x n size)
-            own.0 (subst (λ ws. IsLeft g.set ws (numbers_from x n size)) (sym here) left.0),
+            own.0 (subst (λ ws. IsLeftOfDuals g.set ws (numbers_from x n size)) (sym here) left.0),
         own_count (n + size) groups (All-tail HasGroupSetOf g groups sets)
             (all_second (IsLeftAt model x w) vs (all_addresses groups) all) own.1 left.1,
       )
@@ -322,9 +322,9 @@ module _ (model : ModelValue) (valid : IsValid model) where
         (own_of_groups point 1 (0 + row_variables model) model.groups
         (hold_second point 0 groups_of_rows groups_of_groups hold))
 
-    left : AreLeft model point start model.groups
+    left : AreGroupsLeft model point start model.groups
     left =
-        subst (λ n. AreLeft model point n model.groups) begin_is
+        subst (λ n. AreGroupsLeft model point n model.groups) begin_is
         (left_from_rows model point 0 1 (row_variables model) model.groups group_sets behind
         feasible.rows)
 
@@ -430,7 +430,7 @@ module _ (model : ModelValue) (valid : IsValid model) where
     met = subst (λ ys. All (HasReducedCost model ys vars) (addresses_of (variables model)))
         (sym same_rows) right.equations
 
-    made_left : AreLeft model made_point start model.groups
+    made_left : AreGroupsLeft model made_point start model.groups
     made_left = laid_left made_point of_variables model start model.groups
         (same made_point vars met) second_duals laid.1
 
@@ -445,7 +445,7 @@ module _ (model : ModelValue) (valid : IsValid model) where
           (subst (λ n. AreOwnOf made_point n model.groups) (sym first_is)
           (laid_own made_point of_variables start model.groups laid.1))));
       rows = rows_from_left model made_point 0 1 (row_variables model) model.groups group_sets behind
-          (subst (λ n. AreLeft model made_point n model.groups) (sym begin_is) made_left);
+          (subst (λ n. AreGroupsLeft model made_point n model.groups) (sym begin_is) made_left);
     }
 
     back_to_rows : carried_rows model.rows made ≡ rows

@@ -20,15 +20,15 @@ use Rattle.set_core.specs.declared.set.Set.TheVariants.{EqualTo, Interval, Zeros
 use Rattle.set_core.specs.Membership.{In, dual_of, low_of}
 use Rattle.set_core.specs.Shapes.{IsSetOf, is_scalar}
 use Rattle.set_core.specs.Vectors.{first_of, others_of}
-use Rattle.dual_laws.specs.Held.{DualRow, gap, gap_of, pull, pull_of}
+use Rattle.dual_laws.specs.Held.{DualRow, HasDuals, gap, gap_of, pull, pull_of}
 use Rattle.user_model.specs.declared.function.UserFunc.TheVariants.{AffineVec}
 use Rattle.user_model.specs.declared.group.Group.{Group}
 use Rattle.user_model.specs.declared.row.Row.{Row}
 use Rattle.user_model.specs.Model.{ModelValue, variable_address}
 use Rattle.certificates.specs.Points.{addresses_of, all_addresses, functions_of, variables_at}
-use Rattle.certificates.specs.Duals.{HasDuals, group_with, groups_with}
+use Rattle.certificates.specs.Duals.{group_with, groups_with}
 use Rattle.certificates.specs.PointLaws.{split_addresses}
-use Rattle.dual_parts.specs.Parts.{AreOwn, IsLeft, own_bounds, shifts_on}
+use Rattle.dual_parts.specs.Parts.{AreOwn, IsLeftOfDuals, own_bounds, shifts_on}
 use Rattle.dual_parts.specs.GroupPartLaws.{left_dual}
 use Rattle.group_numbering.specs.HoldLaws.{HoldFrom, hold_both, hold_first, hold_second}
 use Rattle.group_numbering.specs.NewGroups.{NewGroup, variable_count}
@@ -163,7 +163,7 @@ module _ (model : ModelValue) (x : Address → Rational) where
   -- what a row of the dual asks of the variables of a group, whose own variables are those from
   -- the n-th on
   abbrev LeftFor : ℕ → List Address → Set → Type 0
-  LeftFor n vs set = IsLeft set (map left_at vs) (numbers_from x n (length (own_bounds set)))
+  LeftFor n vs set = IsLeftOfDuals set (map left_at vs) (numbers_from x n (length (own_bounds set)))
 
   first_less : (n : ℕ) (vs : List Address) → length vs ≡ 1
       → ((v : Address) → length (column_in model.rows v) ≤ n)
@@ -208,14 +208,14 @@ module _ (model : ModelValue) (x : Address → Rational) where
         (All-nil (RowIn x))
 
   -- for each group
-  abbrev pub AreLeft : ℕ → List Group → Type 0
-  AreLeft n [] = Unit {0}
-  AreLeft n (g ∷ groups) =
-      LeftFor n (addresses_of g.vars) g.set × AreLeft (n + length (own_bounds g.set)) groups
+  abbrev pub AreGroupsLeft : ℕ → List Group → Type 0
+  AreGroupsLeft n [] = Unit {0}
+  AreGroupsLeft n (g ∷ groups) =
+      LeftFor n (addresses_of g.vars) g.set × AreGroupsLeft (n + length (own_bounds g.set)) groups
 
   pub left_from_rows : (id k n : ℕ) (groups : List Group) → All HasGroupSetOf groups
       → ((v : Address) → length (column_in model.rows v) ≤ n)
-      → All (RowIn x) (group_rows model id k n groups) → AreLeft n groups
+      → All (RowIn x) (group_rows model id k n groups) → AreGroupsLeft n groups
   left_from_rows id k n [] sets behind h = tt
   left_from_rows id k n (g ∷ groups) sets behind h =
       let own : List Row = row_for model id k n (addresses_of g.vars) g.set in
@@ -229,7 +229,7 @@ module _ (model : ModelValue) (x : Address → Rational) where
 
   pub rows_from_left : (id k n : ℕ) (groups : List Group) → All HasGroupSetOf groups
       → ((v : Address) → length (column_in model.rows v) ≤ n)
-      → AreLeft n groups → All (RowIn x) (group_rows model id k n groups)
+      → AreGroupsLeft n groups → All (RowIn x) (group_rows model id k n groups)
   rows_from_left id k n [] sets behind h = All-nil (RowIn x)
   rows_from_left id k n (g ∷ groups) sets behind h =
       let own : List Row = row_for model id k n (addresses_of g.vars) g.set in
@@ -247,7 +247,7 @@ module _ (model : ModelValue) (x : Address → Rational) where
     IsLeftAt v = w v ≡ left_at v
 
     pub duals_of_groups : (n : ℕ) (groups : List Group) → All IsLeftAt (all_addresses groups)
-        → AreLeft n groups → All HasDuals (groups_with w groups)
+        → AreGroupsLeft n groups → All HasDuals (groups_with w groups)
     duals_of_groups n [] same h = All-nil HasDuals
     duals_of_groups n (g ∷ groups) same h =
         let vs : List Address = addresses_of g.vars in

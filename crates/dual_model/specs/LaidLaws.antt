@@ -13,9 +13,10 @@ use Rattle.user_model.specs.declared.group.Group.{Group}
 use Rattle.user_model.specs.declared.row.Row.{Row}
 use Rattle.user_model.specs.Model.{ModelValue}
 use Rattle.certificates.specs.Points.{addresses_of, all_addresses}
-use Rattle.certificates.specs.Duals.{HasDuals, group_with, groups_with, row_with, rows_with}
+use Rattle.certificates.specs.Duals.{group_with, groups_with, row_with, rows_with}
+use Rattle.dual_laws.specs.Held.{HasDuals}
 use Rattle.certificates.specs.PointLaws.{split_addresses}
-use Rattle.dual_parts.specs.Parts.{AreOwn, AreParts, IsLeft, bounds_on, joined, own_bounds, own_for, parts_for, shifts_on}
+use Rattle.dual_parts.specs.Parts.{AreOwn, AreParts, IsLeftOfDuals, bounds_on, joined, own_bounds, own_for, parts_for, shifts_on}
 use Rattle.dual_parts.specs.GroupPartLaws.{are_own, is_left, length-own_for, shifts_at}
 use Rattle.dual_parts.specs.PartLaws.{are_parts, at_low, joined_parts, length-parts_for}
 use Rattle.group_numbering.specs.NumberLaws.{length-numbers_from, numbers_from, numbers_from-append}
@@ -23,7 +24,7 @@ use Rattle.group_numbering.specs.PlaceLaws.{joined_alike}
 use Rattle.dual_model.specs.Carried.{part_size}
 use Rattle.dual_model.specs.DualOf.{row_size}
 use Rattle.dual_model.specs.RowPartLaws.{AddsUp, ArePartsOf, Count, HasSetOf, rows_duals, total_parts}
-use Rattle.dual_model.specs.GroupRowLaws.{AreLeft, AreOwnOf, CountOwn, HasGroupSetOf, IsLeftAt, left_at, own_total}
+use Rattle.dual_model.specs.GroupRowLaws.{AreGroupsLeft, AreOwnOf, CountOwn, HasGroupSetOf, IsLeftAt, left_at, own_total}
 
 -- ---- equal is a relation that adds up
 
@@ -156,7 +157,7 @@ module _ (x w : Address → Rational) where
 
   pub laid_left : (model : ModelValue) (n : ℕ) (groups : List Group)
       → All (IsLeftAt model x w) (all_addresses groups) → GroupDuals groups → AreOwnLaid n groups
-      → AreLeft model x n groups
+      → AreGroupsLeft model x n groups
   laid_left model n [] same h e = tt
   laid_left model n (g ∷ groups) same h e =
       let vs : List Address = addresses_of g.vars in
@@ -165,8 +166,8 @@ module _ (x w : Address → Rational) where
       (all_first (IsLeftAt model x w) vs (all_addresses groups) all) in
       let next = own_next n g groups e in
       let own = All-head HasDuals (group_with w g) (groups_with w groups) h in (
-        subst (λ ps. IsLeft g.set (map (left_at model x) vs) ps) (sym next.0)
-            (subst (λ ws. IsLeft g.set ws (own_for g.set (map w vs))) here
+        subst (λ ps. IsLeftOfDuals g.set (map (left_at model x) vs) ps) (sym next.0)
+            (subst (λ ws. IsLeftOfDuals g.set ws (own_for g.set (map w vs))) here
             (is_left g.set (map w vs) own.dual)),
         laid_left model (n + length (own_bounds g.set)) groups
             (all_second (IsLeftAt model x w) vs (all_addresses groups) all)

@@ -18,7 +18,7 @@ use Rattle.set_core.specs.declared.set.Set.{Set}
 use Rattle.set_core.specs.declared.set.Set.TheVariants.{Interval}
 use Rattle.set_core.specs.Membership.{In, dual_of, low_of}
 use Rattle.set_core.specs.Shapes.{IsSetOf}
-use Rattle.dual_laws.specs.Held.{DualRow, adjoint, gap, gap_of, pull, pull_of}
+use Rattle.dual_laws.specs.Held.{DualRow, HasDuals, adjoint, gap, gap_of, pull, pull_of}
 use Rattle.group_numbering.specs.HoldLaws.{HoldFrom, hold_both, hold_first, hold_second}
 use Rattle.group_numbering.specs.NewGroups.{NewGroup, variable_count}
 use Rattle.group_numbering.specs.NumberLaws.{length-numbers_from, numbers_from, numbers_from-append}
@@ -26,7 +26,7 @@ use Rattle.group_numbering.specs.PlaceLaws.{count-append}
 use Rattle.user_model.specs.declared.row.Row.{Row}
 use Rattle.user_model.specs.Model.{variable_address}
 use Rattle.certificates.specs.Points.{functions_of}
-use Rattle.certificates.specs.Duals.{HasDuals, row_with, rows_with}
+use Rattle.certificates.specs.Duals.{row_with, rows_with}
 use Rattle.dual_parts.specs.Parts.{AreParts, bounds_on, joined, on_parts, part_count}
 use Rattle.dual_parts.specs.PartLaws.{dot-on_parts, joined_dual, length-bounds_on, length-joined, length-on_parts}
 use Rattle.dual_model.specs.DualOf.{column_in, each_placed, groups_for, part_names, row_costs, row_groups, row_size, two_groups}

@@ -15,7 +15,7 @@ use Rattle.set_core.specs.ShapeLaws.{in_order}
 use Rattle.set_core.specs.Shapes.{IsSetOf}
 use Rattle.set_core.specs.Vectors.{first_of, others_of}
 use Rattle.set_laws.specs.Least.{single}
-use Rattle.dual_parts.specs.Parts.{AreOwn, IsLeft, above_zero, below_zero, own_bounds, own_for, shifts_on}
+use Rattle.dual_parts.specs.Parts.{AreOwn, IsLeftOfDuals, above_zero, below_zero, own_bounds, own_for, shifts_on}
 use Rattle.dual_parts.specs.PartLaws.{half_signs, half_sum, pair, parts_at, parts_below}
 
 pub length-shifts_on : (n : ℕ) (set : Set) → IsSetOf n set → length (shifts_on set n) ≡ n
@@ -31,7 +31,7 @@ length-own_for (Interval l u) w = refl
 length-own_for set w = refl
 
 -- the duals are in the dual set
-pub left_dual : (set : Set) (w ps : List Rational) → IsLeft set w ps → Dual set w
+pub left_dual : (set : Set) (w ps : List Rational) → IsLeftOfDuals set w ps → Dual set w
 left_dual (EqualTo a) w ps h = tt
 left_dual (Zeros n) w ps h = tt
 left_dual (Interval l u) w ps h = tt
@@ -46,7 +46,7 @@ are_own set w = tt
 nothing_left : (y z : Rational) → (y +ℚ z) -ℚ y -ℚ z ≡ zero_ℚ
 nothing_left = ring₂ _ (λ ρ. simp (as_expression, zero_as ρ) (by_ring ρ _ _ refl))
 
-pub is_left : (set : Set) (w : List Rational) → Dual set w → IsLeft set w (own_for set w)
+pub is_left : (set : Set) (w : List Rational) → Dual set w → IsLeftOfDuals set w (own_for set w)
 is_left (EqualTo a) w h = tt
 is_left (Zeros n) w h = tt
 is_left (Interval l u) w h =
@@ -79,7 +79,7 @@ no_shifts n w = zero-+ℚ (dot w (replicate n zero_ℚ)) ∙ dot-zeros w n
 
 -- the parts and the duals count at most the least product
 pub shifts_below : (n : ℕ) (set : Set) (w ps : List Rational) → IsSetOf n set → length w ≡ n
-    → length ps ≡ length (own_bounds set) → AreOwn set ps → IsLeft set w ps
+    → length ps ≡ length (own_bounds set) → AreOwn set ps → IsLeftOfDuals set w ps
     → (dot ps (own_bounds set) +ℚ dot w (shifts_on set n)) ≤ℚ low_of set w
 shifts_below n (LessThan x) w [] s e k o h = ≤ℚ_from_≡ _ _ (one_shift n w x e s.dimension)
 shifts_below n (GreaterThan x) w [] s e k o h = ≤ℚ_from_≡ _ _ (one_shift n w x e s.dimension)

@@ -90,9 +90,9 @@ own_for set w = []
 
 -- what a row of the dual asks of the duals w and their parts: that they are in the dual set, or
 -- the sum of the parts
-abbrev pub IsLeft : Set → List Rational → List Rational → Type 0
-IsLeft (EqualTo a) w ps = Unit {0}
-IsLeft (Zeros n) w ps = Unit {0}
-IsLeft (Interval l u) w ps =
+abbrev pub IsLeftOfDuals : Set → List Rational → List Rational → Type 0
+IsLeftOfDuals (EqualTo a) w ps = Unit {0}
+IsLeftOfDuals (Zeros n) w ps = Unit {0}
+IsLeftOfDuals (Interval l u) w ps =
     first_of w -ℚ first_of ps -ℚ first_of (others_of ps) ≡ zero_ℚ
-IsLeft set w ps = Dual set w
+IsLeftOfDuals set w ps = Dual set w

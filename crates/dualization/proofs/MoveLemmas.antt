@@ -7,7 +7,7 @@ use Rattle.user_model.specs.declared.group.GroupVar.{GroupVar}
 use Rattle.user_model.specs.declared.objective.Objective.{Objective}
 use Rattle.user_model.specs.declared.row.Row.{Row}
 use Rattle.dualization.specs.declared.sums.Sums.{Sums}
-use Rattle.dualization.specs.Fitting.{AllBoundsFit, BoundsFit, FirstBounds, FirstMove, MoveFits, MovesFit, after_move, after_moves, row_start}
+use Rattle.dualization.specs.Fitting.{AllBoundsFit, FirstBounds, FirstMove, MoveFits, MovesFit, RowBoundsFit, after_move, after_moves, row_start}
 
 -- ---- rows
 
@@ -26,10 +26,10 @@ started_none rows left parts e n = record {
 
 module _ (rows left others : List Row) (r : Row) (parts : List Rational)
     (next : left ≡ r ∷ others) (so : StartedSoFar rows left parts) where
-  pub started_unfit : ¬ (BoundsFit r) → FirstBounds rows r.name
+  pub started_unfit : ¬ (RowBoundsFit r) → FirstBounds rows r.name
   started_unfit n = so.first r.name (subst (λ rs. FirstBounds rs r.name) (sym next) (inl (n, refl)))
 
-  pub started_more : (new : List Rational) → BoundsFit r → new ≡ parts ++ row_start r
+  pub started_more : (new : List Rational) → RowBoundsFit r → new ≡ parts ++ row_start r
       → StartedSoFar rows others new
   started_more new fits e = record {
     whole =

@@ -5,13 +5,13 @@ use Rattle.std.proofs.Math.ListN.{drop_of_length-le}
 use Rattle.std.proofs.lemmas.List.{append-nil, append_assoc, drop_more}
 use Rattle.ratio_core.specs.Rational.{Rational, Fits, SumFits, neg_ℚ, ◌*ℚ◌, ◌-ℚ◌}
 use Rattle.rational_laws.specs.Dot.{minus, times}
-use Rattle.dualization.specs.Fitting.{DifferencesFit, MultipleFits}
+use Rattle.dualization.specs.Fitting.{EachDifferenceFits, MultipleFits}
 
 minus-nil : (ps : List Rational) → minus ps [] ≡ []
 minus-nil [] = refl
 minus-nil (p ∷ ps) = refl
 
-differences-nil : (ps : List Rational) → DifferencesFit ps []
+differences-nil : (ps : List Rational) → EachDifferenceFits ps []
 differences-nil [] = tt
 differences-nil (p ∷ ps) = tt
 
@@ -25,8 +25,8 @@ reached a b n i h (inr k) = inr (omega (arith, h, k))
 pub record DifferencesSoFar (first second : List Rational) (i : ℕ)
     (old made : List Rational) : Type 0 where
   pub whole : made ++ minus (drop i first) (drop i second) ≡ old ++ minus first second
-  pub fit : DifferencesFit (drop i first) (drop i second) → DifferencesFit first second
-  pub unfit : DifferencesFit first second → DifferencesFit (drop i first) (drop i second)
+  pub fit : EachDifferenceFits (drop i first) (drop i second) → EachDifferenceFits first second
+  pub unfit : EachDifferenceFits first second → EachDifferenceFits (drop i first) (drop i second)
 
 pub differences_none : (first second old : List Rational) → DifferencesSoFar first second 0 old old
 differences_none first second old = record { whole = refl; fit = λ h. h; unfit = λ h. h }
@@ -41,10 +41,10 @@ module _ (first second : List Rational) (i : ℕ) (old made : List Rational) (p 
   second_split : drop i second ≡ q ∷ drop (i + 1) second
   second_split = drop_more second i q le ∙ ap (λ x. x ∷ drop (i + 1) second) (sym q_is)
 
-  pub difference_unfit : ¬ (SumFits p (neg_ℚ q)) → ¬ (DifferencesFit first second)
+  pub difference_unfit : ¬ (SumFits p (neg_ℚ q)) → ¬ (EachDifferenceFits first second)
   difference_unfit n h =
-      n (subst (λ xs. DifferencesFit xs (q ∷ drop (i + 1) second)) first_split
-      (subst (DifferencesFit (drop i first)) second_split (so.unfit h))).0
+      n (subst (λ xs. EachDifferenceFits xs (q ∷ drop (i + 1) second)) first_split
+      (subst (EachDifferenceFits (drop i first)) second_split (so.unfit h))).0
 
   pub difference_made : (d : Rational) (new : List Rational) → SumFits p (neg_ℚ q) → d ≡ p -ℚ q
       → new ≡ made ++ d ∷ [] → DifferencesSoFar first second (i + 1) old new
@@ -55,23 +55,23 @@ module _ (first second : List Rational) (i : ℕ) (old made : List Rational) (p 
         ∙ ap (λ x. made ++ x ∷ minus (drop (i + 1) first) (drop (i + 1) second)) d_is
         ∙ ap (λ xs. made ++ xs) (sym (ap₂ minus first_split second_split))
         ∙ so.whole;
-    fit = λ h. so.fit (subst (λ xs. DifferencesFit xs (drop i second)) (sym first_split)
-        (subst (DifferencesFit (p ∷ drop (i + 1) first)) (sym second_split) (fits, h)));
-    unfit = λ h. (subst (λ xs. DifferencesFit xs (q ∷ drop (i + 1) second)) first_split
-        (subst (DifferencesFit (drop i first)) second_split (so.unfit h))).1;
+    fit = λ h. so.fit (subst (λ xs. EachDifferenceFits xs (drop i second)) (sym first_split)
+        (subst (EachDifferenceFits (p ∷ drop (i + 1) first)) (sym second_split) (fits, h)));
+    unfit = λ h. (subst (λ xs. EachDifferenceFits xs (q ∷ drop (i + 1) second)) first_split
+        (subst (EachDifferenceFits (drop i first)) second_split (so.unfit h))).1;
   }
 
 pub differences_all : (first second : List Rational) (i : ℕ) (old made : List Rational)
     → (length first ≤ i) ⊎ (length second ≤ i) → DifferencesSoFar first second i old made
-    → DifferencesFit first second × (made ≡ old ++ minus first second)
+    → EachDifferenceFits first second × (made ≡ old ++ minus first second)
 differences_all first second i old made (inl le) so =
     let none : drop i first ≡ [] = drop_of_length-le first le in (
-      so.fit (subst (λ xs. DifferencesFit xs (drop i second)) (sym none) tt),
+      so.fit (subst (λ xs. EachDifferenceFits xs (drop i second)) (sym none) tt),
       sym (append-nil made) ∙ ap (λ xs. made ++ minus xs (drop i second)) (sym none) ∙ so.whole,
     )
 differences_all first second i old made (inr le) so =
     let none : drop i second ≡ [] = drop_of_length-le second le in (
-      so.fit (subst (DifferencesFit (drop i first)) (sym none) (differences-nil (drop i first))),
+      so.fit (subst (EachDifferenceFits (drop i first)) (sym none) (differences-nil (drop i first))),
       sym (append-nil made)
           ∙ ap (λ xs. made ++ xs) (sym (minus-nil (drop i first)))
           ∙ ap (λ xs. made ++ minus (drop i first) xs) (sym none) ∙ so.whole,

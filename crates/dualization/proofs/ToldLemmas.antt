@@ -4,11 +4,11 @@ use Rattle.std.proofs.Common.{subst, sym}
 use Rattle.report_core.specs.declared.refused.Place.TheVariants as place
 use Rattle.dualization.specs.declared.fault.DualFault.{DualFault}
 use Rattle.dualization.specs.declared.fault.DualFault.TheVariants.{Memory, Overflow}
-use Rattle.dualization.specs.Told.{IsAtRow, IsAtVariable, Tells}
+use Rattle.dualization.specs.Told.{IsAtRow, IsAtVariable, TellsOfDual}
 
 module _ {T : Type 0} (Q : T → Type 0) (R V : List ℕ → Type 0) where
   pub told_row : (fault : DualFault) (name : List ℕ) → IsAtRow (λ n. n ≡ name) fault → R name
-      → Tells {T = T} (Err fault) Q R V
+      → TellsOfDual {T = T} (Err fault) Q R V
   told_row (Overflow (place.Row n)) name e r = subst R (sym e) r
   told_row (Overflow (place.Var n)) name e r = absurd e
   told_row (Overflow place.Line) name e r = absurd e
@@ -18,7 +18,7 @@ module _ {T : Type 0} (Q : T → Type 0) (R V : List ℕ → Type 0) where
   told_row Memory name e r = tt
 
   pub told_variable : (fault : DualFault) (name : List ℕ) → IsAtVariable (λ n. n ≡ name) fault
-      → V name → Tells {T = T} (Err fault) Q R V
+      → V name → TellsOfDual {T = T} (Err fault) Q R V
   told_variable (Overflow (place.Row n)) name e r = absurd e
   told_variable (Overflow (place.Var n)) name e r = subst V (sym e) r
   told_variable (Overflow place.Line) name e r = absurd e
@@ -29,9 +29,9 @@ module _ {T : Type 0} (Q : T → Type 0) (R V : List ℕ → Type 0) where
 
 -- a fault handed on, where it may say more
 pub told_on : {S T : Type 0} (fault : DualFault) (P : S → Type 0) (Q : T → Type 0)
-    (R V U W : List ℕ → Type 0) → Tells {T = S} (Err fault) P R V
+    (R V U W : List ℕ → Type 0) → TellsOfDual {T = S} (Err fault) P R V
     → ((name : List ℕ) → R name → U name) → ((name : List ℕ) → V name → W name)
-    → Tells {T = T} (Err fault) Q U W
+    → TellsOfDual {T = T} (Err fault) Q U W
 told_on (Overflow (place.Row n)) P Q R V U W h f g = f n h
 told_on (Overflow (place.Var n)) P Q R V U W h f g = g n h
 told_on (Overflow place.Line) P Q R V U W h f g = absurd h
@@ -43,8 +43,8 @@ told_on Memory P Q R V U W h f g = tt
 -- the fault of a step is that of the whole
 pub told_passed : {S T : Type 0} (r : Result T DualFault) (fault : DualFault) (P : S → Type 0)
     (Q : T → Type 0) (R V U W : List ℕ → Type 0) → IsErrAnd r (λ x. x ≡ fault)
-    → Tells {T = S} (Err fault) P R V → ((name : List ℕ) → R name → U name)
-    → ((name : List ℕ) → V name → W name) → Tells {T = T} r Q U W
+    → TellsOfDual {T = S} (Err fault) P R V → ((name : List ℕ) → R name → U name)
+    → ((name : List ℕ) → V name → W name) → TellsOfDual {T = T} r Q U W
 told_passed (Ok x) fault P Q R V U W is h f g = absurd is
 told_passed (Err x) fault P Q R V U W is h f g =
-    subst (λ y. Tells (Err y) Q U W) (sym is) (told_on fault P Q R V U W h f g)
+    subst (λ y. TellsOfDual (Err y) Q U W) (sym is) (told_on fault P Q R V U W h f g)

@@ -29,10 +29,10 @@ use Rattle.dualization.specs.declared.sums.Sums.{Sums}
 -- ---- the objective of the dual: rows
 
 -- what is at equal places can be subtracted
-abbrev pub DifferencesFit : List Rational → List Rational → Type 0
-DifferencesFit [] qs = Unit {0}
-DifferencesFit (p ∷ ps) [] = Unit {0}
-DifferencesFit (p ∷ ps) (q ∷ qs) = SumFits p (neg_ℚ q) × DifferencesFit ps qs
+abbrev pub EachDifferenceFits : List Rational → List Rational → Type 0
+EachDifferenceFits [] qs = Unit {0}
+EachDifferenceFits (p ∷ ps) [] = Unit {0}
+EachDifferenceFits (p ∷ ps) (q ∷ qs) = SumFits p (neg_ℚ q) × EachDifferenceFits ps qs
 
 abbrev pub row_bounds : Row → List Rational
 row_bounds r = bounds_on r.set (row_size r)
@@ -44,18 +44,18 @@ row_constants r = on_parts r.set (constants (functions_of r.func))
 abbrev pub row_start : Row → List Rational
 row_start r = minus (row_bounds r) (row_constants r)
 
-abbrev pub BoundsFit : Row → Type 0
-BoundsFit r = DifferencesFit (row_bounds r) (row_constants r)
+abbrev pub RowBoundsFit : Row → Type 0
+RowBoundsFit r = EachDifferenceFits (row_bounds r) (row_constants r)
 
 abbrev pub AllBoundsFit : List Row → Type 0
 AllBoundsFit [] = Unit {0}
-AllBoundsFit (r ∷ rows) = BoundsFit r × AllBoundsFit rows
+AllBoundsFit (r ∷ rows) = RowBoundsFit r × AllBoundsFit rows
 
 -- the first row whose bounds less its constants don't fit has the name
 abbrev pub FirstBounds : List Row → List ℕ → Type 0
 FirstBounds [] name = ⊥
 FirstBounds (r ∷ rows) name =
-    ((¬ (BoundsFit r)) × (name ≡ r.name)) ⊎ (BoundsFit r × FirstBounds rows name)
+    ((¬ (RowBoundsFit r)) × (name ≡ r.name)) ⊎ (RowBoundsFit r × FirstBounds rows name)
 
 -- ---- variables that are moved
 

@@ -17,7 +17,7 @@ ghost use Rattle.dual_model.specs.RowPartLaws.{total_parts};
 ghost use Rattle.dual_parts.specs.Parts.{joined};
 ghost use Rattle.dualization.specs.Answers.{CarriesPoint};
 ghost use Rattle.dualization.specs.Fitting.{FirstJoin, FirstLeft, JoinFits, JoinsFit, LeftFits};
-ghost use Rattle.dualization.specs.Told.{Tells};
+ghost use Rattle.dualization.specs.Told.{TellsOfDual};
 
 use crate::DualFault;
 use crate::fault::{at_row, at_variable};
@@ -59,7 +59,7 @@ pub fn carry(alloc: Global, model: &UserModel, x: &Ratios) -> Result<Carried, Du
 
 fn carried_rows(alloc: Global, rows: &Rows, x: &[Ratio]) -> Result<Vec<Ratios>, DualFault>
     requires { total_parts rows.now.items ≤ length x.now }
-    ensures { Tells result (λ duals. JoinsFit rows.now.items x.now
+    ensures { TellsOfDual result (λ duals. JoinsFit rows.now.items x.now
         × (duals.items ≡ carried_rows rows.now.items x.now))
         (FirstJoin rows.now.items x.now) (λ _. ⊥) }
 {
@@ -118,7 +118,7 @@ fn carried_variables(
 ) -> Result<Vec<Ratio>, DualFault>
     requires { HasRowDuals model.now.model.rows duals.now }
     ensures { let model = model.now.model in
-        Tells result (λ vars. All (LeftFits model duals.now) (addresses_of (variables model))
+        TellsOfDual result (λ vars. All (LeftFits model duals.now) (addresses_of (variables model))
         × (vars.items ≡ carried_variables model duals.now))
         (λ _. ⊥) (FirstLeft model duals.now (variables model)) }
 {
@@ -177,7 +177,7 @@ fn reduced_costs(
 fn test_groups(alloc: Global, model: &UserModel, duals: &[Ratios]) -> Result<(), DualFault>
     requires { HasRowDuals model.now.model.rows duals.now }
     ensures { let model = model.now.model in
-        Tells result (λ _. All (LeftFits model duals.now) (addresses_of (variables model)))
+        TellsOfDual result (λ _. All (LeftFits model duals.now) (addresses_of (variables model)))
         (λ _. ⊥) (FirstLeft model duals.now (variables model)) }
 {
     for group in model.groups().iter() {
@@ -194,7 +194,7 @@ fn test_each(
 ) -> Result<(), DualFault>
     requires { HasRowDuals model.now.model.rows duals.now }
     ensures { let model = model.now.model in
-        Tells result (λ _. All (LeftFits model duals.now) (addresses_of vars.now))
+        TellsOfDual result (λ _. All (LeftFits model duals.now) (addresses_of vars.now))
         (λ _. ⊥) (FirstLeft model duals.now vars.now) }
 {
     for var in vars {

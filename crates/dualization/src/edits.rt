@@ -27,10 +27,7 @@ use name_index::Name;
 use ratio_core::Ratio;
 use set_core::Set;
 use std::alloc::Global;
-use user_model::{Edit, Groups, NamedFunc, Sense};
-
-/// Edits in their order.
-pub type Edits = Sequence<Edit>;
+use user_model::{Edit, Edits, Groups, NamedFunc, Sense};
 
 /// The edits that make the dual of a model from an empty model: its groups, its rows and its
 /// objective.

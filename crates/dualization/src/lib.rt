@@ -17,6 +17,6 @@ mod starting;
 mod sums;
 
 pub use carrying::{Carried, carry};
-pub use edits::{Edits, dual};
+pub use edits::dual;
 pub use fault::DualFault;
 pub use points::is_point;

@@ -3,7 +3,7 @@ ghost use Rattle.std.specs.Prelude.{◌≡◌};
 ghost use Rattle.ratio_core.specs.Answers.{ExactWhere};
 ghost use Rattle.rational_laws.specs.Dot.{minus, times};
 ghost use Rattle.dualization.specs.Fitting.{FirstMove, MoveFits, MovesFit, MultipleFits, after_move, after_moves, moves, moves_to, own_moves};
-ghost use Rattle.dualization.specs.Told.{Tells};
+ghost use Rattle.dualization.specs.Told.{TellsOfDual};
 
 use crate::DualFault;
 use crate::coefficients::{column_in, common_count};
@@ -25,7 +25,7 @@ pub(crate) fn move_groups(
     sums: Sums,
 ) -> Result<Sums, DualFault>
     ensures { let all = moves groups.now.items in
-        Tells result (λ new. MovesFit rows.now.items objective.now all sums
+        TellsOfDual result (λ new. MovesFit rows.now.items objective.now all sums
         × (new ≡ after_moves rows.now.items objective.now all sums))
         (λ _. ⊥) (FirstMove rows.now.items objective.now all sums) }
 {
@@ -44,7 +44,7 @@ fn move_group(
     sums: Sums,
 ) -> Result<Sums, DualFault>
     ensures { let all = own_moves group.now in
-        Tells result (λ new. MovesFit rows.now.items objective.now all sums
+        TellsOfDual result (λ new. MovesFit rows.now.items objective.now all sums
         × (new ≡ after_moves rows.now.items objective.now all sums))
         (λ _. ⊥) (FirstMove rows.now.items objective.now all sums) }
 {
@@ -63,7 +63,7 @@ fn move_each(
     sums: Sums,
 ) -> Result<Sums, DualFault>
     ensures { let all = moves_to vars.now bound.now in
-        Tells result (λ new. MovesFit rows.now.items objective.now all sums
+        TellsOfDual result (λ new. MovesFit rows.now.items objective.now all sums
         × (new ≡ after_moves rows.now.items objective.now all sums))
         (λ _. ⊥) (FirstMove rows.now.items objective.now all sums) }
 {

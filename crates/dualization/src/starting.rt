@@ -3,8 +3,8 @@ ghost use Rattle.std.specs.Prelude.{◌≡◌, ◌++◌};
 ghost use Rattle.ratio_core.specs.Answers.{ExactWhere};
 ghost use Rattle.rational_laws.specs.Dot.{minus};
 ghost use Rattle.certificates.specs.Points.{objective_function};
-ghost use Rattle.dualization.specs.Fitting.{AllBoundsFit, BoundsFit, DifferencesFit, FirstBounds, row_start, start_sums};
-ghost use Rattle.dualization.specs.Told.{Tells};
+ghost use Rattle.dualization.specs.Fitting.{AllBoundsFit, EachDifferenceFits, FirstBounds, RowBoundsFit, row_start, start_sums};
+ghost use Rattle.dualization.specs.Told.{TellsOfDual};
 
 use crate::DualFault;
 use crate::coefficients::{common_count, constants, push_on_parts};
@@ -22,7 +22,7 @@ pub(crate) fn start_sums(
     rows: &Rows,
     objective: &Objective,
 ) -> Result<Sums, DualFault>
-    ensures { Tells result
+    ensures { TellsOfDual result
         (λ sums. AllBoundsFit rows.now.items × (sums ≡ start_sums rows.now.items objective.now))
         (FirstBounds rows.now.items) (λ _. ⊥) }
 {
@@ -53,7 +53,7 @@ fn constant_of(objective: &Objective) -> Ratio
 
 // Appends a row's bounds less its constants.
 fn push_start(alloc: Global, parts: &mut Vec<Ratio>, row: &Row) -> Result<(), NumberFault>
-    ensures { ExactWhere result (BoundsFit row.now)
+    ensures { ExactWhere result (RowBoundsFit row.now)
         (λ _. parts.new.items ≡ parts.old.items ++ row_start row.now) }
 {
     let bounds = bounds_on(alloc, &row.set, component_count(&row.func))?;
@@ -69,7 +69,7 @@ fn push_differences(
     first: &[Ratio],
     second: &[Ratio],
 ) -> Result<(), NumberFault>
-    ensures { ExactWhere result (DifferencesFit first.now second.now)
+    ensures { ExactWhere result (EachDifferenceFits first.now second.now)
         (λ _. parts.new.items ≡ parts.old.items ++ minus first.now second.now) }
 {
     let count = common_count(first, second);

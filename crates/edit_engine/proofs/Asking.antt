@@ -4,7 +4,7 @@ use Rattle.std.specs.Result.{result_unwrap_or}
 use Rattle.std.proofs.Common.{sym, ap, subst, inl, inr, ◌∙◌, true≢false}
 use Rattle.std.proofs.lemmas.Bool.{cases_Bool}
 use Rattle.lists.specs.declared.memory.Memory.{Memory as NoMemory}
-use Rattle.cache_layer.specs.State.{State}
+use Rattle.cache_layer.specs.CacheState.{CacheState}
 use Rattle.file_answers.specs.AskingLaws.{on_ok}
 use Rattle.edit_engine.specs.Lines.{asks_by, is_load, line_asks, load_asks, said_asks, says_load}
 use Rattle.edit_engine.specs.LinesLaws.{does_fit, fetches}
@@ -25,7 +25,7 @@ fault_of_result (Err memory) = false
 
 -- only a line that asks for a file is answered so
 pub asked_by : (m : Machine) (said : Result Command LineFault) (made : Result Answer NoMemory)
-    (new : State) → Makes (DoesSaid m said) m.state made new → made ≡ Ok ReadFault
+    (new : CacheState) → Makes (DoesSaid m said) m.state made new → made ≡ Ok ReadFault
     → is_load said ≡ true
 asked_by m said (Ok answer) new does fault =
     let is : answer ≡ ReadFault = ap (λ r. result_unwrap_or r Memory) fault in

@@ -3,10 +3,10 @@ use Rattle.std.specs.Prelude.{◌≡◌, ◌≢◌, ◌<◌, ◌^◌, ℕ, Bool,
 use Rattle.std.specs.Result.{result_unwrap_or}
 use Rattle.std.proofs.Common.{arith, sym, subst, true≢false, ◌∙◌}
 use Rattle.lists.specs.declared.memory.Memory.{Memory as NoMemory}
-use Rattle.cache_layer.specs.Answers.{Becomes, IsAttached, IsEdited, IsGrouped, as_edits}
+use Rattle.cache_layer.specs.Answers.{Becomes, IsAttached, IsEdited, IsGroupAnswer, as_edits}
 use Rattle.cache_layer.specs.FewCalls.{AttachesFew, EditsFew}
 use Rattle.cache_layer.specs.FewCallsLaws.{few_more, few_same}
-use Rattle.cache_layer.specs.State.{State, with_model}
+use Rattle.cache_layer.specs.CacheState.{CacheState, with_model}
 use Rattle.cache_layer.specs.declared.fault.AttachFault.{AttachFault}
 use Rattle.cache_layer.specs.declared.fault.AttachFault.TheVariants as attach
 use Rattle.cache_layer.specs.declared.fault.EditFault.{EditFault}
@@ -70,17 +70,17 @@ edit_takes (Err (edit.Unsupported kind)) old new fits few = few
 edit_takes (Err (edit.Overflow place)) old new fits few = few
 edit_takes (Err edit.Memory) old new fits few = tt
 
-edit_fits : (s t : State) (change : Edit) (made : Result (Option ℕ) EditFault)
+edit_fits : (s t : CacheState) (change : Edit) (made : Result (Option ℕ) EditFault)
     → IsEdited s change made t → (n : ℕ) → made ≡ Ok (Some n) → n < 2 ^ 64
 edit_fits s t change made is n same =
     let done = subst (λ r. IsEdited s change r t) same is in changes_fit _ _ n done.1.1
 
-table_fits : (s next t : State) (made : Result (Option ℕ) EditFault) → Becomes s next made t
+table_fits : (s next t : CacheState) (made : Result (Option ℕ) EditFault) → Becomes s next made t
     → (n : ℕ) → made ≡ Ok (Some n) → n < 2 ^ 64
 table_fits s next t made is n same =
     let done = subst (λ r. Becomes s next r t) same is in changes_fit s next n done.1
 
-pub edit_told : (s t : State) (change : Edit) (made : Result (Option ℕ) EditFault) (old new : Owned)
+pub edit_told : (s t : CacheState) (change : Edit) (made : Result (Option ℕ) EditFault) (old new : Owned)
     (result : Result Answer NoMemory) → IsEdited s change made t → EditsFew made old new
     → IfOk result (λ answer. answer ≡ edit_answer made)
     → IfOk result (λ answer. TakesFew answer old new)
@@ -88,7 +88,7 @@ edit_told s t change made old new result is few =
     few_said edit_answer made old new result
     (edit_takes made old new (edit_fits s t change made is) few)
 
-pub table_told : (s next t : State) (made : Result (Option ℕ) EditFault) (old new : Owned)
+pub table_told : (s next t : CacheState) (made : Result (Option ℕ) EditFault) (old new : Owned)
     (result : Result Answer NoMemory) → Becomes s next made t → EditsFew made old new
     → IfOk result (λ answer. answer ≡ edit_answer made)
     → IfOk result (λ answer. TakesFew answer old new)
@@ -110,14 +110,14 @@ group_takes (Err (group.Unsupported kind)) old new fits few = few
 group_takes (Err (group.Overflow place)) old new fits few = few
 group_takes (Err group.Memory) old new fits few = tt
 
-group_fits : (s t : State) (edits : List Edit) (made : Result (Option ℕ) GroupFault)
-    → IsGrouped s edits made t → (n : ℕ) → made ≡ Ok (Some n) → n < 2 ^ 64
+group_fits : (s t : CacheState) (edits : List Edit) (made : Result (Option ℕ) GroupFault)
+    → IsGroupAnswer s edits made t → (n : ℕ) → made ≡ Ok (Some n) → n < 2 ^ 64
 group_fits s t edits made is n same =
-    let done = subst (λ r. IsGrouped s edits r t) same is in
+    let done = subst (λ r. IsGroupAnswer s edits r t) same is in
     changes_fit s (with_model s done.0) n done.2.1
 
-pub group_told : (s t : State) (edits : List Edit) (made : Result (Option ℕ) GroupFault)
-    (old new : Owned) (result : Result Answer NoMemory) → IsGrouped s edits made t
+pub group_told : (s t : CacheState) (edits : List Edit) (made : Result (Option ℕ) GroupFault)
+    (old new : Owned) (result : Result Answer NoMemory) → IsGroupAnswer s edits made t
     → EditsFew (as_edits made) old new → IfOk result (λ answer. answer ≡ group_answer made)
     → IfOk result (λ answer. TakesFew answer old new)
 group_told s t edits made old new result is few =
@@ -125,12 +125,13 @@ group_told s t edits made old new result is few =
     (group_takes made old new (group_fits s t edits made is) few)
 
 -- where no solver is attached no number is answered
-none_there : (s next t : State) (count : Option ℕ) (old new : Owned) → Becomes s next (Ok count) t
+none_there : (s next t : CacheState) (count : Option ℕ) (old new : Owned)
+    → Becomes s next (Ok count) t
     → s.attached ≡ false → EditsFew (Ok count) old new → ChangesFew old 0 new
 none_there s next t None old new is off few = few
 none_there s next t (Some n) old new is off few = absurd (true≢false (sym is.0 ∙ off))
 
-pub preset_few : (s next t : State) (made : Result (Option ℕ) EditFault) (count : Option ℕ)
+pub preset_few : (s next t : CacheState) (made : Result (Option ℕ) EditFault) (count : Option ℕ)
     (old new : Owned) → made ≡ Ok count → Becomes s next made t → s.attached ≡ false
     → EditsFew made old new → ChangesFew old 0 new
 preset_few s next t made count old new same is off few =
@@ -139,7 +140,8 @@ preset_few s next t made count old new same is off few =
 
 -- ---- a solver is attached
 
-attach_takes : (s t : State) (made : Result ℕ AttachFault) (old new : Owned) → IsAttached s made t
+attach_takes : (s t : CacheState) (made : Result ℕ AttachFault) (old new : Owned)
+    → IsAttached s made t
     → AttachesFew made old new → TakesFew (attach_answer made) old new
 attach_takes s t (Ok n) old new is few =
     subst (λ k. ChangesFew old k new) (sym (count_done n (leaves_fit s n is.1))) few
@@ -148,7 +150,7 @@ attach_takes s t (Err (attach.Unsupported kind)) old new is few = few
 attach_takes s t (Err (attach.Overflow place)) old new is few = few
 attach_takes s t (Err attach.Memory) old new is few = tt
 
-pub attach_told : (s t : State) (made : Result ℕ AttachFault) (old new : Owned)
+pub attach_told : (s t : CacheState) (made : Result ℕ AttachFault) (old new : Owned)
     (result : Result Answer NoMemory) → IsAttached s made t → AttachesFew made old new
     → IfOk result (λ answer. answer ≡ attach_answer made)
     → IfOk result (λ answer. TakesFew answer old new)

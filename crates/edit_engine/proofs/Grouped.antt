@@ -3,7 +3,7 @@ use Rattle.std.specs.Prelude.{◌≡◌, ◌≢◌, ◌&&◌, ◌∷◌, ◌++�
 use Rattle.std.specs.Result.{result_unwrap_or}
 use Rattle.std.proofs.Common.{ap, sym, ◌∙◌, true≢false}
 use Rattle.lists.specs.declared.memory.Memory.{Memory as NoMemory}
-use Rattle.cache_layer.specs.State.{State}
+use Rattle.cache_layer.specs.CacheState.{CacheState}
 use Rattle.report_core.specs.declared.answer.Answer.{Answer}
 use Rattle.report_core.specs.declared.answer.Answer.TheVariants.{Memory, Printed, ReadFault, Refused}
 use Rattle.report_core.specs.declared.refused.Refused as reason
@@ -81,13 +81,13 @@ after_none : (said : Result Command LineFault) (answer : Answer) → group_by No
 after_none said (Printed text) is = sym is
 after_none said _ is = refl
 
-opens : (m : Machine) (command : Command) (answer : Answer) (new : State)
+opens : (m : Machine) (command : Command) (answer : Answer) (new : CacheState)
     → DoesAlone m command answer new
     → group_by None (Ok command) ≡ group_after None (Ok command) answer
 opens m line.Begin answer new does = ap (group_after None (Ok line.Begin)) (sym does.0)
 opens m command answer new does = after_none (Ok command) answer refl
 
-pub opened : (m : Machine) (command : Command) (r : Result Answer NoMemory) (old new : State)
+pub opened : (m : Machine) (command : Command) (r : Result Answer NoMemory) (old new : CacheState)
     (group : Option (List Edit)) → Makes (DoesAlone m command) old r new
     → group ≡ group_by None (Ok command)
     → IfOk r (λ answer. group ≡ group_after None (Ok command) answer)
@@ -96,7 +96,7 @@ opened m command (Err memory) old new group does is = tt
 
 -- ---- while one is open no file is asked for
 
-pub asks_open : (asked : Option (List (List ℕ))) (edits : List Edit) (s : State)
+pub asks_open : (asked : Option (List (List ℕ))) (edits : List Edit) (s : CacheState)
     (said : Result Command LineFault) → AsksFor asked asked (asks_by (Some edits) s said)
 asks_open asked edits s said = asks_none asked
 

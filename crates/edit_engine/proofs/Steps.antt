@@ -7,25 +7,25 @@ use Rattle.bridge_graph.specs.Hypergraph.{Hypergraph}
 use Rattle.bridge_graph.specs.Tree.{IsLeastCost, IsTreeless}
 use Rattle.bridge_graph.specs.declared.Choice.{Choice}
 use Rattle.bridged_report.specs.Lines.{bridged_text}
-use Rattle.cache_layer.specs.State.{Bridging, State, leaves}
+use Rattle.cache_layer.specs.CacheState.{Bridging, CacheState, leaves}
 use Rattle.fresh_bridging.specs.TheRules.{graph_of}
 use Rattle.report_core.specs.Plan.{plan_text}
 use Rattle.report_core.specs.declared.answer.Answer.{Answer}
 use Rattle.report_core.specs.declared.answer.Answer.TheVariants.{Memory, Printed, Quit, ReadFault, Refused, Silent, TooLong}
 use Rattle.script_core.specs.Line.{line_said}
-use Rattle.edit_engine.specs.Script.{Answered, DoesLine, IsCost, IsPlan, Machine, Makes, Plans, Shows, Steps, Tells, group_after, moved}
+use Rattle.edit_engine.specs.Script.{Answered, AnswersPlan, AreKindChoices, DoesLine, IsCost, Machine, Makes, ShowsLeaves, Steps, TellsCall, group_after, moved}
 
 -- what a call gave is reported
-pub told : {A : Type 0} (text : A → Answer) (gives : A → State → Type 0) (old new : State)
+pub told : {A : Type 0} (text : A → Answer) (gives : A → CacheState → Type 0) (old new : CacheState)
     (given : A) (result : Result Answer NoMemory) → gives given new
-    → IfOk result (λ answer. answer ≡ text given) → Makes (Tells text gives) old result new
+    → IfOk result (λ answer. answer ≡ text given) → Makes (TellsCall text gives) old result new
 told text gives old new given (Ok answer) h is = (given, h, is)
 told text gives old new given (Err memory) h is = inr (inr (text given, (given, h, refl)))
 
 -- what the solver holds is printed
-pub shows : (attached : Bool) (s : State) (result : Result Answer NoMemory) → attached ≡ true
+pub shows : (attached : Bool) (s : CacheState) (result : Result Answer NoMemory) → attached ≡ true
     → (b : Bridging s) → IfOk result (λ answer. answer ≡ Printed (bridged_text s.model (leaves b)))
-    → Makes (Shows attached s) s result s
+    → Makes (ShowsLeaves attached s) s result s
 shows true s (Ok answer) e b is = (b, (is, refl))
 shows true s (Err memory) e b is = inl refl
 shows false s result e b is = absurd (true≢false (sym e))
@@ -61,9 +61,10 @@ answered_or old new line made result is h kept group =
     by (Err memory) h group = (h, kept)
 
 -- the choices are printed
-pub plans : (s : State) (choices : List (Choice × Option ℕ)) (result : Result Answer NoMemory)
-    → IsPlan (graph_of s.setting) choices
-    → IfOk result (λ answer. answer ≡ Printed (plan_text choices)) → Makes (Plans s) s result s
+pub plans : (s : CacheState) (choices : List (Choice × Option ℕ)) (result : Result Answer NoMemory)
+    → AreKindChoices (graph_of s.setting) choices
+    → IfOk result (λ answer. answer ≡ Printed (plan_text choices))
+    → Makes (AnswersPlan s) s result s
 plans s choices (Ok answer) h is = (choices, h, (is, refl))
 plans s choices (Err memory) h is = inl refl
 

@@ -8,7 +8,7 @@ use Rattle.std.proofs.lemmas.Bool.{and_parts, cond-true}
 use Rattle.std.proofs.lemmas.Fmt.{decimal_is_IsNumeral}
 use Rattle.std.proofs.lemmas.List.Sums.{take_while-cons}
 use Rattle.std.proofs.lemmas.Str.Parse.{IsNumeralModel, numerals_by_value}
-use Rattle.cache_layer.specs.State.{Changes, HasLeaves, State}
+use Rattle.cache_layer.specs.CacheState.{CacheState, ChangesLeaves, HasLeaves}
 use Rattle.report_core.specs.Replies.{done_text}
 use Rattle.report_core.specs.Words.{newline}
 use Rattle.lazy_bridge.specs.Few.{ChangesFew}
@@ -38,10 +38,10 @@ count_done n fits =
     ∙ numeral.1
 
 -- the counts of changed addresses, and of leaves, are of 64 bits
-pub changes_fit : (old new : State) (n : ℕ) → Changes old new n → n < 2 ^ 64
+pub changes_fit : (old new : CacheState) (n : ℕ) → ChangesLeaves old new n → n < 2 ^ 64
 changes_fit old new n changes = omega (arith, changes.counts.2)
 
-pub leaves_fit : (s : State) (n : ℕ) → HasLeaves s n → n < 2 ^ 64
+pub leaves_fit : (s : CacheState) (n : ℕ) → HasLeaves s n → n < 2 ^ 64
 leaves_fit s n has = omega (arith, has.counts.2)
 
 -- ---- calls

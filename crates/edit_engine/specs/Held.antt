@@ -5,7 +5,7 @@ use Rattle.std.specs.Coded.{Coded, code_by, coded×, coded_list, coded_option, c
 use Rattle.cache_layer.specs.Cached.{Cached, cached_code}
 use Rattle.cache_layer.specs.Cached as cached
 use Rattle.cache_layer.specs.Answers.{IsUntouched}
-use Rattle.cache_layer.specs.State.{State, with_table}
+use Rattle.cache_layer.specs.CacheState.{CacheState, with_table}
 use Rattle.edit_engine.specs.Script.{Machine, machine_by}
 use Rattle.io_face.specs.Told.{Told}
 use Rattle.item_core.specs.declared.table.Table.{Table}
@@ -26,7 +26,7 @@ held_code =
     (λ s. (s.cache, (s.group, s.pivots)))
     (λ p. record { cache = p.0; group = p.1.0; pivots = p.1.1 }) (λ _. refl)
 
-abbrev pub state_of : SessionValue → State
+abbrev pub state_of : SessionValue → CacheState
 state_of session = cached.state_of session.cache
 
 -- the machine that lines step over, beside what the shelf tells

@@ -1,7 +1,7 @@
 -- Lines, one after another: which of them are heard, what they are answered, and the state that
 -- they leave.
 use Rattle.std.specs.Prelude.{ℕ, Bool, true, false, ◌||◌, List, [], ◌∷◌, ◌++◌, Option, None, Result, Ok, if◌then◌else◌}
-use Rattle.cache_layer.specs.State.{State}
+use Rattle.cache_layer.specs.CacheState.{CacheState}
 use Rattle.edit_engine.specs.Bare.{is_bare}
 use Rattle.edit_engine.specs.Script.{Machine, Steps}
 use Rattle.report_core.specs.declared.answer.Answer.{Answer}
@@ -35,7 +35,7 @@ load_asks false true name = name ∷ []
 load_asks attached bare name = []
 
 -- while a group of edits is open no file is asked for
-abbrev pub asks_by : Option (List Edit) → State → Result Command LineFault → List (List ℕ)
+abbrev pub asks_by : Option (List Edit) → CacheState → Result Command LineFault → List (List ℕ)
 asks_by None s (Ok (line.Load name)) = load_asks s.attached (is_bare s.model) name
 asks_by group s said = []
 

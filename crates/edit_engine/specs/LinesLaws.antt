@@ -3,7 +3,7 @@ use Rattle.std.specs.Prelude.{◌≡◌, ◌⊎◌, ℕ, Bool, true, false, ◌|
 use Rattle.std.specs.List.{list_any}
 use Rattle.std.proofs.Common.{inl, inr, sym, ap, ◌∙◌, subst, append_assoc, append-nil, true≢false}
 use Rattle.std.proofs.lemmas.Bool.{cond-false, cond-true}
-use Rattle.cache_layer.specs.State.{State}
+use Rattle.cache_layer.specs.CacheState.{CacheState}
 use Rattle.cache_layer.specs.declared.fault.AttachFault.{AttachFault}
 use Rattle.cache_layer.specs.declared.fault.AttachFault.TheVariants as attach
 use Rattle.cache_layer.specs.declared.fault.EditFault.{EditFault}
@@ -15,7 +15,7 @@ use Rattle.cache_layer.specs.declared.fault.OptFault.TheVariants as opt
 use Rattle.certificates.specs.declared.certificate.Certificate.{Certificate}
 use Rattle.edit_engine.specs.Bare.{is_bare}
 use Rattle.edit_engine.specs.Lines.{Answers, Prints, heard, is_quit, next, none, says_quit}
-use Rattle.edit_engine.specs.Script.{Detaches, Does, DoesAlone, DoesBy, DoesInGroup, DoesSaid, LoadsEdits, LoadsWhere, Machine, Shows, Steps, attach_answer, edit_answer, group_answer, load_answer, optimize_answer}
+use Rattle.edit_engine.specs.Script.{Detaches, Does, DoesAlone, DoesBy, DoesInGroup, DoesSaid, LoadsEdits, LoadsWhere, Machine, ShowsLeaves, Steps, attach_answer, edit_answer, group_answer, load_answer, optimize_answer}
 use Rattle.io_face.specs.Told.{MayGive}
 use Rattle.io_face.specs.declared.shelf.FetchFault.{FetchFault}
 use Rattle.io_face.specs.declared.shelf.FetchFault.TheVariants as fetch
@@ -110,7 +110,7 @@ fetches TooLong = true
 fetches answer = false
 
 -- a command while no group is open
-pub does_alone : (m : Machine) (command : Command) (new : State) (answer : Answer)
+pub does_alone : (m : Machine) (command : Command) (new : CacheState) (answer : Answer)
     → m.group ≡ None → Does m command answer new → DoesAlone m command answer new
 does_alone m command new answer shut does =
     subst (λ (open_group : Option (List Edit)). DoesBy open_group m command answer new) shut does
@@ -121,29 +121,29 @@ ends_or_fetches answer = (answers_quit answer, fetches answer)
 
 -- a line asked for a file and the shelf had this fault, which left the machine
 pub record IsStopped (m : Machine) (said : Result Command LineFault) (reason : FetchFault)
-    (new : State) : Type 0 where
+    (new : CacheState) : Type 0 where
   pub name : List ℕ
   pub said_so : said ≡ Ok (line.Load name)
   pub gave : MayGive m.shelf name (Err reason)
   pub kept : new ≡ m.state
 
 -- by the answer: the shelf's fault, where the answer is one
-abbrev pub StopsBy : Machine → Result Command LineFault → Answer → State → Type 0
+abbrev pub StopsBy : Machine → Result Command LineFault → Answer → CacheState → Type 0
 StopsBy m said ReadFault new = IsStopped m said fetch.Failed new
 StopsBy m said TooLong new = IsStopped m said fetch.TooLong new
 StopsBy m said answer new = Unit {0}
 
 -- whether the answer ends the run as the line says, and that none but a shelf's fault is a file's
-abbrev pub Fits : Machine → Result Command LineFault → Answer → State → Type 0
-Fits m said answer new = (answers_quit answer ≡ is_quit said) × StopsBy m said answer new
+abbrev pub EndsAsSaid : Machine → Result Command LineFault → Answer → CacheState → Type 0
+EndsAsSaid m said answer new = (answers_quit answer ≡ is_quit said) × StopsBy m said answer new
 
 -- the answer is no file's, or fits
-abbrev IsPlainly : Machine → Result Command LineFault → Answer → State → Type 0
+abbrev IsPlainly : Machine → Result Command LineFault → Answer → CacheState → Type 0
 IsPlainly m said answer new =
-    (ends_or_fetches answer ≡ (is_quit said, false)) ⊎ Fits m said answer new
+    (ends_or_fetches answer ≡ (is_quit said, false)) ⊎ EndsAsSaid m said answer new
 
-fits_plainly : (m : Machine) (said : Result Command LineFault) (answer : Answer) (new : State)
-    → ends_or_fetches answer ≡ (is_quit said, false) → Fits m said answer new
+fits_plainly : (m : Machine) (said : Result Command LineFault) (answer : Answer) (new : CacheState)
+    → ends_or_fetches answer ≡ (is_quit said, false) → EndsAsSaid m said answer new
 fits_plainly m said ReadFault new is = absurd (true≢false (ap (λ p. p.1) is))
 fits_plainly m said TooLong new is = absurd (true≢false (ap (λ p. p.1) is))
 fits_plainly m said _ new is = (ap (λ p. p.0) is, tt)
@@ -171,12 +171,14 @@ attach_plain (Ok count) = refl
 attach_plain (Err attach.Memory) = refl
 attach_plain (Err _) = refl
 
-detach_plain : (attached : Bool) (s new : State) (answer : Answer) → Detaches attached s answer new
+detach_plain : (attached : Bool) (s new : CacheState) (answer : Answer)
+    → Detaches attached s answer new
     → ends_or_fetches answer ≡ (false, false)
 detach_plain true s new answer does = ap ends_or_fetches does.0
 detach_plain false s new answer does = ap ends_or_fetches does.0
 
-show_plain : (attached : Bool) (s new : State) (answer : Answer) → Shows attached s answer new
+show_plain : (attached : Bool) (s new : CacheState) (answer : Answer)
+    → ShowsLeaves attached s answer new
     → ends_or_fetches answer ≡ (false, false)
 show_plain true s new answer does = ap ends_or_fetches does.1.0
 show_plain false s new answer does = ap ends_or_fetches does.0
@@ -189,7 +191,7 @@ optimize_plain model (Err _) = refl
 
 -- the shelf had this fault
 is_stopped : (m : Machine) (name : List ℕ) (read : Result (List Edit) FileFault)
-    (reason : FetchFault) (new : State) → shelf_fault read ≡ Some reason
+    (reason : FetchFault) (new : CacheState) → shelf_fault read ≡ Some reason
     → IsReadOf m.shelf name read → new ≡ m.state
     → IsStopped m (Ok (line.Load name)) reason new
 is_stopped m name read reason new is read_so kept = record {
@@ -200,7 +202,7 @@ is_stopped m name read reason new is read_so kept = record {
 }
 
 -- what was read of the file, or why there is none
-load_fits : (m : Machine) (name : List ℕ) (read : Result (List Edit) FileFault) (new : State)
+load_fits : (m : Machine) (name : List ℕ) (read : Result (List Edit) FileFault) (new : CacheState)
     (answer : Answer) → IsReadOf m.shelf name read → LoadsEdits m.state read answer new
     → IsPlainly m (Ok (line.Load name)) answer new
 load_fits m name (Ok edits) new answer read_so does =
@@ -210,13 +212,13 @@ load_fits m name (Err (file.Unread kind place)) new answer read_so does =
 load_fits m name (Err file.Memory) new answer read_so does =
     inl (ap ends_or_fetches does.0)
 load_fits m name (Err file.Failed) new answer read_so does =
-    inr (subst (λ (a : Answer). Fits m (Ok (line.Load name)) a new) (sym does.0)
+    inr (subst (λ (a : Answer). EndsAsSaid m (Ok (line.Load name)) a new) (sym does.0)
     (refl, is_stopped m name (Err file.Failed) fetch.Failed new refl read_so does.1))
 load_fits m name (Err file.TooLong) new answer read_so does =
-    inr (subst (λ (a : Answer). Fits m (Ok (line.Load name)) a new) (sym does.0)
+    inr (subst (λ (a : Answer). EndsAsSaid m (Ok (line.Load name)) a new) (sym does.0)
     (refl, is_stopped m name (Err file.TooLong) fetch.TooLong new refl read_so does.1))
 
-loads_fit : (m : Machine) (name : List ℕ) (attached bare : Bool) (new : State) (answer : Answer)
+loads_fit : (m : Machine) (name : List ℕ) (attached bare : Bool) (new : CacheState) (answer : Answer)
     → LoadsWhere attached bare m.shelf m.state name answer new
     → IsPlainly m (Ok (line.Load name)) answer new
 loads_fit m name true bare new answer does = inl (ap ends_or_fetches does.0)
@@ -224,7 +226,7 @@ loads_fit m name false false new answer does = inl (ap ends_or_fetches does.0)
 loads_fit m name false true new answer (read, read_so, does) =
     load_fits m name read new answer read_so does
 
-alone_what : (m : Machine) (command : Command) (new : State) (answer : Answer)
+alone_what : (m : Machine) (command : Command) (new : CacheState) (answer : Answer)
     → DoesAlone m command answer new → IsPlainly m (Ok command) answer new
 alone_what m line.Silent new answer does = inl (ap ends_or_fetches does.0)
 alone_what m line.Quit new answer does = inl (ap ends_or_fetches does.0)
@@ -254,7 +256,7 @@ alone_what m line.Write new answer does = inl (ap ends_or_fetches does.0)
 alone_what m (line.Load name) new answer does =
     loads_fit m name m.state.attached (is_bare m.state.model) new answer does
 
-group_what : (m : Machine) (edits : List Edit) (command : Command) (new : State)
+group_what : (m : Machine) (edits : List Edit) (command : Command) (new : CacheState)
     (answer : Answer) → DoesInGroup m.state edits command answer new
     → IsPlainly m (Ok command) answer new
 group_what m edits line.Commit new answer does =
@@ -262,7 +264,7 @@ group_what m edits line.Commit new answer does =
 group_what m edits line.Quit new answer does = inl (ap ends_or_fetches does.0)
 group_what m edits _ new answer does = inl (ap ends_or_fetches does.0)
 
-does_what : (m : Machine) (said : Result Command LineFault) (new : State) (answer : Answer)
+does_what : (m : Machine) (said : Result Command LineFault) (new : CacheState) (answer : Answer)
     → DoesSaid m said answer new → IsPlainly m said answer new
 does_what m (Ok command) new answer does = by m.group does
   where
@@ -274,11 +276,11 @@ does_what m (Err fault.BadLine) new answer does = inl (ap ends_or_fetches does.0
 does_what m (Err fault.Overflow) new answer does = inl (ap ends_or_fetches does.0)
 does_what m (Err fault.Memory) new answer does = inl (ap ends_or_fetches does.0)
 
-pub does_fit : (m : Machine) (said : Result Command LineFault) (new : State) (answer : Answer)
-    → DoesSaid m said answer new → Fits m said answer new
+pub does_fit : (m : Machine) (said : Result Command LineFault) (new : CacheState) (answer : Answer)
+    → DoesSaid m said answer new → EndsAsSaid m said answer new
 does_fit m said new answer does = by (does_what m said new answer does)
   where
-    by : IsPlainly m said answer new → Fits m said answer new
+    by : IsPlainly m said answer new → EndsAsSaid m said answer new
     by (inl is) = fits_plainly m said answer new is
     by (inr h) = h
 

@@ -18,9 +18,9 @@ use Rattle.bridge_graph.specs.Hypergraph.{Hypergraph}
 use Rattle.bridge_graph.specs.Tree.{IsLeastCost, IsTreeless}
 use Rattle.bridge_graph.specs.declared.Choice.{Choice}
 use Rattle.bridged_report.specs.Lines.{bridged_text}
-use Rattle.cache_layer.specs.Answers.{Becomes, IsAttached, IsEdited, IsGrouped, IsLoaded}
+use Rattle.cache_layer.specs.Answers.{Becomes, IsAttached, IsEdited, IsGroupAnswer, IsLoaded}
 use Rattle.cache_layer.specs.Outcome.{IsOptimized}
-use Rattle.cache_layer.specs.State.{Bridging, State, detached, leaves, with_table}
+use Rattle.cache_layer.specs.CacheState.{Bridging, CacheState, detached, leaves, with_table}
 use Rattle.cache_layer.specs.declared.fault.AttachFault.{AttachFault}
 use Rattle.cache_layer.specs.declared.fault.AttachFault.TheVariants as attach
 use Rattle.cache_layer.specs.declared.fault.EditFault.{EditFault}
@@ -62,17 +62,17 @@ use Rattle.edit_engine.specs.Bare.{is_bare}
 use Rattle.edit_engine.specs.Tables.{costing, supporting, switched, targeted}
 
 pub record Machine : Type 0 where
-  pub state : State
+  pub state : CacheState
   pub group : Option (List Edit)
   pub pivots : ℕ
   pub shelf : Told
 
-abbrev pub machine_by : State → Option (List Edit) → ℕ → Told → Machine
+abbrev pub machine_by : CacheState → Option (List Edit) → ℕ → Told → Machine
 machine_by s group pivots shelf =
     record { state = s; group = group; pivots = pivots; shelf = shelf }
 
 -- in another state, and with another group or none
-abbrev pub moved : Machine → State → Option (List Edit) → Machine
+abbrev pub moved : Machine → CacheState → Option (List Edit) → Machine
 moved machine s group = record machine { state = s; group = group }
 
 -- ---- what is printed
@@ -128,30 +128,30 @@ load_answer (Err edit.Memory) = Memory
 
 -- what may be answered in a state, and the state that is left
 abbrev pub Step : Type 1
-Step = Answer → State → Type 0
+Step = Answer → CacheState → Type 0
 
 -- what a call may give, as it is printed
-abbrev pub Tells : {A : Type 0} → (A → Answer) → (A → State → Type 0) → Step
-Tells {A} text gives answer new = (given : A) × gives given new × (answer ≡ text given)
+abbrev pub TellsCall : {A : Type 0} → (A → Answer) → (A → CacheState → Type 0) → Step
+TellsCall {A} text gives answer new = (given : A) × gives given new × (answer ≡ text given)
 
 -- nothing but the answer
-abbrev pub Says : State → Answer → Step
+abbrev pub Says : CacheState → Answer → Step
 Says s said answer new = (answer ≡ said) × (new ≡ s)
 
 -- the table is changed
-abbrev pub Tabled : State → (Table → Table) → Step
-Tabled s change = Tells edit_answer (Becomes s (with_table s (change s.setting.table)))
+abbrev pub Tabled : CacheState → (Table → Table) → Step
+Tabled s change = TellsCall edit_answer (Becomes s (with_table s (change s.setting.table)))
 
 -- the solver is detached, where one is attached
-abbrev pub Detaches : Bool → State → Step
+abbrev pub Detaches : Bool → CacheState → Step
 Detaches true s answer new = (answer ≡ done None) × (new ≡ detached s)
 Detaches false s answer new = Says s (refused NotAttached) answer new
 
 -- what the solver holds, where one is attached
-abbrev pub Shows : Bool → State → Step
-Shows true s answer new =
+abbrev pub ShowsLeaves : Bool → CacheState → Step
+ShowsLeaves true s answer new =
     (b : Bridging s) × Says s (Printed (bridged_text s.model (leaves b))) answer new
-Shows false s answer new = Says s (refused NotAttached) answer new
+ShowsLeaves false s answer new = Says s (refused NotAttached) answer new
 
 -- the least cost of the kind's trees, if it has any
 abbrev pub IsCost : Hypergraph → ℕ → Option ℕ → Type 0
@@ -164,19 +164,19 @@ IsChosen graph (kind, (choice, cost)) =
     IsChoice graph (kind_number kind) choice × IsCost graph (kind_number kind) cost
 
 -- so each kind
-pub record IsPlan (graph : Hypergraph) (choices : List (Choice × Option ℕ)) : Type 0 where
+pub record AreKindChoices (graph : Hypergraph) (choices : List (Choice × Option ℕ)) : Type 0 where
   pub count : length choices ≡ length KINDS.kinds
   pub each : All (IsChosen graph) (zip KINDS.kinds choices)
 
-abbrev pub Plans : State → Step
-Plans s answer new =
-    (choices : List (Choice × Option ℕ)) × IsPlan (graph_of s.setting) choices
+abbrev pub AnswersPlan : CacheState → Step
+AnswersPlan s answer new =
+    (choices : List (Choice × Option ℕ)) × AreKindChoices (graph_of s.setting) choices
     × Says s (Printed (plan_text choices)) answer new
 
 -- the first of the outcomes that holds; a certificate is good for the user's model
-abbrev pub Optimizes : State → ℕ → Step
+abbrev pub Optimizes : CacheState → ℕ → Step
 Optimizes s pivots =
-    Tells (optimize_answer s.model)
+    TellsCall (optimize_answer s.model)
     (λ given new. IsOptimized s pivots given × IfOk given (Good s.model) × (new ≡ s))
 
 -- the user's model as a file, in one line
@@ -184,25 +184,25 @@ abbrev pub file_line : ModelValue → List ℕ
 file_line model = written model ++ newline
 
 -- the edits of a file are made, or it is said why there are none
-abbrev pub LoadsEdits : State → Result (List Edit) FileFault → Step
-LoadsEdits s (Ok edits) = Tells load_answer (IsLoaded s edits)
+abbrev pub LoadsEdits : CacheState → Result (List Edit) FileFault → Step
+LoadsEdits s (Ok edits) = TellsCall load_answer (IsLoaded s edits)
 LoadsEdits s (Err fault) = Says s (fault_answer fault)
 
 -- a file is fetched only while no solver is attached and nothing stands in the model
-abbrev pub LoadsWhere : Bool → Bool → Told → State → List ℕ → Step
+abbrev pub LoadsWhere : Bool → Bool → Told → CacheState → List ℕ → Step
 LoadsWhere true bare shelf s name answer new = Says s (refused AlreadyAttached) answer new
 LoadsWhere false false shelf s name answer new = Says s (refused NotEmpty) answer new
 LoadsWhere false true shelf s name answer new =
     (read : Result (List Edit) FileFault) × IsReadOf shelf name read × LoadsEdits s read answer new
 
-abbrev pub Loads : Told → State → List ℕ → Step
+abbrev pub Loads : Told → CacheState → List ℕ → Step
 Loads shelf s = LoadsWhere s.attached (is_bare s.model) shelf s
 
 -- while no group is open
 abbrev pub DoesAlone : Machine → Command → Step
 DoesAlone m line.Silent = Says m.state Silent
 DoesAlone m line.Quit = Says m.state Quit
-DoesAlone m (line.Edit e) = Tells edit_answer (IsEdited m.state e)
+DoesAlone m (line.Edit e) = TellsCall edit_answer (IsEdited m.state e)
 DoesAlone m line.Begin = Says m.state (done None)
 DoesAlone m line.Commit = Says m.state (refused NoGroup)
 DoesAlone m line.Abandon = Says m.state (refused NoGroup)
@@ -210,20 +210,20 @@ DoesAlone m (line.Target target) = Tabled m.state (targeted target)
 DoesAlone m (line.Support kind value) = Tabled m.state (supporting kind value)
 DoesAlone m (line.Cost edge cost) = Tabled m.state (costing edge cost)
 DoesAlone m (line.Switch family value) = Tabled m.state (switched family value)
-DoesAlone m line.Attach = Tells attach_answer (IsAttached m.state)
+DoesAlone m line.Attach = TellsCall attach_answer (IsAttached m.state)
 DoesAlone m line.Detach = Detaches m.state.attached m.state
-DoesAlone m line.Bridged = Shows m.state.attached m.state
-DoesAlone m line.Plan = Plans m.state
+DoesAlone m line.Bridged = ShowsLeaves m.state.attached m.state
+DoesAlone m line.Plan = AnswersPlan m.state
 DoesAlone m (line.Optimize own) = Optimizes m.state (unwrap_or own m.pivots)
 DoesAlone m line.Write = Says m.state (Printed (file_line m.state.model))
 DoesAlone m (line.Load name) = Loads m.shelf m.state name
 
 -- while a group of these edits is open: they are made at once or not at all
-abbrev pub DoesInGroup : State → List Edit → Command → Step
+abbrev pub DoesInGroup : CacheState → List Edit → Command → Step
 DoesInGroup s edits line.Silent = Says s Silent
 DoesInGroup s edits line.Quit = Says s Quit
 DoesInGroup s edits (line.Edit e) = Says s held
-DoesInGroup s edits line.Commit = Tells group_answer (IsGrouped s edits)
+DoesInGroup s edits line.Commit = TellsCall group_answer (IsGroupAnswer s edits)
 DoesInGroup s edits line.Abandon = Says s (done None)
 DoesInGroup s edits _ = Says s (refused GroupOpen)
 
@@ -278,11 +278,11 @@ Steps old line answer new = DoesLine old line answer new.state
 -- ---- out of memory
 
 -- the state is the one before, that one without its solver, or one that the step leaves
-abbrev pub IsLeftBy : Step → State → State → Type 0
+abbrev pub IsLeftBy : Step → CacheState → CacheState → Type 0
 IsLeftBy step old new = (new ≡ old) ⊎ (new ≡ detached old) ⊎ ((answer : Answer) × step answer new)
 
 -- a step is made, or memory runs out on the way
-abbrev pub Makes : Step → State → Result Answer NoMemory → State → Type 0
+abbrev pub Makes : Step → CacheState → Result Answer NoMemory → CacheState → Type 0
 Makes step old (Ok answer) new = step answer new
 Makes step old (Err memory) new = IsLeftBy step old new
 

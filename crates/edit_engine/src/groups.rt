@@ -1,11 +1,11 @@
 //! What lines do by whether a group of edits is open.
 ghost use Rattle.std.specs.Prelude.{◌≡◌, ◌≢◌, ◌≤◌, ◌&&◌, ◌∷◌, ◌++◌, [], IfOk, None, Ok, OnOk, false, true};
-ghost use Rattle.cache_layer.specs.Answers.{IsGrouped};
+ghost use Rattle.cache_layer.specs.Answers.{IsGroupAnswer};
 ghost use Rattle.cache_layer.specs.Cached.{state_of};
 ghost use Rattle.edit_engine.specs.Counts.{TakesFew};
 ghost use Rattle.edit_engine.specs.Held.{KeepsRefused};
 ghost use Rattle.edit_engine.specs.Lines.{asks_by, is_load};
-ghost use Rattle.edit_engine.specs.Script.{DoesBy, DoesInGroup, Makes, Tells, edits_after, group_after, group_answer, group_by, held as is_held, is_end, is_printed, machine_by};
+ghost use Rattle.edit_engine.specs.Script.{DoesBy, DoesInGroup, Makes, TellsCall, edits_after, group_after, group_answer, group_by, held as is_held, is_end, is_printed, machine_by};
 ghost use Rattle.io_face.specs.Fault.{HasFaulted};
 ghost use Rattle.io_face.specs.Shelf.{AsksFor};
 ghost use Rattle.io_face.specs.Told.{told_by};
@@ -138,7 +138,7 @@ fn hold(alloc: Global, edits: &mut Edits, edit: Edit) -> Result<Answer, Memory>
 // Makes the edits of a group, all or none.
 fn commit<B: Bridge>(alloc: Global, cache: &mut Cache<B>, edits: &Edits) -> Result<Answer, Memory>
     ensures step { let old = state_of cache.old in
-        Makes (Tells group_answer (IsGrouped old edits.now)) old result (state_of cache.new) }
+        Makes (TellsCall group_answer (IsGroupAnswer old edits.now)) old result (state_of cache.new) }
     ensures untouched { IfOk result (λ answer. KeepsRefused answer cache.old cache.new) }
     ensures few { IfOk result (λ answer. TakesFew answer cache.old.lazy cache.new.lazy) }
 {

@@ -4,13 +4,13 @@ ghost use Rattle.std.specs.List.{list_all};
 ghost use Rattle.bridge_graph.specs.Hypergraph.{is_edge_cost};
 ghost use Rattle.cache_layer.specs.Answers.{Becomes, IsAttached, IsEdited};
 ghost use Rattle.cache_layer.specs.Cached.{state_of};
-ghost use Rattle.cache_layer.specs.State.{with_table};
+ghost use Rattle.cache_layer.specs.CacheState.{with_table};
 ghost use Rattle.lazy_bridge.specs.Few.{ChangesFew};
 ghost use Rattle.lazy_bridge.specs.Native.{supports_native};
 ghost use Rattle.edit_engine.specs.Counts.{TakesFew};
 ghost use Rattle.edit_engine.specs.Held.{KeepsRefused};
 ghost use Rattle.edit_engine.specs.Lines.{asks_by, is_load, line_asks, says_load};
-ghost use Rattle.edit_engine.specs.Script.{Detaches, DoesAlone, DoesLine, Makes, Plans, Says, Shows, Tells, attach_answer, edit_answer, file_line, group_after, machine_by};
+ghost use Rattle.edit_engine.specs.Script.{AnswersPlan, Detaches, DoesAlone, DoesLine, Makes, Says, ShowsLeaves, TellsCall, attach_answer, edit_answer, file_line, group_after, machine_by};
 ghost use Rattle.file_answers.specs.FileAnswers.{refused};
 ghost use Rattle.io_face.specs.Fault.{HasFaulted};
 ghost use Rattle.io_face.specs.Shelf.{AsksFor};
@@ -145,7 +145,7 @@ pub(crate) fn refuse(alloc: Global, fault: &Refused) -> Result<Answer, Memory>
 // Makes an edit.
 fn make<B: Bridge>(alloc: Global, cache: &mut Cache<B>, edit: Edit) -> Result<Answer, Memory>
     ensures step { let old = state_of cache.old in
-        Makes (Tells edit_answer (IsEdited old edit)) old result (state_of cache.new) }
+        Makes (TellsCall edit_answer (IsEdited old edit)) old result (state_of cache.new) }
     ensures untouched { IfOk result (λ answer.
         KeepsRefused answer cache.old cache.new) }
     ensures few { IfOk result (λ answer.
@@ -160,7 +160,7 @@ fn set_table<B: Bridge>(alloc: Global, cache: &mut Cache<B>, table: Table) -> Re
     requires costs { IsTrue (list_all is_edge_cost table.cost) }
     requires native { IsTrue (supports_native table) }
     ensures step { let old = state_of cache.old in
-        Makes (Tells edit_answer (Becomes old (with_table old table))) old result
+        Makes (TellsCall edit_answer (Becomes old (with_table old table))) old result
         (state_of cache.new) }
     ensures untouched { IfOk result (λ answer.
         KeepsRefused answer cache.old cache.new) }
@@ -186,7 +186,7 @@ fn tell(alloc: Global, made: Result<Option<u64>, EditFault>) -> Result<Answer, M
 
 fn attach<B: Bridge>(alloc: Global, cache: &mut Cache<B>) -> Result<Answer, Memory>
     ensures step { let old = state_of cache.old in
-        Makes (Tells attach_answer (IsAttached old)) old result (state_of cache.new) }
+        Makes (TellsCall attach_answer (IsAttached old)) old result (state_of cache.new) }
     ensures untouched { IfOk result (λ answer.
         KeepsRefused answer cache.old cache.new) }
     ensures few { IfOk result (λ answer.
@@ -226,7 +226,7 @@ fn detach<B: Bridge>(alloc: Global, cache: &mut Cache<B>) -> Result<Answer, Memo
 // What an attached solver holds.
 fn bridged<B: Bridge>(alloc: Global, cache: &Cache<B>) -> Result<Answer, Memory>
     ensures { let state = state_of cache.now in
-        Makes (Shows state.attached state) state result state }
+        Makes (ShowsLeaves state.attached state) state result state }
 {
     if !cache.attached() {
         return refuse(alloc, &Refused::NotAttached);
@@ -237,7 +237,7 @@ fn bridged<B: Bridge>(alloc: Global, cache: &Cache<B>) -> Result<Answer, Memory>
 
 // How each kind is bridged.
 fn show_plan<B: Bridge>(alloc: Global, cache: &Cache<B>) -> Result<Answer, Memory>
-    ensures { let state = state_of cache.now in Makes (Plans state) state result state }
+    ensures { let state = state_of cache.now in Makes (AnswersPlan state) state result state }
 {
     let choices = choices_of(cache.lazy());
     let text = plan(alloc, &choices)?;

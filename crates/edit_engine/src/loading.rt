@@ -5,7 +5,7 @@ ghost use Rattle.cache_layer.specs.Cached.{state_of};
 ghost use Rattle.edit_engine.specs.Bare as bare;
 ghost use Rattle.edit_engine.specs.Counts.{TakesFew};
 ghost use Rattle.edit_engine.specs.Held.{KeepsRefused};
-ghost use Rattle.edit_engine.specs.Script.{Loads, Makes, Tells, load_answer};
+ghost use Rattle.edit_engine.specs.Script.{Loads, Makes, TellsCall, load_answer};
 ghost use Rattle.edit_engine.specs.Lines.{load_asks};
 ghost use Rattle.io_face.specs.Fault.{HasFaulted};
 ghost use Rattle.io_face.specs.Shelf.{AsksFor};
@@ -77,7 +77,7 @@ fn is_feasibility(objective: &Objective) -> bool
 fn make_all<B: Bridge>(alloc: Global, cache: &mut Cache<B>, edits: Edits) -> Result<Answer, Memory>
     requires detached { cache.old.attached ≡ false }
     ensures step { let old = state_of cache.old in
-        Makes (Tells load_answer (IsLoaded old edits)) old result (state_of cache.new) }
+        Makes (TellsCall load_answer (IsLoaded old edits)) old result (state_of cache.new) }
     ensures untouched { IfOk result (λ answer. KeepsRefused answer cache.old cache.new) }
     ensures few { IfOk result (λ answer. TakesFew answer cache.old.lazy cache.new.lazy) }
 {

@@ -3,7 +3,7 @@ ghost use Rattle.std.specs.Prelude.{◌≡◌, All, length};
 ghost use Rattle.std.specs.List.{zip};
 ghost use Rattle.fresh_bridging.specs.TheRules.{graph_of};
 ghost use Rattle.lazy_bridge.specs.Owned.{setting_in};
-ghost use Rattle.edit_engine.specs.Script.{IsChosen, IsPlan};
+ghost use Rattle.edit_engine.specs.Script.{AreKindChoices, IsChosen};
 
 use bridge_face::Bridge;
 use bridge_graph::Choice;
@@ -12,7 +12,7 @@ use lazy_bridge::Lazy;
 
 // Each kind's choice and what that costs.
 pub(crate) fn choices_of<B: Bridge>(lazy: &Lazy<B>) -> [(Choice, Option<u128>); KIND_COUNT]
-    ensures { IsPlan (graph_of (setting_in lazy.now)) result }
+    ensures { AreKindChoices (graph_of (setting_in lazy.now)) result }
 {
     let mut choices = [(Choice::Missing, None); KIND_COUNT];
     write_choices(lazy, &KINDS.kinds, &mut choices);

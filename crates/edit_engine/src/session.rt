@@ -3,8 +3,8 @@ ghost use Rattle.std.specs.Prelude.{◌≡◌, ◌≢◌, ◌≤◌, All, IsTrue
 ghost use Rattle.std.specs.Prelude as prelude;
 ghost use Rattle.std.specs.FinMap as finite;
 ghost use Rattle.bridge_set.specs.Bridges.{families_of, occur_once, setting_by};
-ghost use Rattle.cache_layer.specs.Cached.{Stands, model_in};
-ghost use Rattle.cache_layer.specs.State.{start, with_table};
+ghost use Rattle.cache_layer.specs.Cached.{StandsAttached, model_in};
+ghost use Rattle.cache_layer.specs.CacheState.{start, with_table};
 ghost use Rattle.item_core.specs.Table.{target_table};
 ghost use Rattle.item_core.specs.declared.table.Target.TheVariants.{Standard};
 ghost use Rattle.lazy_bridge.specs.Few.{ChangesFew};
@@ -105,7 +105,7 @@ impl<B: Bridge> Session<B> {
         ensures few { TakesFew result self.old.cache.lazy self.new.cache.lazy }
         // While a solver is attached, the fresh bridging of the model stands.
         ensures stands { let cache = self.new.cache in
-            Stands cache.attached cache.lazy (model_in cache) }
+            StandsAttached cache.attached cache.lazy (model_in cache) }
         ensures pivots { self.new.pivots ≡ self.old.pivots }
 
         // What the shelf tells stays.

@@ -23,10 +23,10 @@ use Rattle.equality_form.specs.SlackLaws.{MayAdd}
 -- ---- values
 
 -- the value of a component may be this, where its number is that
-abbrev pub Meets : Option Bool → Rational → Rational → Type 0
-Meets None number v = v ≡ number
-Meets (Some false) number v = v ≤ℚ number
-Meets (Some true) number v = number ≤ℚ v
+abbrev pub MeetsBound : Option Bool → Rational → Rational → Type 0
+MeetsBound None number v = v ≡ number
+MeetsBound (Some false) number v = v ≤ℚ number
+MeetsBound (Some true) number v = number ≤ℚ v
 
 moved : (one number constant slope s : Rational) → slope +ℚ s ≡ one *ℚ (number -ℚ constant)
     → one *ℚ constant +ℚ slope ≡ one *ℚ number -ℚ s
@@ -42,7 +42,7 @@ moved one number constant slope s e =
         → one *ℚ constant +ℚ (one *ℚ (number -ℚ constant) -ℚ s) ≡ one *ℚ number -ℚ s
     joined = ring₅ _ (λ ρ. simp as_expression (by_ring ρ _ _ refl))
 
-meets_by : (o : Option Bool) (number s : Rational) → MayAdd o s → Meets o number (number -ℚ s)
+meets_by : (o : Option Bool) (number s : Rational) → MayAdd o s → MeetsBound o number (number -ℚ s)
 meets_by None number s h = ap (λ q. number -ℚ q) h ∙ ap (λ q. number +ℚ q) neg_ℚ-zero
     ∙ +ℚ-zero number
 meets_by (Some false) number s h = less number s h
@@ -59,28 +59,29 @@ meets_by (Some true) number s h = more number s h
 -- what a slack adds brings the value of the component to its number: at a point `one` is 1, and
 -- along a ray it is 0
 pub meets : (o : Option Bool) (one number constant slope s : Rational) → MayAdd o s
-    → slope +ℚ s ≡ one *ℚ (number -ℚ constant) → Meets o (one *ℚ number) (one *ℚ constant +ℚ slope)
+    → slope +ℚ s ≡ one *ℚ (number -ℚ constant)
+    → MeetsBound o (one *ℚ number) (one *ℚ constant +ℚ slope)
 meets o one number constant slope s h e =
-    subst (Meets o (one *ℚ number)) (sym (moved one number constant slope s e))
+    subst (MeetsBound o (one *ℚ number)) (sym (moved one number constant slope s e))
     (meets_by o (one *ℚ number) s h)
 
 -- ---- rows
 
 -- the values of the components of a row are in its set
 pub in_set : (one : Rational) (set : Set) (vs : List Rational) → HasEquations set
-    → dimension_of set ≡ length vs → All (Meets (slack_of set) (one *ℚ number_of set)) vs
+    → dimension_of set ≡ length vs → All (MeetsBound (slack_of set) (one *ℚ number_of set)) vs
     → In (multiplied one set) vs
 in_set one (LessThan u) [] h n k = absurd (omega (arith, n))
-in_set one (LessThan u) (v ∷ vs) h n k = All-head (Meets (Some false) (one *ℚ u)) v vs k
+in_set one (LessThan u) (v ∷ vs) h n k = All-head (MeetsBound (Some false) (one *ℚ u)) v vs k
 in_set one (GreaterThan l) [] h n k = absurd (omega (arith, n))
-in_set one (GreaterThan l) (v ∷ vs) h n k = All-head (Meets (Some true) (one *ℚ l)) v vs k
+in_set one (GreaterThan l) (v ∷ vs) h n k = All-head (MeetsBound (Some true) (one *ℚ l)) v vs k
 in_set one (EqualTo a) [] h n k = absurd (omega (arith, n))
-in_set one (EqualTo a) (v ∷ vs) h n k = All-head (Meets None (one *ℚ a)) v vs k
+in_set one (EqualTo a) (v ∷ vs) h n k = All-head (MeetsBound None (one *ℚ a)) v vs k
 in_set one (Zeros n) vs h e k =
-    All-weaker (Meets None (one *ℚ zero_ℚ)) (λ q. q ≡ zero_ℚ) (λ q p. p ∙ *ℚ-zero one) vs k
-in_set one (Nonnegatives n) vs h e k = All-weaker (Meets (Some true) (one *ℚ zero_ℚ))
+    All-weaker (MeetsBound None (one *ℚ zero_ℚ)) (λ q. q ≡ zero_ℚ) (λ q p. p ∙ *ℚ-zero one) vs k
+in_set one (Nonnegatives n) vs h e k = All-weaker (MeetsBound (Some true) (one *ℚ zero_ℚ))
     (λ q. zero_ℚ ≤ℚ q) (λ q p. subst (λ z. z ≤ℚ q) (*ℚ-zero one) p) vs k
-in_set one (Nonpositives n) vs h e k = All-weaker (Meets (Some false) (one *ℚ zero_ℚ))
+in_set one (Nonpositives n) vs h e k = All-weaker (MeetsBound (Some false) (one *ℚ zero_ℚ))
     (λ q. q ≤ℚ zero_ℚ) (λ q p. subst (λ z. q ≤ℚ z) (*ℚ-zero one) p) vs k
 in_set one _ vs h e k = absurd h
 

@@ -11,7 +11,7 @@ use Rattle.rational_laws.specs.Linear.{as_scaled, linear₁, linear₂, scaled_z
 use Rattle.rational_laws.specs.Order.{nonneg_from_≤ℚ}
 use Rattle.aff_core.specs.Address.{Address}
 use Rattle.aff_core.specs.Function.{Function, coefficient}
-use Rattle.dual_laws.specs.Held.{DualRow, adjoint, gap}
+use Rattle.dual_laws.specs.Held.{DualRow, HasDuals, adjoint, gap}
 use Rattle.item_core.specs.declared.item.Body.{Body}
 use Rattle.item_core.specs.Item.{functions_of, set_of}
 use Rattle.set_core.specs.declared.set.Set.{Set}
@@ -23,7 +23,7 @@ use Rattle.equality_form.specs.ComponentLaws.{MayWeigh, gap_by_components, in_du
 use Rattle.equality_form.specs.Equations.{Equation, equations_among, flipped, right_of, slack_of}
 use Rattle.equality_form.specs.Native.{IsNativeRow}
 use Rattle.equality_form.specs.ReadBack.{by_rows}
-use Rattle.equality_form.specs.Right.{HasDuals, MayCost, held}
+use Rattle.equality_form.specs.Right.{MayCost, held}
 
 -- ---- slacks
 

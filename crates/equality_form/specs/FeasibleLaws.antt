@@ -26,14 +26,14 @@ use Rattle.solver_store.specs.declared.leaf.LeafVar.{LeafVar}
 use Rattle.tableau_core.specs.Row.{cell}
 use Rattle.equality_form.specs.CellLaws.{dot_of_maps, flipped-flipped}
 use Rattle.equality_form.specs.Columns.{parts, slacks}
-use Rattle.equality_form.specs.ComponentLaws.{Meets, in_set, meets}
+use Rattle.equality_form.specs.ComponentLaws.{MeetsBound, in_set, meets}
 use Rattle.equality_form.specs.EqualityForm.{column_count, form_of_leaves, numbers_at, unit_at}
 use Rattle.equality_form.specs.Equations.{Equation, equations, equations_among, equations_of, flipped, is_flipped, number_of, right_of, slack_of}
 use Rattle.equality_form.specs.KeyLaws.{key_once, keys_distinct, listed}
 use Rattle.equality_form.specs.Native.{IsNativeModel, IsNativeRow, NamesVariables}
 use Rattle.equality_form.specs.PointLaws.{admitted, length-values_in, parts_dot}
 use Rattle.equality_form.specs.ReadBack.{point_in, values_in}
-use Rattle.equality_form.specs.Right.{IsFeasible}
+use Rattle.equality_form.specs.Right.{IsLeafFeasible}
 use Rattle.equality_form.specs.RowLaws.{from_none, left_of_row}
 use Rattle.equality_form.specs.SlackLaws.{IsNonneg, MayAdd, slack_adds}
 
@@ -111,7 +111,7 @@ module _ (leaves : LeafModel) where
     enough = omega (arith, long)
 
     abbrev HoldsAt : Equation → Type 0
-    HoldsAt e = Meets (slack_of e.set) (one *ℚ number_of e.set)
+    HoldsAt e = MeetsBound (slack_of e.set) (one *ℚ number_of e.set)
         (evaluated one e.function (point_in leaves x))
 
     unflip : (b : Bool) (p q : Rational) → flipped b p ≡ flipped b q → p ≡ q
@@ -185,13 +185,13 @@ module _ (leaves : LeafModel) where
         (in_set one (set_of row.1) (evaluations one (functions_of row.1) (point_in leaves x))
         is_native.set (is_native.dimension
         ∙ sym (length-map (functions_of row.1) (λ f. evaluated one f (point_in leaves x))))
-        (All-map (Meets (slack_of (set_of row.1)) (one *ℚ number_of (set_of row.1)))
+        (All-map (MeetsBound (slack_of (set_of row.1)) (one *ℚ number_of (set_of row.1)))
         (λ f. evaluated one f (point_in leaves x)) (functions_of row.1)
         (All-head (EachComponent HoldsAt) row rows h)))
         (rows_hold rows (All-tail (λ row. IsNativeRow row.1) row rows n)
         (All-tail (EachComponent HoldsAt) row rows h))
 
-    pub is_feasible : IsFeasible leaves one (point_in leaves x)
+    pub is_feasible : IsLeafFeasible leaves one (point_in leaves x)
     is_feasible = record {
       variables = admitted (finite.entries leaves.variables) (point_in leaves x) x (values_at x)
           enough nonneg;

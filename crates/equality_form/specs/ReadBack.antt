@@ -15,10 +15,10 @@ use Rattle.equality_form.specs.Columns.{signs}
 use Rattle.equality_form.specs.Equations.{equations, flipped, is_flipped}
 
 -- a number for each variable, and a list of duals for each row
-pub data Answer : Type 0 where
-  optimal : (Address → Rational) → (Address → List Rational) → Answer
-  infeasible : (Address → List Rational) → Answer
-  unbounded : (Address → Rational) → (Address → Rational) → Answer
+pub data AnswerByAddress : Type 0 where
+  optimal : (Address → Rational) → (Address → List Rational) → AnswerByAddress
+  infeasible : (Address → List Rational) → AnswerByAddress
+  unbounded : (Address → Rational) → (Address → Rational) → AnswerByAddress
 
 -- what is listed for an address, one after the other, and `none` for each other address
 abbrev pub listed_at : {X : Type 0} → X → List Address → List X → Address → X
@@ -34,9 +34,9 @@ abbrev pub value_in : LeafVar → List Rational → Rational
 value_in Free x = cell x 0 -ℚ cell x 1
 value_in Nonneg x = cell x 0
 
-abbrev pub ValueFits : LeafVar → List Rational → Type 0
-ValueFits Free x = SumFits (cell x 0) (neg_ℚ (cell x 1))
-ValueFits Nonneg x = Unit {0}
+abbrev pub LeafValueFits : LeafVar → List Rational → Type 0
+LeafValueFits Free x = SumFits (cell x 0) (neg_ℚ (cell x 1))
+LeafValueFits Nonneg x = Unit {0}
 
 -- the numbers of the other columns
 abbrev pub after : LeafVar → List Rational → List Rational
@@ -49,7 +49,7 @@ module _ {K : Type 0} where
 
   abbrev pub ValuesFit : List (K × LeafVar) → List Rational → Type 0
   ValuesFit [] x = Unit {0}
-  ValuesFit (var ∷ vars) x = ValueFits var.1 x × ValuesFit vars (after var.1 x)
+  ValuesFit (var ∷ vars) x = LeafValueFits var.1 x × ValuesFit vars (after var.1 x)
 
 -- ---- duals
 
@@ -80,16 +80,16 @@ module _ (leaves : LeafModel) where
       listed_at [] (finite.keys leaves.rows)
       (by_rows (finite.entries leaves.rows) (unflipped (map is_flipped (equations leaves)) y))
 
-  abbrev pub PointFits : List Rational → Type 0
-  PointFits x = ValuesFit (finite.entries leaves.variables) x
+  abbrev pub LeafPointFits : List Rational → Type 0
+  LeafPointFits x = ValuesFit (finite.entries leaves.variables) x
 
-  abbrev pub read_back : SolverAnswer → Answer
+  abbrev pub read_back : SolverAnswer → AnswerByAddress
   read_back (solver.Optimal x y basis) = optimal (point_in x) (duals_in y)
   read_back (solver.Infeasible y basis) = infeasible (duals_in y)
   read_back (solver.Unbounded x d basis) = unbounded (point_in x) (point_in d)
 
   -- each difference of a free variable's columns fits
   abbrev pub AnswerFits : SolverAnswer → Type 0
-  AnswerFits (solver.Optimal x y basis) = PointFits x
+  AnswerFits (solver.Optimal x y basis) = LeafPointFits x
   AnswerFits (solver.Infeasible y basis) = Unit {0}
-  AnswerFits (solver.Unbounded x d basis) = PointFits x × PointFits d
+  AnswerFits (solver.Unbounded x d basis) = LeafPointFits x × LeafPointFits d

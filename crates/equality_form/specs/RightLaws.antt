@@ -12,7 +12,7 @@ use Rattle.rational_laws.specs.Field.{+ℚ-zero, one-*ℚ, zero-*ℚ}
 use Rattle.rational_laws.specs.Sums.{sum_by_ℚ}
 use Rattle.aff_core.specs.Address.{Address}
 use Rattle.aff_core.specs.Function.{coefficient, slope, value_of}
-use Rattle.dual_laws.specs.Held.{adjoint, gap}
+use Rattle.dual_laws.specs.Held.{HasDuals, adjoint, gap}
 use Rattle.leaf_model.specs.LeafModel.{LeafModel}
 use Rattle.simplex_core.specs.Answer.{IsRightAnswer}
 use Rattle.simplex_core.specs.declared.answer.SolverAnswer.{SolverAnswer}
@@ -33,7 +33,7 @@ use Rattle.equality_form.specs.FeasibleLaws.{columns_dot, is_feasible}
 use Rattle.equality_form.specs.KeyLaws.{keys_distinct, listed}
 use Rattle.equality_form.specs.Native.{IsNativeModel}
 use Rattle.equality_form.specs.ReadBack.{by_rows, duals_in, point_in, read_back, unflipped}
-use Rattle.equality_form.specs.Right.{AreDuals, HasDuals, IsRight, MayCost, held_rows}
+use Rattle.equality_form.specs.Right.{AreLeafDuals, IsRight, MayCost, held_rows}
 use Rattle.equality_form.specs.Right as right
 use Rattle.equality_form.specs.RowLaws.{from_none, right_at}
 use Rattle.equality_form.specs.ShapeLaws.{length-costs_at}
@@ -58,8 +58,9 @@ module _ (leaves : LeafModel) (native : IsNativeModel leaves) where
           → slice_index_or x j d ≡ cell x j
       any_default x j d b = get_or_default x j d zero_ℚ b
 
-  feasible_point : (x : List Rational) → length x ≡ column_count leaves → form.IsFeasible F (cell x)
-      → right.IsFeasible leaves one_ℚ (point_in leaves x)
+  feasible_point : (x : List Rational) → length x ≡ column_count leaves
+      → form.IsFormFeasible F (cell x)
+      → right.IsLeafFeasible leaves one_ℚ (point_in leaves x)
   feasible_point x n f =
       is_feasible leaves native one_ℚ x n (nonneg_list x n f.nonneg)
       (λ i d h. f.meets i h ∙ right_at es i d h
@@ -69,7 +70,7 @@ module _ (leaves : LeafModel) (native : IsNativeModel leaves) where
   feasible_ray : (x : List Rational) → length x ≡ column_count leaves
       → ((j : ℕ) → j < column_count leaves → zero_ℚ ≤ℚ cell x j)
       → ((i : ℕ) → i < length es → left_side F (cell x) i ≡ zero_ℚ)
-      → right.IsFeasible leaves zero_ℚ (point_in leaves x)
+      → right.IsLeafFeasible leaves zero_ℚ (point_in leaves x)
   feasible_ray x n h k =
       is_feasible leaves native zero_ℚ x n (nonneg_list x n h)
       (λ i d b. k i b ∙ sym (flipped-zero (is_flipped (slice_index_or es i d)))
@@ -164,7 +165,7 @@ module _ (leaves : LeafModel) (native : IsNativeModel leaves) where
         (length-by_rows (finite.entries leaves.rows) (unflipped (map is_flipped es) y)
         ∙ sym (length-map (finite.entries leaves.rows) (λ row. row.0))))
 
-    are_duals : AreDuals leaves c (duals_in leaves y)
+    are_duals : AreLeafDuals leaves c (duals_in leaves y)
     unfolding a
     are_duals = record {
       duals = subst (All HasDuals) (sym held_are) (have_duals (finite.entries leaves.rows) w
@@ -210,8 +211,8 @@ module _ (leaves : LeafModel) (native : IsNativeModel leaves) where
           (length-map (slacks leaves) (λ slack. zero_ℚ))
 
   right_optimal : (x y : List Rational) → length x ≡ column_count leaves
-      → form.IsOptimal F (cell x) (cell y)
-      → right.IsOptimal leaves (point_in leaves x) (duals_in leaves y)
+      → form.IsFormOptimal F (cell x) (cell y)
+      → right.IsLeafOptimal leaves (point_in leaves x) (duals_in leaves y)
   unfolding value_of
   right_optimal x y n o = record {
     feasible = feasible_point x n o.feasible;
@@ -220,8 +221,8 @@ module _ (leaves : LeafModel) (native : IsNativeModel leaves) where
         (sym (cost_is x n) ∙ sym o.equal ∙ gap_is y (coefficient (cost leaves)) o.reduced);
   }
 
-  right_infeasible : (y : List Rational) → form.IsInfeasible F (cell y)
-      → right.IsInfeasible leaves (duals_in leaves y)
+  right_infeasible : (y : List Rational) → form.IsFormInfeasible F (cell y)
+      → right.IsLeafInfeasible leaves (duals_in leaves y)
   right_infeasible y o =
       let reduced = λ (j : ℕ) (b : j < column_count leaves). subst
       (λ q. weighted F (cell y) (λ i. F.matrix i j) ≤ℚ q) (sym (free j b)) (o.nonpos j b) in
@@ -231,8 +232,8 @@ module _ (leaves : LeafModel) (native : IsNativeModel leaves) where
       }
 
   right_unbounded : (x d : List Rational) → length x ≡ column_count leaves
-      → length d ≡ column_count leaves → form.IsUnbounded F (cell x) (cell d)
-      → right.IsUnbounded leaves (point_in leaves x) (point_in leaves d)
+      → length d ≡ column_count leaves → form.IsFormUnbounded F (cell x) (cell d)
+      → right.IsLeafUnbounded leaves (point_in leaves x) (point_in leaves d)
   right_unbounded x d n k o = record {
     feasible = feasible_point x n o.feasible;
     ray = feasible_ray d k o.nonneg o.stays;

@@ -177,17 +177,17 @@ module _ (parts : List (Address × Bool)) (slacks : List (ℕ × Bool)) (es : Li
 
 -- ---- slacks and their equations
 
-abbrev pub IsBelow : ℕ → ℕ × Bool → Type 0
-IsBelow n slack = slack.0 < n
+abbrev pub IsSlackBelow : ℕ → ℕ × Bool → Type 0
+IsSlackBelow n slack = slack.0 < n
 
 pub slacks_within : (es : List Equation) (k n : ℕ) → k + length es ≡ n
-    → All (IsBelow n) (slacks_from k es)
-slacks_within [] k n e = All-nil (IsBelow n)
+    → All (IsSlackBelow n) (slacks_from k es)
+slacks_within [] k n e = All-nil (IsSlackBelow n)
 slacks_within (e ∷ es) k n h =
     by_slack (slack_of e.set) (slacks_within es (suc k) n (omega (arith, h)))
   where
-    by_slack : (o : Option Bool) → All (IsBelow n) (slacks_from (suc k) es)
-        → All (IsBelow n) (slack_at k o ++ slacks_from (suc k) es)
+    by_slack : (o : Option Bool) → All (IsSlackBelow n) (slacks_from (suc k) es)
+        → All (IsSlackBelow n) (slack_at k o ++ slacks_from (suc k) es)
     by_slack None rest = rest
     by_slack (Some b) rest =
-        All-cons (IsBelow n) (k, b) (slacks_from (suc k) es) (omega (arith, h)) rest
+        All-cons (IsSlackBelow n) (k, b) (slacks_from (suc k) es) (omega (arith, h)) rest

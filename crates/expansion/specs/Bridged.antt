@@ -2,7 +2,7 @@
 -- expressions put in, its further children.
 use Rattle.std.specs.Prelude.{◌≡◌, ℕ, List, [], ◌∷◌, ◌++◌}
 use Rattle.bridge_graph.specs.declared.Choice.TheVariants.{By, Native}
-use Rattle.expansion.specs.Rules.{Image, Rules}
+use Rattle.expansion.specs.Rules.{ItemChildren, Rules}
 
 mutual
   -- the item is bridged, and these are the expressions of its components
@@ -32,7 +32,7 @@ mutual
 
 -- a model, bridged: its groups, and with their expressions put in its rows and its objective
 pub record Fresh {Item Entry : Type 0} (rules : Rules Item Entry)
-    (model : Image Item) : Type 0 where
+    (model : ItemChildren Item) : Type 0 where
   pub entries : List Entry
   pub groups : EachBridged rules model.groups entries
   pub others : EachBridgedIn rules entries model.others

@@ -4,7 +4,7 @@ use Rattle.std.proofs.Common.{arith}
 use Rattle.std.proofs.lemmas.List.Elements.{All-head, All-tail}
 use Rattle.bridge_graph.specs.declared.Choice.{Choice}
 use Rattle.bridge_graph.specs.declared.Choice.TheVariants.{By, Missing, Native}
-use Rattle.expansion.specs.Rules.{Image, Rules}
+use Rattle.expansion.specs.Rules.{ItemChildren, Rules}
 use Rattle.expansion.specs.Bridged.{Bridged, EachBridged, EachBridgedIn, Fresh, by, each, each_in, natively, none, none_in}
 use Rattle.expansion.specs.Ranks.{IsRanked, RanksBelow}
 
@@ -56,7 +56,7 @@ module _ {Item Entry : Type 0} (rules : Rules Item Entry) where
     bridged item can =
         bridged_below (suc (rank item)) item (record { can = can; below = omega arith })
 
-    pub fresh : (model : Image Item) → All Can model.groups
+    pub fresh : (model : ItemChildren Item) → All Can model.groups
         → ((inner : List Entry) → EachBridged rules model.groups inner
         → All (λ item. Can (rules.put_in inner item)) model.others)
         → Fresh rules model

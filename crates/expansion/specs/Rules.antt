@@ -4,7 +4,7 @@ use Rattle.bridge_graph.specs.declared.Choice.{Choice}
 
 -- what an edge makes of an item: its child groups, and then its further children, the rows and the
 -- objective
-pub record Image (Item : Type 0) : Type 0 where
+pub record ItemChildren (Item : Type 0) : Type 0 where
   pub groups : List Item
   pub others : List Item
 
@@ -12,7 +12,7 @@ pub record Image (Item : Type 0) : Type 0 where
 pub record Rules (Item Entry : Type 0) : Type 0 where
   -- native, the edge that rewrites the item, or neither
   pub choice : Item → Choice
-  pub image : ℕ → Item → Image Item
+  pub image : ℕ → Item → ItemChildren Item
   -- an item's components by themselves, where it is native
   pub own : Item → List Entry
   -- an item's components by those of the child groups of an edge

@@ -4,14 +4,14 @@ use Rattle.std.proofs.lemmas.Option.{none-some}
 use Rattle.io_face.specs.Sink.{Adds}
 use Rattle.io_face.specs.SinkLaws.{Adds-empty}
 use Rattle.file_command.specs.Ending.{EndsText, EndsWith, IsThis, WritesAnswer, is_refusal, printed}
-use Rattle.file_command.specs.Status.{IsEnded}
+use Rattle.file_command.specs.Status.{IsAnswerWritten}
 use Rattle.file_command.specs.declared.status.Status.{Status}
 use Rattle.file_command.specs.declared.status.Status.TheVariants as status
 use Rattle.report_core.specs.declared.answer.Answer.{Answer}
 use Rattle.report_core.specs.declared.answer.Answer.TheVariants.{Memory}
 
 -- a text that was written whole
-pub whole : (text : List ℕ) (ended : Status) (old new : Option (List ℕ)) → IsEnded ended
+pub whole : (text : List ℕ) (ended : Status) (old new : Option (List ℕ)) → IsAnswerWritten ended
     → Adds old new text → EndsText text ended ended old new
 whole text status.Done old new h adds = (refl, adds)
 whole text status.SomeRefused old new h adds = (refl, adds)

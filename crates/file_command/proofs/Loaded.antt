@@ -5,9 +5,9 @@ use Rattle.std.specs.Result.{result_unwrap_or}
 use Rattle.file_answers.specs.FileAnswers.{fault_answer, refused}
 use Rattle.io_face.specs.Told.{Told}
 use Rattle.lists.specs.declared.memory.Memory.{Memory as NoMemory}
-use Rattle.file_command.specs.Loading.{Loads, Makes, MakesOn}
+use Rattle.file_command.specs.Loading.{LoadsStored, MakesOn, MakesStored}
 use Rattle.model_load.specs.Loads.{after_edits}
-use Rattle.model_store.specs.Store.{Stored}
+use Rattle.model_store.specs.Store.{StoredModel}
 use Rattle.model_store.specs.declared.parked.Parked.{Parked}
 use Rattle.mof_fetch.specs.Fetched.{IsReadOf}
 use Rattle.mof_fetch.specs.declared.fault.FileFault.{FileFault}
@@ -23,14 +23,14 @@ use Rattle.user_model.specs.declared.refusal.Refusal.{Refusal}
 pub loads_fault : (shelf : Told) (name : List ℕ) (why : FileFault)
     (told : Result Answer NoMemory) (answer : Answer) → IsReadOf shelf name (Err why)
     → IfOk told (λ a. a ≡ fault_answer why) → answer ≡ result_unwrap_or told Memory
-    → Loads shelf name (Err answer)
+    → LoadsStored shelf name (Err answer)
 loads_fault shelf name why (Err e) answer of h is = λ not. absurd (not is)
 loads_fault shelf name why (Ok a) answer of h is = λ not. (Err why, of, is ∙ h)
 
 -- ---- edits that are refused
 
 pub makes_refused : (made : Result ModelValue Refusal) (parked : List Parked) (reason : Refusal)
-    (told : Result Answer NoMemory) (answer : Answer) (new : Stored) → made ≡ Err reason
+    (told : Result Answer NoMemory) (answer : Answer) (new : StoredModel) → made ≡ Err reason
     → IfOk told (λ a. a ≡ refused (refused_of reason)) → answer ≡ result_unwrap_or told Memory
     → MakesOn made parked (Err answer) new
 makes_refused made parked reason (Err e) answer new is h same = λ not. absurd (not same)
@@ -39,33 +39,33 @@ makes_refused made parked reason (Ok a) answer new is h same =
 
 -- ---- the model
 
-pub loads_made : (shelf : Told) (name : List ℕ) (edits : List Edit) (result : Result Stored Answer)
-    → IsReadOf shelf name (Ok edits) → Makes (after_edits empty_model edits) result
-    → Loads shelf name result
+pub loads_made : (shelf : Told) (name : List ℕ) (edits : List Edit) (result : Result StoredModel Answer)
+    → IsReadOf shelf name (Ok edits) → MakesStored (after_edits empty_model edits) result
+    → LoadsStored shelf name result
 loads_made shelf name edits (Ok stored) of h =
     record { edits = edits; read = of; made = h.0; settled = h.1 }
 loads_made shelf name edits (Err answer) of h = λ not. (Ok edits, of, h not)
 
 -- ---- on an empty model, which is lent
 
-module _ (start new : Stored) (listed edits : List Edit) (empty : start.model ≡ empty_model)
+module _ (start new : StoredModel) (listed edits : List Edit) (empty : start.model ≡ empty_model)
     (same : listed ≡ edits) where
   pub made_here : start.parked ≡ []
       → MakesOn (after_edits start.model listed) start.parked (Ok tt) new
-      → Makes (after_edits empty_model edits) (Ok new)
+      → MakesStored (after_edits empty_model edits) (Ok new)
   made_here none h = (sym (ap₂ after_edits empty same) ∙ h.0, h.1 ∙ none)
 
   pub none_here : (answer : Answer)
       → MakesOn (after_edits start.model listed) start.parked (Err answer) new
-      → Makes (after_edits empty_model edits) (Err answer)
+      → MakesStored (after_edits empty_model edits) (Err answer)
   none_here answer h =
-      subst (λ made. Makes made (Err answer)) (ap₂ after_edits empty same) h
+      subst (λ made. MakesStored made (Err answer)) (ap₂ after_edits empty same) h
 
 -- no edits of a file say that it failed
-pub never_read : (made : Result ModelValue Refusal) (result : Result Stored Answer)
-    → Makes made result → result ≡ Err ReadFault → ⊥
-never_read made result h e = by made (subst (Makes made) e h)
+pub never_read : (made : Result ModelValue Refusal) (result : Result StoredModel Answer)
+    → MakesStored made result → result ≡ Err ReadFault → ⊥
+never_read made result h e = by made (subst (MakesStored made) e h)
   where
-    by : (made : Result ModelValue Refusal) → Makes made (Err ReadFault) → ⊥
+    by : (made : Result ModelValue Refusal) → MakesStored made (Err ReadFault) → ⊥
     by (Ok model) h = h (λ f. cc)
     by (Err refusal) h = let f = h (λ f. cc) in cc

@@ -2,12 +2,13 @@
 --
 --     EndsWith        how it ended, by its status, and what it wrote
 --     CanBeFetched    nothing speaks against fetching the file
-use Rattle.std.specs.Prelude.{◌≡◌, ◌≢◌, ◌^◌, ◌-◌, ◌<◌, ◌⊎◌, ℕ, Bool, true, false, List, [], Option, Some, None, IsTrue, Err}
+use Rattle.std.specs.Prelude.{◌≡◌, ◌≢◌, ◌⊎◌, ℕ, Bool, true, false, List, [], Option, Some, None, IsTrue, Err}
 use Rattle.io_face.specs.Shelf.{Gives}
 use Rattle.io_face.specs.Sink.{Adds, AddsPrefix}
 use Rattle.io_face.specs.Told.{Told}
 use Rattle.io_face.specs.declared.shelf.FetchFault.TheVariants as fetch
 use Rattle.file_command.specs.declared.status.Status.{Status}
+use Rattle.io_face.specs.Fault.{CountsNoFault}
 use Rattle.file_command.specs.declared.status.Status.TheVariants as status
 use Rattle.report_core.specs.declared.answer.Answer.{Answer}
 use Rattle.report_core.specs.declared.answer.Answer.TheVariants.{Memory, Printed, Quit, ReadFault, Refused, Silent, TooLong}
@@ -63,12 +64,8 @@ EndsText text ended end old new = (end ≡ ended) × Adds old new text
 
 -- ---- when it ends well
 
--- no fault is counted between two counts, which are below the last
-abbrev pub IsSound : ℕ → ℕ → Type 0
-IsSound old new = (new ≡ old) × (new < 2 ^ 64 - 1)
-
 -- the file isn't too long, and the shelf has no fault, or is sure and has the file
 pub record CanBeFetched (shelf : Told) (name : List ℕ) (old new : ℕ) : Type 0 where
   pub short : Gives shelf.files name (Err fetch.TooLong) → ⊥
-  pub there : IsSound old new
+  pub there : CountsNoFault old new
       ⊎ (IsTrue shelf.sure × (Gives shelf.files name (Err fetch.Failed) → ⊥))

@@ -1,12 +1,12 @@
 -- How a run ends where nothing is against it, and what it says under another name.
 use Rattle.std.specs.Prelude.{◌≡◌, ◌⊎◌, ℕ, Bool, true, false, List, Option, Err, refl}
 use Rattle.std.proofs.Common.{arith, inl, inr}
-use Rattle.io_face.specs.Fault.{HasFaulted}
+use Rattle.io_face.specs.Fault.{CountsNoFault, HasFaulted}
 use Rattle.io_face.specs.Sink.{Adds, AddsPrefix}
 use Rattle.io_face.specs.Told.{MayGive, Told}
 use Rattle.io_face.specs.declared.shelf.FetchFault.TheVariants as fetch
-use Rattle.file_command.specs.Ending.{CanBeFetched, EndsWith, IsSound, WritesAnswer}
-use Rattle.file_command.specs.Status.{IsEnded}
+use Rattle.file_command.specs.Ending.{CanBeFetched, EndsWith, WritesAnswer}
+use Rattle.file_command.specs.Status.{IsAnswerWritten}
 use Rattle.file_command.specs.declared.status.Status.{Status}
 use Rattle.file_command.specs.declared.status.Status.TheVariants as status
 use Rattle.report_core.specs.declared.answer.Answer.{Answer}
@@ -41,7 +41,7 @@ module _ (says more : Answer → Type 0) (follows : (answer : Answer) → says a
 
 -- ---- nothing is against it
 
-unsound : (old new : ℕ) → IsSound old new → HasFaulted old new → ⊥
+unsound : (old new : ℕ) → CountsNoFault old new → HasFaulted old new → ⊥
 unsound old new sound (inl rose) = omega (arith, sound.0, sound.1, rose)
 unsound old new sound (inr stands) = omega (arith, sound.0, sound.1, stands)
 
@@ -51,8 +51,8 @@ pub ends_well : (says : Answer → Type 0) (end : Status) (old new : Option (Lis
     → (says TooLong → MayGive shelf name (Err fetch.TooLong))
     → (end ≡ status.ReadFault → HasFaulted reads reads')
     → (end ≡ status.WriteFault → HasFaulted writes writes')
-    → CanBeFetched shelf name reads reads' → IsSound writes writes'
-    → IsEnded end ⊎ (end ≡ status.Memory)
+    → CanBeFetched shelf name reads reads' → CountsNoFault writes writes'
+    → IsAnswerWritten end ⊎ (end ≡ status.Memory)
 ends_well says status.Done old new shelf name reads reads' writes writes' h failed long read write
     fetched sound = inl tt
 ends_well says status.SomeRefused old new shelf name reads reads' writes writes' h failed long read

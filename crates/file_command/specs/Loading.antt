@@ -3,7 +3,7 @@ use Rattle.std.specs.Prelude.{◌≡◌, ◌≢◌, ℕ, List, [], Result, Ok, E
 use Rattle.model_load.specs.Loads.{after_edits}
 use Rattle.file_answers.specs.FileAnswers.{fault_answer, refused}
 use Rattle.io_face.specs.Told.{Told}
-use Rattle.model_store.specs.Store.{Stored}
+use Rattle.model_store.specs.Store.{StoredModel}
 use Rattle.model_store.specs.declared.parked.Parked.{Parked}
 use Rattle.mof_fetch.specs.Fetched.{IsReadOf}
 use Rattle.mof_fetch.specs.declared.fault.FileFault.{FileFault}
@@ -37,24 +37,25 @@ AnswersFile says shelf name answer =
 -- ---- the model alone
 
 -- the file's edits make the model, and nothing of it waits
-pub record IsModelOf (shelf : Told) (name : List ℕ) (stored : Stored) : Type 0 where
+pub record IsModelOf (shelf : Told) (name : List ℕ) (stored : StoredModel) : Type 0 where
   pub edits : List Edit
   pub read : IsReadOf shelf name (Ok edits)
   pub made : after_edits empty_model edits ≡ Ok stored.model
   pub settled : stored.parked ≡ []
 
 -- a model, or what is answered without one, unless memory ran out
-abbrev pub Loads : Told → List ℕ → Result Stored Answer → Type 0
-Loads shelf name (Ok stored) = IsModelOf shelf name stored
-Loads shelf name (Err answer) = answer ≢ Memory → AnswersFile (λ model said. ⊥) shelf name answer
+abbrev pub LoadsStored : Told → List ℕ → Result StoredModel Answer → Type 0
+LoadsStored shelf name (Ok stored) = IsModelOf shelf name stored
+LoadsStored shelf name (Err answer) = answer ≢ Memory → AnswersFile (λ model said. ⊥) shelf name answer
 
 -- the same of edits that make a model, or are refused
-abbrev pub Makes : Result ModelValue Refusal → Result Stored Answer → Type 0
-Makes made (Ok stored) = (made ≡ Ok stored.model) × (stored.parked ≡ [])
-Makes made (Err answer) = answer ≢ Memory → AnswersMade (λ model said. ⊥) made answer
+abbrev pub MakesStored : Result ModelValue Refusal → Result StoredModel Answer → Type 0
+MakesStored made (Ok stored) = (made ≡ Ok stored.model) × (stored.parked ≡ [])
+MakesStored made (Err answer) = answer ≢ Memory → AnswersMade (λ model said. ⊥) made answer
 
 -- on a model
-abbrev pub MakesOn : Result ModelValue Refusal → List Parked → Result Unit Answer → Stored → Type 0
+abbrev pub MakesOn : Result ModelValue Refusal → List Parked → Result Unit Answer → StoredModel
+    → Type 0
 MakesOn made parked (Ok done) new = (made ≡ Ok new.model) × (new.parked ≡ parked)
 MakesOn made parked (Err answer) new =
     answer ≢ Memory → AnswersMade (λ model said. ⊥) made answer

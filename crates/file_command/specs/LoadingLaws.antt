@@ -6,13 +6,13 @@ use Rattle.model_load.specs.Loads.{after_edits}
 use Rattle.io_face.specs.Told.{MayGive, Told}
 use Rattle.io_face.specs.declared.shelf.FetchFault.{FetchFault}
 use Rattle.io_face.specs.declared.shelf.FetchFault.TheVariants as fetch
-use Rattle.file_command.specs.Loading.{AnswersFile, AnswersMade, AnswersRead, Loads}
+use Rattle.file_command.specs.Loading.{AnswersFile, AnswersMade, AnswersRead, LoadsStored}
 use Rattle.mof_fetch.specs.Fetched.{IsReadOf}
 use Rattle.mof_fetch.specs.FetchedLaws.{may_fail}
 use Rattle.mof_fetch.specs.declared.fault.FileFault.{FileFault}
 use Rattle.mof_fetch.specs.declared.fault.FileFault.TheVariants as file
 use Rattle.report_core.specs.declared.answer.Answer.{Answer}
-use Rattle.model_store.specs.Store.{Stored}
+use Rattle.model_store.specs.Store.{StoredModel}
 use Rattle.report_core.specs.declared.answer.Answer.TheVariants.{Memory, ReadFault, TooLong}
 use Rattle.user_model.specs.Model.{ModelValue, empty_model}
 use Rattle.user_model.specs.declared.edit.Edit.{Edit}
@@ -81,13 +81,13 @@ module _ (says : ModelValue → Answer → Type 0) where
   read_any (Err reason) answer h = h
 
   pub answered_without : (shelf : Told) (name : List ℕ) (answer : Answer)
-      → Loads shelf name (Err answer) → answer ≢ Memory → AnswersFile says shelf name answer
+      → LoadsStored shelf name (Err answer) → answer ≢ Memory → AnswersFile says shelf name answer
   answered_without shelf name answer h not =
       let file = h not in (file.0, file.1, read_any file.0 answer file.2)
 
   -- what is said of the model of a file is answered to the file
-  pub answered_with : (shelf : Told) (name : List ℕ) (stored : Stored) (answer : Answer)
-      → Loads shelf name (Ok stored) → says stored.model answer
+  pub answered_with : (shelf : Told) (name : List ℕ) (stored : StoredModel) (answer : Answer)
+      → LoadsStored shelf name (Ok stored) → says stored.model answer
       → AnswersFile says shelf name answer
   answered_with shelf name stored answer h said = (
     Ok h.edits,

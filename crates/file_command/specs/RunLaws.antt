@@ -2,14 +2,14 @@
 use Rattle.std.specs.Prelude.{◌≡◌, ◌≢◌, ◌⊎◌, ℕ, Bool, List, Option, None, refl}
 use Rattle.std.proofs.Common.{ap, subst, sym, ◌∙◌}
 use Rattle.std.proofs.lemmas.Option.{none-some}
-use Rattle.io_face.specs.Fault.{HasFaulted}
+use Rattle.io_face.specs.Fault.{CountsNoFault, HasFaulted}
 use Rattle.io_face.specs.Sink.{Adds}
 use Rattle.io_face.specs.Told.{Told}
-use Rattle.file_command.specs.Ending.{CanBeFetched, EndsWith, IsSound, IsThis, WritesAnswer, printed}
+use Rattle.file_command.specs.Ending.{CanBeFetched, EndsWith, IsThis, WritesAnswer, printed}
 use Rattle.file_command.specs.EndingLaws.{ends_more, ends_well}
 use Rattle.file_command.specs.Loading.{AnswersFile}
 use Rattle.file_command.specs.LoadingLaws.{SaysNoFault, file_fails, file_too_long, shelf_fault}
-use Rattle.file_command.specs.Status.{IsEnded}
+use Rattle.file_command.specs.Status.{IsAnswerWritten}
 use Rattle.file_command.specs.declared.status.Status.{Status}
 use Rattle.file_command.specs.declared.status.Status.TheVariants as status
 use Rattle.report_core.specs.declared.answer.Answer.{Answer}
@@ -39,7 +39,7 @@ module _ (answer : Answer) where
 
   -- and where it ended, that isn't the answer
   pub for_no_fault : (end : Status) (old new : Option (List ℕ)) → EndsWith (IsThis answer) end old new
-      → IsEnded end → answer ≢ ReadFault
+      → IsAnswerWritten end → answer ≢ ReadFault
   for_no_fault status.Done old new ended is = wrote_no_fault _ (Adds old new) ended
   for_no_fault status.SomeRefused old new ended is = wrote_no_fault _ (Adds old new) ended
   for_no_fault _ old new ended is = absurd is
@@ -69,8 +69,8 @@ module _ (answer : Answer) where
     pub ends_well_so : SaysNoFault says → (reads reads' writes writes' : ℕ)
         → (end ≡ status.ReadFault → HasFaulted reads reads')
         → (end ≡ status.WriteFault → HasFaulted writes writes')
-        → CanBeFetched shelf name reads reads' → IsSound writes writes'
-        → IsEnded end ⊎ (end ≡ status.Memory)
+        → CanBeFetched shelf name reads reads' → CountsNoFault writes writes'
+        → IsAnswerWritten end ⊎ (end ≡ status.Memory)
     ends_well_so plain reads reads' writes writes' read write fetched sound =
         ends_well (AnswersFile says shelf name) end old new shelf name reads reads' writes writes'
         ends_so (file_fails says plain shelf name) (file_too_long says plain shelf name) read write

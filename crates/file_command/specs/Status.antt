@@ -14,7 +14,7 @@ exit_number Memory = 5
 exit_number TooLong = 6
 
 -- the answer was written whole
-abbrev pub IsEnded : Status → Type 0
-IsEnded Done = Unit {0}
-IsEnded SomeRefused = Unit {0}
-IsEnded _ = ⊥
+abbrev pub IsAnswerWritten : Status → Type 0
+IsAnswerWritten Done = Unit {0}
+IsAnswerWritten SomeRefused = Unit {0}
+IsAnswerWritten _ = ⊥

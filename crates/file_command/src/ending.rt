@@ -2,7 +2,7 @@
 ghost use Rattle.std.specs.Prelude.{◌≡◌, ◌≢◌, ◌≤◌};
 ghost use Rattle.io_face.specs.Fault.{HasFaulted};
 ghost use Rattle.file_command.specs.Ending.{EndsText, EndsWith, IsThis};
-ghost use Rattle.file_command.specs.Status.{IsEnded};
+ghost use Rattle.file_command.specs.Status.{IsAnswerWritten};
 
 use crate::status::Status;
 use io_face::{Sink, SinkFault, write_all};
@@ -14,7 +14,7 @@ pub fn end_with<O: Sink>(answer: Answer, output: &mut O) -> Status
     ensures write_fault { result ≡ Status.WriteFault
         → HasFaulted (O.faults output.old) (O.faults output.new) }
     ensures count { O.faults output.old ≤ O.faults output.new }
-    ensures sound { IsEnded result → O.faults output.new ≡ O.faults output.old }
+    ensures sound { IsAnswerWritten result → O.faults output.new ≡ O.faults output.old }
 {
     match answer {
         Answer::Printed(text) => write_text(text.as_slice(), Status::Done, output),
@@ -28,12 +28,12 @@ pub fn end_with<O: Sink>(answer: Answer, output: &mut O) -> Status
 
 // Writes a text, after which the run ends so.
 fn write_text<O: Sink>(text: &[u8], ended: Status, output: &mut O) -> Status
-    requires { IsEnded ended }
+    requires { IsAnswerWritten ended }
     ensures ends { EndsText text.now ended result (O.written output.old) (O.written output.new) }
     ensures write_fault { result ≡ Status.WriteFault
         → HasFaulted (O.faults output.old) (O.faults output.new) }
     ensures count { O.faults output.old ≤ O.faults output.new }
-    ensures sound { IsEnded result → O.faults output.new ≡ O.faults output.old }
+    ensures sound { IsAnswerWritten result → O.faults output.new ≡ O.faults output.old }
 {
     match write_all(output, text) {
         Ok(()) => ended,

@@ -3,7 +3,7 @@ ghost use Rattle.std.specs.Prelude.{◌≡◌, ◌≢◌, [], ◌∷◌, ◌≤�
 ghost use Rattle.io_face.specs.Fault.{HasFaulted};
 ghost use Rattle.io_face.specs.Shelf.{AsksFor};
 ghost use Rattle.io_face.specs.Told.{told_by};
-ghost use Rattle.file_command.specs.Loading.{Loads, Makes, MakesOn};
+ghost use Rattle.file_command.specs.Loading.{LoadsStored, MakesOn, MakesStored};
 ghost use Rattle.model_load.specs.Loads.{after_edits};
 ghost use Rattle.user_model.specs.Model.{empty_model};
 
@@ -20,7 +20,7 @@ use user_model::{ApplyFault, Edit};
 /// The model of the file of a name, or what is answered where the shelf doesn't give it, it isn't
 /// read, or an edit of it is refused. The file is asked for once, and no other is.
 pub fn model_of<H: Shelf>(alloc: Global, shelf: &mut H, name: &Name) -> Result<UserModel, Answer>
-    ensures loads { Loads (told_by (H.files shelf.old) (H.sure shelf.old)) name.now result }
+    ensures loads { LoadsStored (told_by (H.files shelf.old) (H.sure shelf.old)) name.now result }
     ensures files { H.files shelf.new ≡ H.files shelf.old }
     ensures sure { H.sure shelf.new ≡ H.sure shelf.old }
     ensures count { H.faults shelf.old ≤ H.faults shelf.new }
@@ -38,7 +38,7 @@ pub fn model_of<H: Shelf>(alloc: Global, shelf: &mut H, name: &Name) -> Result<U
 
 /// The model that edits make of an empty one, or what is answered where one of them is refused.
 pub fn model_by(alloc: Global, edits: Vec<Edit>) -> Result<UserModel, Answer>
-    ensures { Makes (after_edits empty_model edits.items) result }
+    ensures { MakesStored (after_edits empty_model edits.items) result }
 {
     let mut model = UserModel::new(alloc);
     match make_all(alloc, &mut model, edits) {

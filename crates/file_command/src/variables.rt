@@ -4,14 +4,14 @@ ghost use Rattle.std.specs.Iterator.{YieldsFirstRef, item_count};
 ghost use Rattle.certificates.specs.Points.{variables_of};
 ghost use Rattle.file_command.specs.Left.{variables_left};
 
-use numbered_list::Items;
+use numbered_list::NumberedItems;
 use user_model::{Group, GroupVar, Groups};
 
 /// The variables that are left, in the order of the groups.
 #[derive(Drop)]
 pub(crate) struct VariablesLeft<'a> {
     vars: &'a [GroupVar],
-    groups: Items<'a, Group>,
+    groups: NumberedItems<'a, Group>,
 }
 
 impl<'a> VariablesLeft<'a> {

@@ -23,20 +23,20 @@ use Rattle.user_model.specs.declared.row.Row.{Row}
 use Rattle.found_plan.specs.Marked.{plain_in, plain_in_objective, plain_in_row}
 
 module _ (k l : Address → Bool) where
-  abbrev pub Agree : List Address → Type 0
-  Agree vs = All (λ v. k v ≡ l v) vs
+  abbrev pub AgreeAtAddresses : List Address → Type 0
+  AgreeAtAddresses vs = All (λ v. k v ≡ l v) vs
 
-  all_alike : (vs : List Address) → Agree vs → list_all k vs ≡ list_all l vs
+  all_alike : (vs : List Address) → AgreeAtAddresses vs → list_all k vs ≡ list_all l vs
   all_alike [] h = refl
   all_alike (v ∷ vs) h =
       ap₂ ◌&&◌ (All-head (λ v. k v ≡ l v) v vs h)
       (all_alike vs (All-tail (λ v. k v ≡ l v) v vs h))
 
-  row_alike : (r : Row) → Agree (plain_in_row r.func)
+  row_alike : (r : Row) → AgreeAtAddresses (plain_in_row r.func)
       → kind_by k (row_item r).body ≡ kind_by l (row_item r).body
   row_alike r = by r.func
     where
-      by : (f : UserFunc) → Agree (plain_in_row f)
+      by : (f : UserFunc) → AgreeAtAddresses (plain_in_row f)
           → kind_by k (row_item (record r { func = f })).body
           ≡ kind_by l (row_item (record r { func = f })).body
       by (Plain var) h =
@@ -47,7 +47,7 @@ module _ (k l : Address → Bool) where
           ap (λ b. cond b (plain_kind_of r.set) (affine_kind_of r.set)) (all_alike vars h)
       by (AffineVec fs) h = refl
 
-  rows_alike : (rows : List Row) → Agree (plain_in rows)
+  rows_alike : (rows : List Row) → AgreeAtAddresses (plain_in rows)
       → map (λ i. kind_by k i.body) (map row_item rows)
       ≡ map (λ i. kind_by l i.body) (map row_item rows)
   rows_alike [] h = refl
@@ -56,7 +56,7 @@ module _ (k l : Address → Bool) where
       (row_alike r (all_first (λ v. k v ≡ l v) (plain_in_row r.func) (plain_in rows) h))
       (rows_alike rows (all_second (λ v. k v ≡ l v) (plain_in_row r.func) (plain_in rows) h))
 
-  objective_alike : (o : Objective) → Agree (plain_in_objective o)
+  objective_alike : (o : Objective) → AgreeAtAddresses (plain_in_objective o)
       → map (λ i. kind_by k i.body) (objective_items o)
       ≡ map (λ i. kind_by l i.body) (objective_items o)
   objective_alike objective.Feasibility h = refl
@@ -64,8 +64,8 @@ module _ (k l : Address → Bool) where
       ap (λ b. objective_kind_by sense b ∷ []) (All-head (λ v. k v ≡ l v) var [] h)
   objective_alike (objective.Affine sense f) h = refl
 
-  pub others_alike : (rows : List Row) (o : Option Objective) → Agree (plain_in rows)
-      → Agree (option_map_or plain_in_objective o [])
+  pub others_alike : (rows : List Row) (o : Option Objective) → AgreeAtAddresses (plain_in rows)
+      → AgreeAtAddresses (option_map_or plain_in_objective o [])
       → map (λ i. kind_by k i.body) (found_others rows o)
       ≡ map (λ i. kind_by l i.body) (found_others rows o)
   others_alike rows o h g =
@@ -74,7 +74,7 @@ module _ (k l : Address → Bool) where
       ∙ sym (map-append (λ i. kind_by l i.body) (map row_item rows)
       (option_map_or objective_items o []))
     where
-      of_some : (o : Option Objective) → Agree (option_map_or plain_in_objective o [])
+      of_some : (o : Option Objective) → AgreeAtAddresses (option_map_or plain_in_objective o [])
           → map (λ i. kind_by k i.body) (option_map_or objective_items o [])
           ≡ map (λ i. kind_by l i.body) (option_map_or objective_items o [])
       of_some None g = refl

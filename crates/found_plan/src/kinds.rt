@@ -5,7 +5,7 @@ ghost use Rattle.std.specs.Option.{option_copied, option_map_or};
 ghost use Rattle.fresh_bridging.specs.ModelImage.{group_item};
 ghost use Rattle.model_bridging.specs.Found.{found_others, kept_over};
 ghost use Rattle.model_bridging.specs.Kinds.{first_missing, kind_by};
-ghost use Rattle.model_bridging.specs.Outcome.{KindsOutcome};
+ghost use Rattle.model_bridging.specs.PlanOutcome.{KindsOutcome};
 ghost use Rattle.found_plan.specs.Marked.{TellsMarks, plain_in, plain_in_objective, plain_in_row};
 ghost use Rattle.found_plan.specs.Read.{is_marked};
 

@@ -1,7 +1,7 @@
 // Names and their table.
 ghost use Rattle.std.specs.Prelude.{◌≡◌, IsTrue, None};
 ghost use Rattle.std.specs.FinMap as map;
-ghost use Rattle.name_index.specs.NameTable.{IsFree};
+ghost use Rattle.name_index.specs.NameTable.{IsNumberFree};
 
 use lists::Duplicate;
 use name_index::{Name, NameTable, Names};
@@ -126,14 +126,14 @@ fn put_copy(table: &mut NameTable, name: &Name) -> bool {
 
 fn is_free(table: &NameTable, name: &Name) -> bool
     ensures { IsTrue result → (map.get table.now.numbers name.now ≡ None)
-        × IsFree table.now.numbers 7 }
+        × IsNumberFree table.now.numbers 7 }
 {
     table.id(name).is_none() && table.name(7).is_none()
 }
 
 fn put(table: &mut NameTable, name: Name) -> bool
     requires name_free { map.get table.old.numbers name ≡ None }
-    requires id_free { IsFree table.old.numbers 7 }
+    requires id_free { IsNumberFree table.old.numbers 7 }
 {
     table.add(name, 7).is_ok()
 }

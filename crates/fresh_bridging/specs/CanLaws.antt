@@ -23,7 +23,7 @@ use Rattle.item_core.specs.KindOf.{kind_of_body}
 use Rattle.item_core.specs.Valid.{IsValidItem}
 use Rattle.bridge_face.specs.ImageOf.{image_of}
 use Rattle.aff_core.specs.Address.{Address, child_of}
-use Rattle.bridge_face.specs.Law.{EdgeLaw, GrowsBy, IsItemFor, IsLawful, IsValidWithin, LeadsTo, children, growth}
+use Rattle.bridge_face.specs.Law.{EdgeLaw, GrowsBy, IsItemFor, IsLawful, IsValidWithin, LeadsToKind, children, growth}
 use Rattle.map_laws.specs.EachLaws.{StandsFrom, all_both, stand_from}
 use Rattle.fresh_bridging.specs.FreshBridging.{HasTree}
 use Rattle.fresh_bridging.specs.RankingLaws.{LeadsDown, fewer_below, leads_down, rank, ranked_below}
@@ -132,7 +132,7 @@ module _ (setting : Setting) (costly : IsCostly (graph_of setting)) (choice : �
         down.entry down.is_entry.here (lawful down.entry.family down.family) item is_item)
 
     -- the kind of a child is one that the entry lists
-    pub lists : (child : Item) → LeadsTo (edge_at n) child.body
+    pub lists : (child : Item) → LeadsToKind (edge_at n) child.body
         → list_any (kind_eq (kind_of_body child.body)) (kinds_in down.entry.children) ≡ true
     lists child h = subst (λ x. list_any (kind_eq (kind_of_body child.body)) (kinds_in x.children)
         ≡ true) same_entry h
@@ -301,7 +301,7 @@ module _ (setting : Setting) (costly : IsCostly (graph_of setting)) (choice : �
     pub record IsChild (child : Item) : Type 0 where
       pub position : length child.at.positions ≡ length item.at.positions + 1
       pub valid : length (functions_of child.body) ≤ 32767 → IsValidItem child
-      pub leads : LeadsTo (edge_at n) child.body
+      pub leads : LeadsToKind (edge_at n) child.body
       pub grows : length (functions_of child.body)
           ≤ growth (family_of (edge_at n)) * length (functions_of item.body)
 
@@ -355,7 +355,7 @@ module _ (setting : Setting) (costly : IsCostly (graph_of setting)) (choice : �
         let positions = stand_from (λ c. c.at) (child_of item.at) all_children 0
         (length all_children) (omega arith) law.positions in
         let room : length item.at.positions < 38 = omega (arith, can.room) in
-        let Leads : Item → Type 0 = λ child. LeadsTo (edge_at n) child.body in
+        let Leads : Item → Type 0 = λ child. LeadsToKind (edge_at n) child.body in
         let Grows : Item → Type 0 = GrowsBy (growth (family_of (edge_at n))) item in
         let Stands : Item → Type 0 =
         StandsFrom (λ c. c.at) (child_of item.at) 0 (length all_children) in

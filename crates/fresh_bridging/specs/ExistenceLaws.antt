@@ -28,7 +28,7 @@ use Rattle.item_core.specs.KindOf.{group_kind_of, kind_of_body}
 use Rattle.item_core.specs.Valid.{IsValidItem, below}
 use Rattle.bridge_face.specs.Law.{HasComponents}
 use Rattle.bridge_face.specs.ComponentLaws.{below_child}
-use Rattle.expansion.specs.Rules.{Image}
+use Rattle.expansion.specs.Rules.{ItemChildren}
 use Rattle.aff_core.specs.declared.root.Root.TheVariants as root
 use Rattle.user_model.specs.Model.{ModelValue}
 use Rattle.user_model.specs.Valid.{IsValid, IsValidGroup}
@@ -386,7 +386,7 @@ module _ (setting : Setting) (costly : IsCostly (graph_of setting)) (choice : �
     pub groups_bridged : All (HasTree (graph_of setting)) (model_image model).groups
         → (entries : List Entry) × EachBridged (rules_by choice) (model_image model).groups entries
     groups_bridged groups =
-        let alone : Image Item = record { groups = (model_image model).groups; others = [] } in
+        let alone : ItemChildren Item = record { groups = (model_image model).groups; others = [] } in
         let made = fresh (rules_by choice) (Can setting costly choice chosen)
         (rank_of setting costly choice chosen) ranked alone
         (All-weaker IsGroupHere (Can setting costly choice chosen) (λ g h. h.can)
@@ -412,7 +412,7 @@ module _ (setting : Setting) (costly : IsCostly (graph_of setting)) (choice : �
     }
 
   -- and where there is one, each item has a tree
-  pub trees_of_bridged : (model : Image Item) (made : Fresh (rules_by choice) model)
+  pub trees_of_bridged : (model : ItemChildren Item) (made : Fresh (rules_by choice) model)
       → All (HasTree (graph_of setting)) model.groups
       × All (λ item. HasTree (graph_of setting) (put_in made.entries item)) model.others
   trees_of_bridged model made = (each_tree made.groups, tree_in made.others)

@@ -3,7 +3,7 @@ use Rattle.std.specs.Prelude.{◌++◌, List, [], ◌∷◌, map}
 use Rattle.set_core.specs.declared.set.Set.{Set}
 use Rattle.aff_core.specs.Address.{root_address}
 use Rattle.aff_core.specs.declared.root.Root.TheVariants as root
-use Rattle.expansion.specs.Rules.{Image}
+use Rattle.expansion.specs.Rules.{ItemChildren}
 use Rattle.item_core.specs.declared.item.Body.{Body}
 use Rattle.item_core.specs.declared.item.Body.TheVariants as body
 use Rattle.item_core.specs.declared.item.Item.{Item}
@@ -39,7 +39,7 @@ objective_items objective.Feasibility = []
 objective_items (objective.Plain sense var) = objective_item (body.PlainObj sense var) ∷ []
 objective_items (objective.Affine sense func) = objective_item (body.AffineObj sense func) ∷ []
 
-abbrev pub model_image : ModelValue → Image Item
+abbrev pub model_image : ModelValue → ItemChildren Item
 model_image model = record {
   groups = map group_item model.groups;
   others = map row_item model.rows ++ objective_items model.objective;

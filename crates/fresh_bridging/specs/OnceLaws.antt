@@ -8,7 +8,7 @@ use Rattle.expansion.specs.Bridged.{EachBridged, EachBridgedIn, Fresh, each, eac
 use Rattle.expansion.specs.Grown.{Held}
 use Rattle.expansion.specs.GrownLaws.{depth_in, grown_in_is, held_each, held_each_once, held_in, held_once}
 use Rattle.expansion.specs.Read.{model_leaves, unfit_each, unfit_in}
-use Rattle.expansion.specs.Rules.{Image, Rules}
+use Rattle.expansion.specs.Rules.{ItemChildren, Rules}
 use Rattle.user_model.specs.Model.{ModelValue}
 use Rattle.fresh_bridging.specs.ChoiceLaws.{one_choice}
 use Rattle.fresh_bridging.specs.FreshBridging.{FreshBridging, leaves_of}
@@ -51,7 +51,7 @@ module _ {Item Entry : Type 0} {rules : Rules Item Entry} where
 
   -- ---- a model
 
-  abbrev pub held_model : {model : Image Item} → Fresh rules model → ModelHeld Item Entry
+  abbrev pub held_model : {model : ItemChildren Item} → Fresh rules model → ModelHeld Item Entry
   held_model fresh = record {
     groups = held_each fresh.groups;
     others = held_in fresh.others;
@@ -72,7 +72,7 @@ module _ {Item Entry : Type 0} {rules : Rules Item Entry} where
       → held_others inner items trees ≡ held_others e items others)
       same (λ others. ap₂ (λ h u. (h, u)) (held_in_once trees others) (unfit_in_once trees others))
 
-  pub fresh_once : (model : Image Item) (one other : Fresh rules model)
+  pub fresh_once : (model : ItemChildren Item) (one other : Fresh rules model)
       → held_model one ≡ held_model other
   fresh_once model one other =
       let groups = held_each_once one.groups other.groups in

@@ -18,7 +18,7 @@ use Rattle.item_core.specs.declared.kind.Kind.{Kind}
 use Rattle.item_core.specs.declared.kind.TheConstants.{KINDS}
 use Rattle.item_core.specs.Edge.{kinds_in}
 use Rattle.item_core.specs.Kind.{kind_eq, kind_number}
-use Rattle.fresh_bridging.specs.TableLaws.{IsEntryOf, entry_of, equal_kinds, kind_stands, same_kind, usable_family}
+use Rattle.fresh_bridging.specs.TableLaws.{IsEdgeEntry, entry_of, equal_kinds, kind_stands, same_kind, usable_family}
 use Rattle.fresh_bridging.specs.TheRules.{AreChoices, IsChoice, Setting, edges_on, graph_of, is_usable}
 
 -- ---- counting
@@ -162,7 +162,7 @@ module _ (setting : Setting) (costly : IsCostly (graph_of setting)) where
     pub record LeadsDown (kind : Kind) (n : ℕ) : Type 0 where
       pub row : EdgeRow
       pub entry : EdgeEntry
-      pub is_entry : IsEntryOf n row entry
+      pub is_entry : IsEdgeEntry n row entry
       pub source : kind ≡ entry.source
       pub family : is_usable setting entry.family ≡ true
       pub below :

@@ -40,7 +40,7 @@ equal_kinds a b = refl
 -- ---- the rows of the table
 
 -- the row of an edge in the graph, and its entry
-pub record IsEntryOf (n : ℕ) (row : EdgeRow) (entry : EdgeEntry) : Type 0 where
+pub record IsEdgeEntry (n : ℕ) (row : EdgeRow) (entry : EdgeEntry) : Type 0 where
   pub here : slice_get EDGES n ≡ Some entry
   pub edge : edge_at n ≡ entry.edge
   pub entry_is : edge_entry entry.edge ≡ entry
@@ -83,7 +83,7 @@ from_mapped f xs n y e = by (slice_get xs n) refl
     by (Some x) is = (x, is, same_Some (f x) y (sym (mapped_at f xs n x is) ∙ e))
 
 pub entry_of : (n : ℕ) (row : EdgeRow) → slice_get EDGE_ROWS n ≡ Some row
-    → (entry : EdgeEntry) × IsEntryOf n row entry
+    → (entry : EdgeEntry) × IsEdgeEntry n row entry
 entry_of n row e =
     let found = from_mapped said EDGES n (told row)
     (ap (λ l. slice_get l n) rows_agree ∙ mapped_at told EDGE_ROWS n row e) in (

@@ -7,7 +7,7 @@ use Rattle.bridge_graph.specs.Hypergraph.{Hypergraph, IsSupported, hypergraph_of
 use Rattle.bridge_graph.specs.Tree.{IsFirstEdge, IsTreeless}
 use Rattle.bridge_graph.specs.declared.Choice.{Choice}
 use Rattle.bridge_graph.specs.declared.Choice.TheVariants.{By, Missing, Native}
-use Rattle.expansion.specs.Rules.{Image, Rules}
+use Rattle.expansion.specs.Rules.{ItemChildren, Rules}
 use Rattle.aff_core.specs.Function.{Function, negated}
 use Rattle.item_core.specs.declared.edge.Edge.{Edge}
 use Rattle.item_core.specs.declared.edge.Edge.TheVariants.{E1}
@@ -98,7 +98,7 @@ image_fits edge item = fits_by (family_of (edge_at edge)) item
 -- ---- the rules
 
 -- the children: groups, and then the rows and the objective
-abbrev pub children_by : ℕ → Item → Image Item
+abbrev pub children_by : ℕ → Item → ItemChildren Item
 children_by edge item =
     let image = image_of (edge_at edge) item in
     record { groups = image.groups; others = image.rows ++ listed image.objective }

@@ -5,7 +5,7 @@ use Rattle.std.specs.Prelude.{cond, nat_eq, nat_lt}
 use Rattle.std.proofs.lemmas.Bool.{cases_lt, cond-false, cond-true, ne_eqb}
 use Rattle.generated_script.specs.Generator.{after}
 use Rattle.generated_script.proofs.Draws.{after_added}
-use Rattle.generated_script.specs.Numbers.{Numbers}
+use Rattle.generated_script.specs.ScriptNumbers.{ScriptNumbers}
 use Rattle.generated_script.specs.Parts.{draws_before, draws_of, line_count, part_at, part_behind_rows}
 use Rattle.generated_script.specs.Script.{line_at, script_line, state_before, text_of}
 use Rattle.generated_script.specs.declared.parts.Part.{Part}
@@ -13,14 +13,14 @@ use Rattle.generated_script.specs.declared.parts.Part.TheVariants.{Attach, Edit,
 
 -- ---- what line k is
 
-in_variables : (n : Numbers) (k : ℕ) → k < n.vars → part_at n k ≡ Variable k
+in_variables : (n : ScriptNumbers) (k : ℕ) → k < n.vars → part_at n k ≡ Variable k
 unfolding part_at
 in_variables n k low =
     cond-true (nat_lt k n.vars) (Variable k)
     (cond (nat_lt k (n.vars + n.rows)) (Row (k - n.vars))
     (part_behind_rows n (k - (n.vars + n.rows)))) (lt-ltb k n.vars low)
 
-behind_variables : (n : Numbers) (k : ℕ) → n.vars ≤ k
+behind_variables : (n : ScriptNumbers) (k : ℕ) → n.vars ≤ k
     → part_at n k ≡ cond (nat_lt k (n.vars + n.rows)) (Row (k - n.vars))
     (part_behind_rows n (k - (n.vars + n.rows)))
 unfolding part_at
@@ -29,14 +29,14 @@ behind_variables n k low =
     (cond (nat_lt k (n.vars + n.rows)) (Row (k - n.vars))
     (part_behind_rows n (k - (n.vars + n.rows)))) (le-ltb k n.vars low)
 
-in_rows : (n : Numbers) (k : ℕ) → n.vars ≤ k → k < n.vars + n.rows
+in_rows : (n : ScriptNumbers) (k : ℕ) → n.vars ≤ k → k < n.vars + n.rows
     → part_at n k ≡ Row (k - n.vars)
 in_rows n k low high =
     behind_variables n k low
     ∙ cond-true (nat_lt k (n.vars + n.rows)) (Row (k - n.vars))
     (part_behind_rows n (k - (n.vars + n.rows))) (lt-ltb k (n.vars + n.rows) high)
 
-behind_rows : (n : Numbers) (k j : ℕ) → k ≡ n.vars + n.rows + j
+behind_rows : (n : ScriptNumbers) (k j : ℕ) → k ≡ n.vars + n.rows + j
     → part_at n k ≡ part_behind_rows n j
 behind_rows n k j is =
     let low : n.vars ≤ k = omega (arith, is) in
@@ -48,7 +48,7 @@ behind_rows n k j is =
     ∙ ap (part_behind_rows n) left
 
 -- line j + 2 behind the rows
-behind_attach : (n : Numbers) (j : ℕ)
+behind_attach : (n : ScriptNumbers) (j : ℕ)
     → part_behind_rows n (j + 2) ≡ cond (nat_lt (j + 2) (n.edits + 2)) (Edit (j + 2 - 2)) Optimize
 behind_attach n j =
     let later : Part = cond (nat_lt (j + 2) (n.edits + 2)) (Edit (j + 2 - 2)) Optimize in
@@ -56,7 +56,7 @@ behind_attach n j =
     (ne_eqb (j + 2) 0 (λ e. omega (arith, e)))
     ∙ cond-false (nat_eq (j + 2) 1) Attach later (ne_eqb (j + 2) 1 (λ e. omega (arith, e)))
 
-in_edits : (n : Numbers) (j : ℕ) → j < n.edits → part_behind_rows n (j + 2) ≡ Edit j
+in_edits : (n : ScriptNumbers) (j : ℕ) → j < n.edits → part_behind_rows n (j + 2) ≡ Edit j
 in_edits n j low =
     let less : j + 2 < n.edits + 2 = omega (arith, low) in
     let left : j + 2 - 2 ≡ j = omega arith in
@@ -65,7 +65,7 @@ in_edits n j low =
     (lt-ltb (j + 2) (n.edits + 2) less)
     ∙ ap Edit left
 
-at_end : (n : Numbers) (j : ℕ) → n.edits ≤ j → part_behind_rows n (j + 2) ≡ Optimize
+at_end : (n : ScriptNumbers) (j : ℕ) → n.edits ≤ j → part_behind_rows n (j + 2) ≡ Optimize
 at_end n j high =
     let more : n.edits + 2 ≤ j + 2 = omega (arith, high) in
     behind_attach n j
@@ -75,7 +75,7 @@ at_end n j high =
 -- ---- how many draws are before it
 
 -- up to the objective
-before_rows : (n : Numbers) (k : ℕ) → n.vars ≤ k → k ≤ n.vars + n.rows
+before_rows : (n : ScriptNumbers) (k : ℕ) → n.vars ≤ k → k ≤ n.vars + n.rows
     → draws_before n (part_at n k) ≡ 7 * (k - n.vars)
 before_rows n k low high = elim (cases_lt k (n.vars + n.rows)) [
   | inl less ↦ ap (draws_before n) (in_rows n k low less)
@@ -83,7 +83,7 @@ before_rows n k low high = elim (cases_lt k (n.vars + n.rows)) [
       ∙ (let same : 7 * n.rows ≡ 7 * (k - n.vars) = omega (arith, high, last) in same)
 ]
 
-before_variables : (n : Numbers) (k : ℕ) → k ≤ n.vars → draws_before n (part_at n k) ≡ 0
+before_variables : (n : ScriptNumbers) (k : ℕ) → k ≤ n.vars → draws_before n (part_at n k) ≡ 0
 before_variables n k high = elim (cases_lt k n.vars) [
   | inl less ↦ ap (draws_before n) (in_variables n k less)
   | inr last ↦ before_rows n k (omega (arith, last)) (omega (arith, high))
@@ -91,7 +91,7 @@ before_variables n k high = elim (cases_lt k n.vars) [
 ]
 
 -- from the first edit on
-before_edits : (n : Numbers) (k j : ℕ) → k ≡ n.vars + n.rows + (j + 2) → j ≤ n.edits
+before_edits : (n : ScriptNumbers) (k j : ℕ) → k ≡ n.vars + n.rows + (j + 2) → j ≤ n.edits
     → draws_before n (part_at n k) ≡ 7 * n.rows + n.vars + 2 * j
 before_edits n k j is high = elim (cases_lt j n.edits) [
   | inl less ↦ ap (draws_before n) (behind_rows n k (j + 2) is ∙ in_edits n j less)
@@ -102,16 +102,16 @@ before_edits n k j is high = elim (cases_lt j n.edits) [
 
 -- ---- a line's draws are made
 
-abbrev Moves : Numbers → ℕ → Type 0
+abbrev Moves : ScriptNumbers → ℕ → Type 0
 Moves n k = draws_before n (part_at n k) + draws_of n (part_at n k)
     ≡ draws_before n (part_at n (k + 1))
 
 -- by what the line is
-moves_at : (n : Numbers) (k : ℕ) (part : Part) → part_at n k ≡ part
+moves_at : (n : ScriptNumbers) (k : ℕ) (part : Part) → part_at n k ≡ part
     → draws_before n part + draws_of n part ≡ draws_before n (part_at n (k + 1)) → Moves n k
 moves_at n k part is moved = ap (λ p. draws_before n p + draws_of n p) is ∙ moved
 
-moves_behind : (n : Numbers) (k j : ℕ) → k ≡ n.vars + n.rows + (j + 2) → k < line_count n
+moves_behind : (n : ScriptNumbers) (k j : ℕ) → k ≡ n.vars + n.rows + (j + 2) → k < line_count n
     → Moves n k
 moves_behind n k j is low = elim (cases_lt j n.edits) [
   | inl less ↦ moves_at n k (Edit j) (behind_rows n k (j + 2) is ∙ in_edits n j less)
@@ -126,7 +126,7 @@ moves_behind n k j is low = elim (cases_lt j n.edits) [
       same ∙ sym (ap (draws_before n) next))
 ]
 
-moves : (n : Numbers) (k : ℕ) → k < line_count n → Moves n k
+moves : (n : ScriptNumbers) (k : ℕ) → k < line_count n → Moves n k
 moves n k low = elim (cases_lt k n.vars) [
   | inl less ↦ moves_at n k (Variable k) (in_variables n k less)
       (sym (before_variables n (k + 1) (omega (arith, less))))
@@ -148,7 +148,7 @@ moves n k low = elim (cases_lt k n.vars) [
 ]
 
 -- the draws of a line lead to the state before the next
-pub next_state : (n : Numbers) (k : ℕ) → k < line_count n
+pub next_state : (n : ScriptNumbers) (k : ℕ) → k < line_count n
     → after (draws_of n (part_at n k)) (state_before n k) ≡ state_before n (k + 1)
 unfolding state_before
 next_state n k low =
@@ -156,27 +156,27 @@ next_state n k low =
     ∙ ap (λ draws. after draws n.seed) (moves n k low)
 
 -- the first line needs none
-pub first_state : (n : Numbers) → n.seed ≡ state_before n 0
+pub first_state : (n : ScriptNumbers) → n.seed ≡ state_before n 0
 unfolding state_before
 first_state n = sym (ap (λ draws. after draws n.seed) (before_variables n 0 (omega arith)))
 
 -- ---- what the code makes
 
-pub moves_on : (n : Numbers) (k : ℕ) (part : Part) (s s' : ℕ) → k < line_count n
+pub moves_on : (n : ScriptNumbers) (k : ℕ) (part : Part) (s s' : ℕ) → k < line_count n
     → part ≡ part_at n k → s ≡ state_before n k → s' ≡ after (draws_of n part) s
     → s' ≡ state_before n (k + 1)
 moves_on n k part s s' low is at moved =
     moved ∙ ap (λ p. after (draws_of n p) s) is ∙ ap (after (draws_of n (part_at n k))) at
     ∙ next_state n k low
 
-pub starts_at : (n : Numbers) (k : ℕ) (part : Part) (draws seed s : ℕ) → part ≡ part_at n k
+pub starts_at : (n : ScriptNumbers) (k : ℕ) (part : Part) (draws seed s : ℕ) → part ≡ part_at n k
     → draws ≡ draws_before n part → seed ≡ n.seed → s ≡ after draws seed → s ≡ state_before n k
 unfolding state_before
 starts_at n k part draws seed s is counted same at =
     at ∙ ap (λ d. after d seed) (counted ∙ ap (draws_before n) is)
     ∙ ap (after (draws_before n (part_at n k))) same
 
-pub line_is : (n : Numbers) (k : ℕ) (part : Part) (s : ℕ) (blank items text : List ℕ)
+pub line_is : (n : ScriptNumbers) (k : ℕ) (part : Part) (s : ℕ) (blank items text : List ℕ)
     → k < line_count n → part ≡ part_at n k → s ≡ state_before n k → blank ≡ []
     → items ≡ blank ++ text_of n part s → text ≡ items → Some text ≡ script_line n k
 line_is n k part s blank items text low is at none pushed whole =

@@ -1,4 +1,4 @@
-pub mod Numbers
+pub mod ScriptNumbers
 pub mod Generator
 pub mod Jump
 pub mod Parts

@@ -12,7 +12,7 @@ use Rattle.std.specs.Prelude.{ℕ, ◌+◌, ◌%◌, List, ◌++◌, Option, Som
 use Rattle.std.specs.Coded.{Coded, code_by, coded×, coded_ℕ}
 use Rattle.std.specs.List.{range_with_len}
 use Rattle.generated_script.specs.Generator.{after, draw, step}
-use Rattle.generated_script.specs.Numbers.{Numbers, numbers_code}
+use Rattle.generated_script.specs.ScriptNumbers.{ScriptNumbers, numbers_code}
 use Rattle.generated_script.specs.Parts.{draws_before, line_count, part_at}
 use Rattle.generated_script.specs.declared.parts.Part.{Part}
 use Rattle.generated_script.specs.declared.parts.Part.TheVariants.{Attach, Edit, Objective, Optimize, Row, Variable}
@@ -49,7 +49,7 @@ abbrev pub edit_line : ℕ → ℕ → List ℕ
 edit_line rows s = bounded (codes "set r") (draw s % rows + 1) (draw (step s) % 20)
 
 -- a line, by the state before it
-unfoldable pub text_of : Numbers → Part → ℕ → List ℕ
+unfoldable pub text_of : ScriptNumbers → Part → ℕ → List ℕ
 text_of n (Variable i) s = variable_line i
 text_of n (Row j) s = row_line n.vars j s
 text_of n Objective s = objective_line n.vars s
@@ -58,31 +58,31 @@ text_of n (Edit e) s = edit_line n.rows s
 text_of n Optimize s = codes "optimize"
 
 -- the state before line k
-unfoldable pub state_before : Numbers → ℕ → ℕ
+unfoldable pub state_before : ScriptNumbers → ℕ → ℕ
 state_before n k = after (draws_before n (part_at n k)) n.seed
 
 -- line k
-abbrev pub line_at : Numbers → ℕ → List ℕ
+abbrev pub line_at : ScriptNumbers → ℕ → List ℕ
 line_at n k = text_of n (part_at n k) (state_before n k)
 
 -- line k of the script, and nothing past its end
-abbrev pub script_line : Numbers → ℕ → Option (List ℕ)
+abbrev pub script_line : ScriptNumbers → ℕ → Option (List ℕ)
 script_line n k = if nat_lt k (line_count n) then Some (line_at n k) else None
 
 -- all lines
-abbrev pub script : Numbers → List (List ℕ)
+abbrev pub script : ScriptNumbers → List (List ℕ)
 script n = map (line_at n) (range_with_len 0 (line_count n))
 
 -- ---- one line after another
 
 -- the numbers, and the number of the next line
 pub record ScriptFrom : Type 0 where
-  pub numbers : Numbers
+  pub numbers : ScriptNumbers
   pub next : ℕ
 
 abbrev pub script_from_code : Coded ScriptFrom
 script_from_code =
-    code_by (Numbers × ℕ) (coded× numbers_code coded_ℕ) (λ s. (s.numbers, s.next))
+    code_by (ScriptNumbers × ℕ) (coded× numbers_code coded_ℕ) (λ s. (s.numbers, s.next))
     (λ p. record { numbers = p.0; next = p.1 }) (λ _. refl)
 
 -- from the line behind the next on, where there is a next

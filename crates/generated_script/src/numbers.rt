@@ -1,6 +1,6 @@
 //! The numbers that a script is generated from.
 ghost use Rattle.std.specs.Prelude.{◌≡◌};
-ghost use Rattle.generated_script.specs.Numbers.{in_range, numbers_of};
+ghost use Rattle.generated_script.specs.ScriptNumbers.{in_range, numbers_of};
 
 use std::marker::Model;
 
@@ -16,9 +16,9 @@ pub struct Recipe {
 
 impl Model for Recipe {
     ghost use Rattle.std.specs.Prelude.{IsTrue};
-    ghost use Rattle.generated_script.specs.Numbers.{Numbers, is_in_range, numbers_code};
+    ghost use Rattle.generated_script.specs.ScriptNumbers.{ScriptNumbers, is_in_range, numbers_code};
 
-    ghost Value = { Numbers };
+    ghost Value = { ScriptNumbers };
 
     ghost coded = { numbers_code };
 

@@ -1,6 +1,6 @@
 //! The lines of a generated script, by their numbers and one after another.
 ghost use Rattle.std.specs.Prelude.{◌≡◌, IfOk, IsTrue, OnErr, OnOk};
-ghost use Rattle.generated_script.specs.Numbers.{is_in_range, numbers_of};
+ghost use Rattle.generated_script.specs.ScriptNumbers.{is_in_range, numbers_of};
 ghost use Rattle.generated_script.specs.Script.{after_line, script_line};
 
 use crate::generator::Generator;

@@ -3,7 +3,7 @@ ghost use Rattle.std.specs.Prelude.{◌≡◌, ◌++◌, OnOk, map};
 ghost use Rattle.address_map.specs.Places.{addresses};
 ghost use Rattle.item_leaves.specs.ItemLeaves.{those_of};
 
-use address_map::{AddressMap, Items};
+use address_map::{AddressMap, RankedItems};
 use aff_core::Address;
 use lists::{Memory, Sequence};
 
@@ -33,7 +33,7 @@ pub fn list_variables(
 }
 
 // Lists the addresses of these leaves.
-fn list_all(leaves: Items<'_, (Address, usize)>, list: &mut Sequence<Address>) -> Result<(), Memory>
+fn list_all(leaves: RankedItems<'_, (Address, usize)>, list: &mut Sequence<Address>) -> Result<(), Memory>
     ensures { OnOk result (list.new ≡ list.old ++ map (λ e. e.0) leaves.entry) }
 {
     for leaf in leaves {

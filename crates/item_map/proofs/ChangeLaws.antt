@@ -18,7 +18,7 @@ use Rattle.numbered_list.specs.Numbered.{IsAt, Rise, set_at}
 use Rattle.numbered_list.specs.Laws.{Rise-nil}
 use Rattle.numbered_list.specs.SetLaws.{Rise-set_at, find-set_at_other, find-set_at_same, length-set_at}
 use Rattle.item_map.specs.ItemAddresses.{is_of, item_of}
-use Rattle.item_map.specs.ItemLists.{AreInOrder, AreOf, AreOfItem, HasNone, HasRoom, HaveRoom, HaveRoomBeside, IsChangedAt, IsEmptied, IsItemWith, IsKept, IsRoomier, IsSetAt, entries_in, item_number, items_of, list_of, map_in, of_items, own, own_entries}
+use Rattle.item_map.specs.ItemLists.{AreOf, AreOfItem, AreRootsInOrder, HasNone, HasRoomAt, HaveRoom, HaveRoomBeside, IsChangedAt, IsEmptied, IsItemWith, IsKept, IsRoomier, IsSetAt, entries_in, item_number, items_of, list_of, map_in, of_items, own, own_entries}
 use Rattle.item_map.specs.declared.item_entries.ItemEntries.{ItemEntries}
 use Rattle.item_map.specs.declared.roots.ByRoot.{ByRoot}
 use Rattle.item_map.proofs.RiseLaws.{IsOwn}
@@ -51,7 +51,7 @@ module _ {V : Type 0} where
   -- ---- more room
 
   module _ (a b : ByRoot V) (more : IsRoomier a b) where
-    pub roomier_order : AreInOrder a → AreInOrder b
+    pub roomier_order : AreRootsInOrder a → AreRootsInOrder b
     roomier_order h = record {
       each = λ root. record {
         rise = subst (Rise item_number) (sym (more.same root)) (h.each root).rise;
@@ -107,8 +107,8 @@ module _ {V : Type 0} where
             ∙ find-set_at_other item_number v.number n new (items_of a root) other at
             ∙ ap (λ r. numbered.find item_number v.number (items_of a r)) (sym same)
 
-    pub set_order : AreInOrder a → AreOfItem (root_address root n) (entries_in new)
-        → (IsSome new → HasRoom a root n) → AreInOrder b
+    pub set_order : AreRootsInOrder a → AreOfItem (root_address root n) (entries_in new)
+        → (IsSome new → HasRoomAt a root n) → AreRootsInOrder b
     set_order h own room = record {
       each = λ r. same_or_not r root (AreOf r (list_of b r))
           (λ same. subst (λ s. AreOf s (list_of b s)) (sym same) here)
@@ -158,7 +158,7 @@ module _ {V : Type 0} where
 
   -- where an item was taken out, or there is room for one more, it can be put
   pub room_left : (at : Address) (a b : ByRoot V) → IsSetAt at.root at.number None a b
-      → AreInOrder a → HasRoom a at.root at.number → HasRoom b at.root at.number
+      → AreRootsInOrder a → HasRoomAt a at.root at.number → HasRoomAt b at.root at.number
   room_left at a b set h room = λ none. omega (
     arith,
     ap length set.here,
@@ -184,7 +184,7 @@ module _ {V : Type 0} where
     elsewhere = λ v ne. second.elsewhere v ne ∙ first.elsewhere v ne;
   }
 
-  module _ (at : Address) (a b : ByRoot V) (was : AreInOrder a) (is : AreInOrder b) where
+  module _ (at : Address) (a b : ByRoot V) (was : AreRootsInOrder a) (is : AreRootsInOrder b) where
     same_own : (roots : ByRoot V) (v : Address) → is_of (item_of at) v ≡ true
         → own_entries roots v ≡ own_entries roots at
     same_own roots v e =
@@ -251,7 +251,7 @@ module _ {V : Type 0} where
 
   -- the entries of an item taken out, and put back with one more, or one less
   module _ (at : Address) (a b c : ByRoot V) (entries : FinMap address_cmp V)
-      (was : AreInOrder a) (is : AreInOrder c) (out : IsChangedAt at finite.empty a b)
+      (was : AreRootsInOrder a) (is : AreRootsInOrder c) (out : IsChangedAt at finite.empty a b)
       (back : IsChangedAt at entries b c) where
     pub put_in : (x : V) → entries ≡ finite.insert (own_entries a at) at x
         → map_in c ≡ finite.insert (map_in a) at x
@@ -289,15 +289,15 @@ module _ {V : Type 0} where
 
   -- ---- the entries of an item taken out, and others put
 
-  module _ (at : Address) (a b : ByRoot V) (h : AreInOrder a)
-      (room : HasRoom a at.root at.number) where
-    pub taken_order : IsSetAt at.root at.number None a b → AreInOrder b
+  module _ (at : Address) (a b : ByRoot V) (h : AreRootsInOrder a)
+      (room : HasRoomAt a at.root at.number) where
+    pub taken_order : IsSetAt at.root at.number None a b → AreRootsInOrder b
     taken_order set =
         set_order a b at.root at.number None set tt h (none_of_item V (item_of at)) (λ some. room)
 
     pub put_order : (m : FinMap address_cmp V) (new : Option (ItemEntries V))
         → IsItemWith at.number m new → AreOfItem (item_of at) m
-        → IsSetAt at.root at.number new a b → AreInOrder b
+        → IsSetAt at.root at.number new a b → AreRootsInOrder b
     put_order m new with own set =
         set_order a b at.root at.number new set with.at h
         (subst (AreOfItem (item_of at)) (sym with.entries) own) (λ some. room)
@@ -318,7 +318,7 @@ module _ {V : Type 0} where
   at_most_one None = omega arith
   at_most_one (Some item) = omega arith
 
-  module _ (a b : ByRoot V) (root : Root) (n more : ℕ) (h : AreInOrder a) where
+  module _ (a b : ByRoot V) (root : Root) (n more : ℕ) (h : AreRootsInOrder a) where
     pub taken_room : IsSetAt root n None a b → HaveRoom a more
         → HaveRoomBeside b root
         (more + length (option_to_list (numbered.find item_number n (items_of a root)))) more
@@ -352,7 +352,8 @@ module _ {V : Type 0} where
 
   -- an item that was there is put back
   pub put_again : (at : Address) (a b : ByRoot V) (more : ℕ)
-      → HaveRoomBeside b at.root (more + length (option_to_list (own a at))) more → AreInOrder a
+      → HaveRoomBeside b at.root (more + length (option_to_list (own a at))) more
+      → AreRootsInOrder a
       → IsSome (finite.get (map_in a) at) → HaveRoomBeside b at.root (more + 1) more
   put_again at a b more room h some = by (own a at) refl
     where
@@ -374,7 +375,7 @@ module _ {V : Type 0} where
 
   -- ---- nothing
 
-  pub none_order : (roots : ByRoot V) → HasNone roots → AreInOrder roots
+  pub none_order : (roots : ByRoot V) → HasNone roots → AreRootsInOrder roots
   none_order roots none = record {
     each = λ root. record {
       rise = subst (Rise item_number) (sym (none root)) (Rise-nil item_number);

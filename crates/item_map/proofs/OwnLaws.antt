@@ -18,7 +18,7 @@ use Rattle.numbered_list.specs.Numbered as numbered
 use Rattle.numbered_list.specs.Numbered.{Rise}
 use Rattle.numbered_list.specs.Laws.{Contains-found, Rise-tail, find-first, find-past, find-rest, number_of_found}
 use Rattle.item_map.specs.ItemAddresses.{is_of, item_of}
-use Rattle.item_map.specs.ItemLists.{AreInOrder, AreOfItem, HasRoom, all_items, entries_in, entries_of, item_number, items_of, map_in, of_items, own, own_entries}
+use Rattle.item_map.specs.ItemLists.{AreOfItem, AreRootsInOrder, HasRoomAt, all_items, entries_in, entries_of, item_number, items_of, map_in, of_items, own, own_entries}
 use Rattle.item_map.specs.declared.item_entries.ItemEntries.{ItemEntries}
 use Rattle.item_map.specs.declared.roots.ByRoot.{ByRoot}
 use Rattle.item_map.proofs.RiseLaws.{IsOwn, all_rise, entries_are, own_addresses, parted, roots_of}
@@ -106,7 +106,7 @@ module _ {V : Type 0} where
 
   -- ---- in all lists
 
-  module _ (roots : ByRoot V) (h : AreInOrder roots) where
+  module _ (roots : ByRoot V) (h : AreRootsInOrder roots) where
     split : (at : Address) → those_of at (of_items (all_items roots))
         ≡ those_of at (of_items (items_of roots Variable))
         ++ (those_of at (of_items (items_of roots Group))
@@ -212,7 +212,7 @@ module _ {V : Type 0} where
 
     -- where the map has something, there is an item, and so there is room for it
     pub room_there : (at : Address) → IsSome (finite.get (map_in roots) at)
-        → HasRoom roots at.root at.number
+        → HasRoomAt roots at.root at.number
     room_there at some none = absurd (by (own roots at) refl)
       where
         by : (o : Option (ItemEntries V)) → own roots at ≡ o → ⊥

@@ -19,7 +19,7 @@ use Rattle.map_laws.specs.TestLaws.{both, first, second, less_number}
 use Rattle.numbered_list.specs.Numbered.{Rise}
 use Rattle.numbered_list.specs.Laws.{Rise-head, Rise-tail}
 use Rattle.item_map.specs.ItemAddresses.{item_of}
-use Rattle.item_map.specs.ItemLists.{AreInOrder, AreOfItem, all_items, entries_of, item_number, items_of, of_items}
+use Rattle.item_map.specs.ItemLists.{AreOfItem, AreRootsInOrder, all_items, entries_of, item_number, items_of, of_items}
 use Rattle.item_map.specs.declared.item_entries.ItemEntries.{ItemEntries}
 use Rattle.item_map.specs.declared.roots.ByRoot.{ByRoot}
 
@@ -170,7 +170,7 @@ module _ {V : Type 0} where
       ∙ ap (λ es. of_items vs ++ es) (flat_map-append entries_of gs (rs ++ os)
       ∙ ap (λ es. of_items gs ++ es) (flat_map-append entries_of rs os))
 
-  pub all_rise : (roots : ByRoot V) → AreInOrder roots
+  pub all_rise : (roots : ByRoot V) → AreRootsInOrder roots
       → T (is_sorted address_cmp (of_items (all_items roots)))
   all_rise roots h =
       subst (λ es. T (is_sorted address_cmp es)) (sym (parted roots))
@@ -203,7 +203,7 @@ module _ {V : Type 0} where
           (λ e is. low e.0 is) (of_items (items_of roots root))
           (roots_of root (items_of roots root) (h.each root).own))
 
-  pub entries_are : (roots : ByRoot V) → AreInOrder roots
+  pub entries_are : (roots : ByRoot V) → AreRootsInOrder roots
       → finite.entries (finite.from_sorted {R = address_cmp} (of_items (all_items roots)))
       ≡ of_items (all_items roots)
   entries_are roots h =

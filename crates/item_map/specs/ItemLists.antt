@@ -2,7 +2,7 @@
 -- its own entries.
 --     own_entries      the entries of the item that an address is at or below
 --     map_in           the map of all entries
---     AreInOrder       in each list numbers rise, and each address is of its item
+--     AreRootsInOrder  in each list numbers rise, and each address is of its item
 --     IsSetAt          another item stands at a number, or none
 --     IsChangedAt      the item of an address has these entries, each other the same as before
 --     HaveRoom         some more items fit, of whatever root
@@ -66,7 +66,7 @@ module _ {V : Type 0} where
     pub own : All (λ item. AreOfItem (root_address root item.number) item.entries) list.items
     pub fits : length list.items ≤ list.room
 
-  pub record AreInOrder (roots : ByRoot V) : Type 0 where
+  pub record AreRootsInOrder (roots : ByRoot V) : Type 0 where
     pub each : (root : Root) → AreOf root (list_of roots root)
 
   -- as many more items fit, of whatever root
@@ -83,7 +83,7 @@ module _ {V : Type 0} where
   -- what is kept beside the items: a map of nothing, the count of all entries, and how many more
   -- entries need no place for an item
   pub record IsKept (roots : ByRoot V) (nothing : FinMap address_cmp V) (len spare : ℕ) : Type 0 where
-    pub order : AreInOrder roots
+    pub order : AreRootsInOrder roots
     pub empty : nothing ≡ finite.empty
     pub count : len ≡ finite.len (map_in roots)
     pub room : HaveRoom roots spare
@@ -103,8 +103,8 @@ module _ {V : Type 0} where
     pub to : All (λ item. item.number ≤ last) items
 
   -- an item can be put at the number, if none stands there, without memory
-  abbrev pub HasRoom : ByRoot V → Root → ℕ → Type 0
-  HasRoom roots root n =
+  abbrev pub HasRoomAt : ByRoot V → Root → ℕ → Type 0
+  HasRoomAt roots root n =
       IsNone (find item_number n (items_of roots root))
       → length (items_of roots root) < (list_of roots root).room
 

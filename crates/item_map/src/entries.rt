@@ -5,17 +5,17 @@ ghost use Rattle.item_map.specs.ItemsLeft.{items_left};
 ghost use Rattle.item_map.specs.ItemLists.{of_items};
 
 use crate::item_entries::ItemEntries;
-use crate::items::Items;
+use crate::items::RankedItems;
 use aff_core::Address;
 use std::marker::Model;
 
 /// The items that are left, those of one root after those of the one before.
 #[derive(Drop)]
 pub struct ItemsLeft<'a, V> {
-    pub(crate) variables: numbered_list::Items<'a, ItemEntries<V>>,
-    pub(crate) groups: numbered_list::Items<'a, ItemEntries<V>>,
-    pub(crate) rows: numbered_list::Items<'a, ItemEntries<V>>,
-    pub(crate) objectives: numbered_list::Items<'a, ItemEntries<V>>,
+    pub(crate) variables: numbered_list::NumberedItems<'a, ItemEntries<V>>,
+    pub(crate) groups: numbered_list::NumberedItems<'a, ItemEntries<V>>,
+    pub(crate) rows: numbered_list::NumberedItems<'a, ItemEntries<V>>,
+    pub(crate) objectives: numbered_list::NumberedItems<'a, ItemEntries<V>>,
 }
 
 impl<'a, V> ItemsLeft<'a, V> {
@@ -39,12 +39,12 @@ impl<'a, V> ItemsLeft<'a, V> {
 
 /// The entries that are left, in the order of their addresses.
 #[derive(Drop)]
-pub struct Entries<'a, V> {
-    own: Items<'a, (Address, V)>,
+pub struct EntriesLeft<'a, V> {
+    own: RankedItems<'a, (Address, V)>,
     left: ItemsLeft<'a, V>,
 }
 
-impl<'a, V> Model for Entries<'a, V> {
+impl<'a, V> Model for EntriesLeft<'a, V> {
     ghost use Rattle.std.specs.Prelude.{List, ◌++◌};
     ghost use Rattle.std.specs.Coded.{coded_list, coded×};
     ghost use Rattle.aff_core.specs.Address.{Address, address_code};
@@ -58,16 +58,16 @@ impl<'a, V> Model for Entries<'a, V> {
     ghost view = { λ a. a.own ++ of_items (items_left a.left) };
 }
 
-impl<'a, V> Entries<'a, V> {
+impl<'a, V> EntriesLeft<'a, V> {
     // These entries, and then those of the items.
-    pub(crate) fn of(own: Items<'a, (Address, V)>, left: ItemsLeft<'a, V>) -> Entries<'a, V>
+    pub(crate) fn of(own: RankedItems<'a, (Address, V)>, left: ItemsLeft<'a, V>) -> EntriesLeft<'a, V>
         ensures { result ≡ own.entry ++ of_items (items_left left.entry) }
     {
-        Entries { own, left }
+        EntriesLeft { own, left }
     }
 }
 
-impl<'a, V> Iterator for Entries<'a, V> {
+impl<'a, V> Iterator for EntriesLeft<'a, V> {
     type Item = &'a (Address, V);
 
     ghost next_gives = { YieldsFirstRef (λ entries. entries) };

@@ -10,13 +10,13 @@ use std::marker::Model;
 /// A step goes down the tree once: a fork knows none of those above it, and a list of these would
 /// take memory.
 #[derive(Drop)]
-pub struct Items<'a, T> {
+pub struct RankedItems<'a, T> {
     list: &'a Ranked<T>,
     // of the next item
     place: usize,
 }
 
-impl<'a, T> Model for Items<'a, T> {
+impl<'a, T> Model for RankedItems<'a, T> {
     ghost use Rattle.std.specs.Prelude.{List, drop};
     ghost use Rattle.std.specs.Coded.{coded_list};
 
@@ -27,16 +27,16 @@ impl<'a, T> Model for Items<'a, T> {
     ghost view = { λ a. drop a.place a.list.now };
 }
 
-impl<'a, T> Items<'a, T> {
+impl<'a, T> RankedItems<'a, T> {
     // The items of a list from a place on.
-    pub(crate) fn starting_at(list: &'a Ranked<T>, place: usize) -> Items<'a, T>
+    pub(crate) fn starting_at(list: &'a Ranked<T>, place: usize) -> RankedItems<'a, T>
         ensures { result ≡ drop place list.now }
     {
-        Items { list, place }
+        RankedItems { list, place }
     }
 }
 
-impl<'a, T> Iterator for Items<'a, T> {
+impl<'a, T> Iterator for RankedItems<'a, T> {
     type Item = &'a T;
 
     ghost next_gives = { YieldsFirstRef (λ items. items) };

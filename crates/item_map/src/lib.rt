@@ -10,7 +10,7 @@ mod ordered;
 mod ranked;
 mod roots;
 
-pub use entries::Entries;
-pub use items::Items;
+pub use entries::EntriesLeft;
+pub use items::RankedItems;
 pub use map::ItemMap;
 pub use ordered::{Ordered, Room};

@@ -4,8 +4,8 @@ ghost use Rattle.std.specs.FinMap as finite;
 ghost use Rattle.std.specs.Option.{option_copied};
 ghost use Rattle.item_map.specs.ItemAddresses.{is_of};
 
-use crate::entries::{Entries, ItemsLeft};
-use crate::items::Items;
+use crate::entries::{EntriesLeft, ItemsLeft};
+use crate::items::RankedItems;
 use crate::ordered::{Ordered, Room};
 use crate::roots::ByRoot;
 use aff_core::Address;
@@ -79,7 +79,7 @@ impl<V> ItemMap<V> {
     }
 
     /// The addresses in their order, each with its value.
-    pub fn iter(&self) -> Entries<'_, V>
+    pub fn iter(&self) -> EntriesLeft<'_, V>
         ensures { result ≡ finite.entries self.now.entries }
     {
         let left = ItemsLeft {
@@ -88,11 +88,11 @@ impl<V> ItemMap<V> {
             rows: self.roots.rows.items.iter(),
             objectives: self.roots.objectives.items.iter(),
         };
-        Entries::of(self.nothing.iter(), left)
+        EntriesLeft::of(self.nothing.iter(), left)
     }
 
     /// The addresses at and below that of an item of the model, in their order, each with its value.
-    pub fn of_item(&self, item: &Address) -> Items<'_, (Address, V)>
+    pub fn of_item(&self, item: &Address) -> RankedItems<'_, (Address, V)>
         ensures { result ≡ filter (λ e. is_of item.now e.0) (finite.entries self.now.entries) }
     {
         if item.depth() > 0 {

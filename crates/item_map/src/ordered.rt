@@ -4,7 +4,7 @@ ghost use Rattle.std.specs.FinMap as finite;
 ghost use Rattle.std.specs.Option.{option_copied, option_map};
 ghost use Rattle.item_map.specs.Gaps.{IsGapFor, IsPlaceOf};
 
-use crate::items::Items;
+use crate::items::RankedItems;
 use crate::ranked::{Fork, Ranked};
 use aff_core::Address;
 use lists::Memory;
@@ -60,10 +60,10 @@ impl<V> Ordered<V> {
     }
 
     /// The addresses in their order, each with its value.
-    pub fn iter(&self) -> Items<'_, (Address, V)>
+    pub fn iter(&self) -> RankedItems<'_, (Address, V)>
         ensures { result ≡ finite.entries self.now }
     {
-        Items::starting_at(&self.entries, 0)
+        RankedItems::starting_at(&self.entries, 0)
     }
 }
 

@@ -4,7 +4,7 @@ ghost use Rattle.std.specs.FinMap as finite;
 ghost use Rattle.std.specs.Option.{option_copied, option_map, option_to_list};
 ghost use Rattle.numbered_list.specs.Numbered.{IsAt, find};
 ghost use Rattle.item_map.specs.ItemAddresses.{item_of};
-ghost use Rattle.item_map.specs.ItemLists.{AreInOrder, AreOfItem, HasNone, HasRoom, HaveRoom, HaveRoomBeside, IsChangedAt, IsEmptied, IsItemWith, IsRoomier, IsSetAt, item_number, items_of, list_of, own, own_entries};
+ghost use Rattle.item_map.specs.ItemLists.{AreOfItem, AreRootsInOrder, HasNone, HasRoomAt, HaveRoom, HaveRoomBeside, IsChangedAt, IsEmptied, IsItemWith, IsRoomier, IsSetAt, item_number, items_of, list_of, own, own_entries};
 
 use crate::item_entries::ItemEntries;
 use crate::one_root::OneRoot;
@@ -71,12 +71,12 @@ impl<V: Drop> ByRoot<V> {
 
     // Takes the entries out of the item that an address is at or below, where room stays for them.
     pub(crate) fn take(&mut self, at: &Address) -> Ordered<V>
-        requires order { AreInOrder self.old }
-        requires room { HasRoom self.old at.now.root at.now.number }
+        requires order { AreRootsInOrder self.old }
+        requires room { HasRoomAt self.old at.now.root at.now.number }
         ensures entries { result ≡ own_entries self.old at.now }
         ensures taken { IsChangedAt at.now finite.empty self.old self.new }
-        ensures order { AreInOrder self.new }
-        ensures room { HasRoom self.new at.now.root at.now.number }
+        ensures order { AreRootsInOrder self.new }
+        ensures room { HasRoomAt self.new at.now.root at.now.number }
         ensures spare { (more : ℕ) → HaveRoom self.old more → HaveRoomBeside self.new at.now.root
             (more + length (option_to_list (own self.old at.now))) more }
     {
@@ -88,11 +88,11 @@ impl<V: Drop> ByRoot<V> {
 
     // Puts these entries into the item that an address is at or below, in the place of its own.
     pub(crate) fn put(&mut self, at: &Address, entries: Ordered<V>)
-        requires order { AreInOrder self.old }
-        requires room { HasRoom self.old at.now.root at.now.number }
+        requires order { AreRootsInOrder self.old }
+        requires room { HasRoomAt self.old at.now.root at.now.number }
         requires own { AreOfItem (item_of at.now) entries }
         ensures put { IsChangedAt at.now entries self.old self.new }
-        ensures order { AreInOrder self.new }
+        ensures order { AreRootsInOrder self.new }
         ensures spare { (more : ℕ) → HaveRoomBeside self.old at.now.root (more + 1) more
             → HaveRoom self.new more }
     {
@@ -118,7 +118,7 @@ impl<V: Drop> ByRoot<V> {
         new: Option<ItemEntries<V>>,
     ) -> Option<ItemEntries<V>>
         requires own { IsAt item_number number new }
-        requires room { IsSome new → HasRoom self.old root number }
+        requires room { IsSome new → HasRoomAt self.old root number }
         ensures before { result ≡ find item_number number (items_of self.old root) }
         ensures set { IsSetAt root number new self.old self.new }
     {

@@ -6,7 +6,7 @@ use Rattle.std.proofs.Common.{sym, ap, ap₂, subst, ◌∙◌, true≢false}
 use Rattle.std.proofs.lemmas.List.{map-append}
 use Rattle.std.proofs.lemmas.List.Elements.{All-append, All-cons, All-nil}
 use Rattle.std.proofs.lemmas.Bool.{or_parts}
-use Rattle.bridge_face.specs.State.{State}
+use Rattle.bridge_face.specs.BridgeState.{BridgeState}
 use Rattle.bridge_set.specs.Bridges.{families_of, occur_once}
 use Rattle.fresh_bridging.specs.TableLaws.{and_first, and_second, equal_family, family_itself}
 use Rattle.item_core.specs.declared.family.Family.{Family}
@@ -45,7 +45,7 @@ one_more (g ∷ fs) f h e =
 
 -- ---- a bridge more
 
-module _ {B : Type 0} (state : B → State) where
+module _ {B : Type 0} (state : B → BridgeState) where
   pub once_more : (old new : List B) (b : B) → new ≡ old ++ b ∷ []
       → occur_once (families_of (map state old)) ≡ true
       → list_any (family_eq (state b).family) (families_of (map state old)) ≡ false
@@ -53,15 +53,16 @@ module _ {B : Type 0} (state : B → State) where
   once_more old new b is once other =
       ap (λ bs. occur_once (families_of (map state bs))) is
       ∙ ap (λ ss. occur_once (families_of ss)) (map-append state old (b ∷ []))
-      ∙ ap occur_once (map-append (λ (s : State). s.family) (map state old) (state b ∷ []))
+      ∙ ap occur_once (map-append (λ (s : BridgeState). s.family) (map state old) (state b ∷ []))
       ∙ one_more (families_of (map state old)) (state b).family once other
 
   pub none_kept_more : (old new : List B) (b : B) → new ≡ old ++ b ∷ []
-      → All (λ (s : State). s.kept ≡ finite.empty) (map state old)
-      → (state b).kept ≡ finite.empty → All (λ (s : State). s.kept ≡ finite.empty) (map state new)
+      → All (λ (s : BridgeState). s.kept ≡ finite.empty) (map state old)
+      → (state b).kept ≡ finite.empty
+      → All (λ (s : BridgeState). s.kept ≡ finite.empty) (map state new)
   none_kept_more old new b is all here =
-      subst (λ bs. All (λ (s : State). s.kept ≡ finite.empty) (map state bs)) (sym is)
-      (subst (All (λ (s : State). s.kept ≡ finite.empty)) (sym (map-append state old (b ∷ [])))
-      (All-append (λ (s : State). s.kept ≡ finite.empty) (map state old) (state b ∷ []) all
-      (All-cons (λ (s : State). s.kept ≡ finite.empty) (state b) [] here
-      (All-nil (λ (s : State). s.kept ≡ finite.empty)))))
+      subst (λ bs. All (λ (s : BridgeState). s.kept ≡ finite.empty) (map state bs)) (sym is)
+      (subst (All (λ (s : BridgeState). s.kept ≡ finite.empty)) (sym (map-append state old (b ∷ [])))
+      (All-append (λ (s : BridgeState). s.kept ≡ finite.empty) (map state old) (state b ∷ []) all
+      (All-cons (λ (s : BridgeState). s.kept ≡ finite.empty) (state b) [] here
+      (All-nil (λ (s : BridgeState). s.kept ≡ finite.empty)))))

@@ -9,7 +9,7 @@ use Rattle.bridge_set.specs.Adding.{AreFree, with_each}
 use Rattle.bridge_set.specs.Bridges.{AreKeepable, Bridges, families_of, kept_by, setting_of}
 use Rattle.bridge_set.specs.Letting.{kept_count, without_found}
 use Rattle.bridge_set.specs.Turns.{turns_of}
-use Rattle.bridge_face.specs.State.{State}
+use Rattle.bridge_face.specs.BridgeState.{BridgeState}
 use Rattle.bridge_plan.specs.Means.{Means}
 use Rattle.bridge_plan.specs.declared.plan.Plan.{Plan}
 use Rattle.found_plan.specs.Stood.{old_leaves}
@@ -19,11 +19,11 @@ use Rattle.lazy_bridge.specs.Steps.{IsChangedOf, IsHeldBy, IsPlannedOf}
 use Rattle.leaf_update.specs.Named.{NamesEach}
 use Rattle.leaf_update.specs.Others.{others_among}
 use Rattle.leaf_update.specs.Splice.{Gone, IsSplice, IsSplicedInto, KeepsIndices, spliced_model}
-use Rattle.leaf_model.specs.LeafModel.{IsChanged}
+use Rattle.leaf_model.specs.LeafModel.{IsChangeCount}
 use Rattle.leaf_model.specs.ReadThrough.{read_through}
 use Rattle.push_laws.specs.Composed.{done, free_here, keepable_here, splice_here}
 use Rattle.push_laws.specs.Edits.{AttachedEdit, IsMappedAnew}
-use Rattle.solver_store.specs.SolverModel.{Leaves, Stored}
+use Rattle.solver_store.specs.SolverModel.{Leaves, StoredLeaves}
 use Rattle.touched_items.specs.Differences.{groups_in}
 use Rattle.touched_items.specs.declared.differing.Differing.{Differing}
 
@@ -46,7 +46,7 @@ named_on mid last solver vars rows h =
     subst (λ (p : Places × Places). NamesEach (record last { vars = p.0; rows = p.1 }) solver)
     (λ i. (sym vars i, sym rows i)) back
 
-module _ (e : AttachedEdit) (bridges : Bridges) (solver : Stored) (places : AddressMap) (objective_at : Address)
+module _ (e : AttachedEdit) (bridges : Bridges) (solver : StoredLeaves) (places : AddressMap) (objective_at : Address)
     (d : Differing) (held : IsHeldBy e bridges solver places objective_at d) (standing : List Entry)
     (found : List Address) (plan : Plan) (made : IsPlannedOf e standing found plan) where
   same_kept : kept_by bridges.states ≡ kept_by e.bridges.states
@@ -91,7 +91,7 @@ module _ (e : AttachedEdit) (bridges : Bridges) (solver : Stored) (places : Addr
       (subst (AreKeepable (families_of e.bridges.states)) made.nodes (keepable_here e made.step))
 
   -- all old nodes are released
-  module _ (between : List State)
+  module _ (between : List BridgeState)
       (gone : kept_by between ≡ map (without_found found) (kept_by bridges.states)) where
     gone_step : kept_by between
         ≡ map (without_found made.step.addresses) (kept_by bridges.states)
@@ -104,7 +104,7 @@ module _ (e : AttachedEdit) (bridges : Bridges) (solver : Stored) (places : Addr
         (free_here e made.step bridges.states between same_kept gone_step)
 
     -- leaves are changed, nodes kept, and the map has what it has to
-    pub changed : (behind : Bridges) (solver_last : Stored) (places_mid places_last : AddressMap)
+    pub changed : (behind : Bridges) (solver_last : StoredLeaves) (places_mid places_last : AddressMap)
         (objective_last : Address) (n : ℕ) (gone_leaves : Gone)
         → setting_of behind ≡ setting_of bridges
         → kept_by behind.states ≡ map (with_each plan.nodes.items) (kept_by between)
@@ -136,7 +136,7 @@ module _ (e : AttachedEdit) (bridges : Bridges) (solver : Stored) (places : Addr
               (sym made.nodes) again)
               (setting_of behind) (setting ∙ ap (λ (m : Means). m.setting) held.means);
           counted =
-              subst (λ m. IsChanged (read_through places solver.leaves objective_at) m n)
+              subst (λ m. IsChangeCount (read_through places solver.leaves objective_at) m n)
               (sym (read_on places_mid places_last solver_last.leaves objective_last vars rows))
               into.counted;
           rises = into.rises;

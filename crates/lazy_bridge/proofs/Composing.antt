@@ -22,7 +22,7 @@ use Rattle.model_bridging.specs.Planned.{Planned}
 use Rattle.model_bridging.specs.declared.fault.PushFault.{PushFault}
 use Rattle.model_bridging.specs.declared.fault.PushFault.TheVariants.{Unsupported, Overflow, Memory}
 use Rattle.push_laws.specs.Edits.{AttachedEdit, HoldsBridging}
-use Rattle.solver_store.specs.SolverModel.{Stored}
+use Rattle.solver_store.specs.SolverModel.{StoredLeaves}
 use Rattle.touched_items.specs.DifferenceLaws.{HasDifferences}
 use Rattle.touched_items.specs.declared.differing.Differing.{Differing}
 use Rattle.user_model.specs.Model.{ModelValue}
@@ -38,7 +38,7 @@ handed_on old model undos after start (Ok n) f new is h = absurd is
 handed_on old model undos after start (Err g) f new is h =
     subst (λ x. IsPushedTo old model undos after start (Err x) new) (sym is) h
 
-module _ (bridges : Bridges) (solver : Stored) (places : AddressMap) (objective_at : Address)
+module _ (bridges : Bridges) (solver : StoredLeaves) (places : AddressMap) (objective_at : Address)
     (model : ModelValue) (undos : List Undo) (after : ModelValue)
     (start : IsStart bridges solver places objective_at model undos after) where
   -- where nothing but turns was changed
@@ -120,7 +120,7 @@ module _ (bridges : Bridges) (solver : Stored) (places : AddressMap) (objective_
     refused reads later reads_later Memory same h = ap (λ (m : Means). m.setting) same
 
     pub pushed : (standing : List Entry) (found : List Address) (plan : Plan)
-        (made : IsPlannedOf edit standing found plan) (later last : Bridges) (solver_last : Stored)
+        (made : IsPlannedOf edit standing found plan) (later last : Bridges) (solver_last : StoredLeaves)
         (places_last : AddressMap) (objective_last : Address) (n : ℕ)
         (reads reads_listed reads_last : ℕ)
         → means_of later ≡ means_of bridges → setting_of last ≡ setting_of later
@@ -288,7 +288,7 @@ module _ (old : Owned) (undos : List Undo) (after : ModelValue) (sound : AreSoun
     is_kept_true named = (
       subst (λ t. supports_native t ≡ true)
           (sym (ap (λ (m : Means). m.setting.table) turned.means)) native,
-      subst (λ (p : AddressMap × Stored). NamesEach p.0 p.1.leaves)
+      subst (λ (p : AddressMap × StoredLeaves). NamesEach p.0 p.1.leaves)
           (λ i. (sym turned.places i, sym turned.solver i)) named,
     )
 

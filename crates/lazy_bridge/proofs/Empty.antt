@@ -6,7 +6,7 @@ use Rattle.std.proofs.Common.{sym, ap, subst, ◌∙◌}
 use Rattle.std.proofs.lemmas.List.Elements.{All-map}
 use Rattle.std.proofs.lemmas.Option.{none-some}
 use Rattle.address_map.specs.AddressMap.{AddressMap}
-use Rattle.bridge_face.specs.State.{State, all_gone}
+use Rattle.bridge_face.specs.BridgeState.{BridgeState, all_gone}
 use Rattle.leaf_update.specs.Named.{NamesEach, ObjectiveNames}
 use Rattle.solver_store.specs.SolverModel.{Leaves, no_leaves}
 use Rattle.std_form.specs.NativeLaws.{exact_empty}
@@ -30,7 +30,7 @@ pub its_calls : (leaves : Leaves) (calls : _) → leaves ≡ no_leaves calls
     → leaves ≡ no_leaves leaves.calls
 its_calls leaves calls none = none ∙ ap no_leaves (sym (ap (λ (l : Leaves). l.calls) none))
 
-pub none_kept : (states : List State) → All (λ (s : State). s.kept ≡ finite.empty)
+pub none_kept : (states : List BridgeState) → All (λ (s : BridgeState). s.kept ≡ finite.empty)
     (map all_gone states)
 none_kept states =
-    All-map (λ (s : State). s.kept ≡ finite.empty) all_gone states (λ k d end. refl)
+    All-map (λ (s : BridgeState). s.kept ≡ finite.empty) all_gone states (λ k d end. refl)

@@ -28,7 +28,7 @@ use Rattle.table_change.specs.Given.{AreGiven, is_given}
 use Rattle.touched_items.specs.DifferenceLaws.{objective_address}
 use Rattle.touched_items.specs.Differences.{addresses_in, differing_addresses, groups_in, rows_in}
 use Rattle.touched_items.specs.IndexLaws.{other_names, row_names}
-use Rattle.touched_items.specs.declared.differing.Contents.{Contents}
+use Rattle.touched_items.specs.declared.differing.ModelItems.{ModelItems}
 use Rattle.touched_items.specs.declared.differing.Differing.{Differing}
 use Rattle.user_model.specs.Model.{ModelValue, objective_mentions}
 use Rattle.user_model.specs.Valid.{IsValid}
@@ -118,7 +118,7 @@ module _ (changed : Kind → Bool) (kept : Address → Bool) (model : ModelValue
         by false later = later
 
     -- the addresses of what is given are those of the given items
-    pub addresses_are : (c : Contents) → AreGiven changed kept model c
+    pub addresses_are : (c : ModelItems) → AreGiven changed kept model c
         → addresses_in c ≡ map (λ (i : Item). i.at) (filter Given (items_of model))
     addresses_are c are =
         ap₂ ◌++◌
@@ -147,7 +147,7 @@ module _ (changed : Kind → Bool) (kept : Address → Bool) (model : ModelValue
       given_there at c =
           by (Contains-append_cases (addresses_in d.before) (addresses_in d.after) at c)
         where
-          from : (c : Contents) → AreGiven changed kept model c → Contains (addresses_in c) at
+          from : (c : ModelItems) → AreGiven changed kept model c → Contains (addresses_in c) at
               → (i : Item) × Contains (items_of model) i × (Given i ≡ true) × (i.at ≡ at)
           from c are k =
               let r = contains_mapped (λ (i : Item). i.at) (filter Given (items_of model)) at
@@ -199,7 +199,7 @@ module _ (changed : Kind → Bool) (kept : Address → Bool) (model : ModelValue
 
       -- ---- beside them
 
-      groups_at : (c : Contents) → AreGiven changed kept model c
+      groups_at : (c : ModelItems) → AreGiven changed kept model c
           → AreGroupsAt model (differing_addresses d) (groups_in c)
       groups_at c are =
           same_filter (is_found (differing_addresses d)) Given (model_image model).groups
@@ -212,7 +212,7 @@ module _ (changed : Kind → Bool) (kept : Address → Bool) (model : ModelValue
           ∙ ap (map group_item) (sym are.groups)
 
       -- what is named by what is given is named by the model
-      named_given : (c : Contents) → AreGiven changed kept model c → (var at : Address)
+      named_given : (c : ModelItems) → AreGiven changed kept model c → (var at : Address)
           → contents_name c var at ≡ true → other_names model var at ≡ true
       named_given c are var at t =
           either (list_any (λ r. row_names r var at) (rows_in c)) _ _ _ t

@@ -6,28 +6,28 @@ use Rattle.std.proofs.Common.{arith, ap, subst, sym, ◌∙◌}
 use Rattle.std.proofs.lemmas.List.{length-append, length-map}
 use Rattle.local_laws.specs.Unlisted.{LeadBackTo, entries_of}
 use Rattle.numbered_list.specs.declared.change.Change.{Change}
-use Rattle.touched_items.specs.DifferenceLaws.{HasDifferences, Lists, all_differences}
+use Rattle.touched_items.specs.DifferenceLaws.{HasDifferences, UndosList, all_differences}
 use Rattle.touched_items.specs.Differences.{AreDiffering, count_listed, listed_groups, listed_rows}
 use Rattle.touched_items.specs.FirstChanges.{AreFirst, first_objective}
 use Rattle.touched_items.specs.declared.differing.Differing.{Differing}
-use Rattle.touched_items.specs.declared.listed.Listed.{Listed}
+use Rattle.touched_items.specs.declared.listed.ListedChanges.{ListedChanges}
 use Rattle.user_model.specs.Model.{ModelValue}
 use Rattle.user_model.specs.declared.group.Group.{Group}
 use Rattle.user_model.specs.declared.objective.Objective.{Objective}
 use Rattle.user_model.specs.declared.row.Row.{Row}
 use Rattle.user_model.specs.declared.undo.Undo.{Undo}
 
-pub lists : (undos : List Undo) (listed : Listed)
+pub lists : (undos : List Undo) (listed : ListedChanges)
     → AreFirst (flat_map (λ u. u.groups) undos) (listed_groups listed)
     → AreFirst (flat_map (λ u. u.rows) undos) (listed_rows listed)
-    → option_copied listed.objective ≡ first_objective undos → Lists undos listed
+    → option_copied listed.objective ≡ first_objective undos → UndosList undos listed
 lists undos listed groups rows objective = record {
   groups = groups;
   rows = rows;
   objective = objective;
 }
 
-module _ (undos : List Undo) (listed : Listed) (are : Lists undos listed) where
+module _ (undos : List Undo) (listed : ListedChanges) (are : UndosList undos listed) where
   pub differs : {E : Type 0} (after : ModelValue) (r : Result Differing E)
       → IfOk r (AreDiffering listed after)
       → IfOk r (λ d. (model : ModelValue) → LeadBackTo model undos after

@@ -7,7 +7,7 @@ use Rattle.address_map.specs.Noted.{Noted}
 use Rattle.aff_core.specs.Address.{Address}
 use Rattle.fresh_bridging.specs.Entries.{Entry, expression_in, function_in, is_kept}
 use Rattle.lazy_bridge.specs.Expressed.{SetsAt, expr_at, is_marked}
-use Rattle.lazy_bridge.specs.Mentioned.{Notes, contents_name, is_noted}
+use Rattle.lazy_bridge.specs.Mentioned.{NotesPairs, contents_name, is_noted}
 use Rattle.lazy_bridge.proofs.Names.{still_noted}
 use Rattle.leaf_update.specs.Others.{among}
 use Rattle.push_laws.specs.Edits.{AttachedEdit, IsMappedAnew}
@@ -82,8 +82,8 @@ pub mapped_anew : (old forgotten expressed without last : AddressMap) (d : Diffe
     → SetsAt (λ v. is_kept (expression_in standing v)) (variables_in (groups_in d.after))
     (is_marked forgotten) (is_marked expressed)
     → last.exprs ≡ expressed.exprs → last.kept ≡ expressed.kept
-    → Notes (contents_name d.before) false old.noted without.noted
-    → Notes (contents_name d.after) true without.noted last.noted
+    → NotesPairs (contents_name d.before) false old.noted without.noted
+    → NotesPairs (contents_name d.after) true without.noted last.noted
     → (e : AttachedEdit) → old.exprs ≡ e.places.exprs → old.kept ≡ e.places.kept
     → old.noted ≡ e.places.noted → d ≡ e.d → IsMappedAnew e standing last
 mapped_anew old forgotten expressed without last d standing gone unmarked put marked exprs kept

@@ -11,7 +11,7 @@ use Rattle.aff_core.specs.declared.root.Root.TheVariants as root
 use Rattle.lazy_bridge.specs.Mentioned.{contents_name, is_noted, other_names, row_names}
 use Rattle.push_laws.specs.Edits.{AttachedEdit}
 use Rattle.touched_items.specs.Differences.{rows_in}
-use Rattle.touched_items.specs.declared.differing.Contents.{Contents}
+use Rattle.touched_items.specs.declared.differing.ModelItems.{ModelItems}
 use Rattle.user_model.specs.Model.{objective_mentions}
 
 -- ---- two lists, from the first to the last
@@ -63,7 +63,7 @@ keys_name (t ∷ ts) (u ∷ us) long e v =
 
 -- ---- rows and an objective
 
-pub contents_alike : (one other : Contents)
+pub contents_alike : (one other : ModelItems)
     → ((var at : Address) → list_any (λ row. row_names row var at) (rows_in one)
     ≡ list_any (λ row. row_names row var at) (rows_in other))
     → ((var : Address) → option_map_or (objective_mentions var) (option_copied one.objective) false

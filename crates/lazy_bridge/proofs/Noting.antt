@@ -10,10 +10,10 @@ use Rattle.aff_core.specs.Address.{Address, address_cmp, address_eq, address_eq-
 use Rattle.aff_core.specs.declared.root.Root.TheVariants as root
 use Rattle.aff_core.specs.Function.{Function, terms_of}
 use Rattle.aff_core.specs.KeyOrder.{address_order, other_key, same_key}
-use Rattle.lazy_bridge.specs.Mentioned.{IsIndexOf, Notes, contents_name, is_noted, row_names}
+use Rattle.lazy_bridge.specs.Mentioned.{IsMentionIndex, NotesPairs, contents_name, is_noted, row_names}
 use Rattle.lazy_bridge.proofs.Sets.{IsSetting, setting_done, setting_more}
 use Rattle.touched_items.specs.Differences.{rows_in}
-use Rattle.touched_items.specs.declared.differing.Contents.{Contents}
+use Rattle.touched_items.specs.declared.differing.ModelItems.{ModelItems}
 use Rattle.user_model.specs.Functions.{has_term}
 use Rattle.user_model.specs.Model.{ModelValue, objective_mentions}
 use Rattle.user_model.specs.declared.objective.Objective.{Objective}
@@ -41,7 +41,7 @@ any_both b p (x ∷ xs) = ap (λ r. (b && p x) || r) (any_both b p xs) ∙ and_o
 -- ---- a loop over what names
 
 pub same_notes : (f g : Address → Address → Bool) (told : Bool) (old new : Noted)
-    → ((v at : Address) → f v at ≡ g v at) → Notes f told old new → Notes g told old new
+    → ((v at : Address) → f v at ≡ g v at) → NotesPairs f told old new → NotesPairs g told old new
 same_notes f g told old new same h v at =
     h v at ∙ ap (λ b. cond b told (is_noted old v at)) (same v at)
 
@@ -61,14 +61,14 @@ module _ {X : Type 0} (f : X → Address → Address → Bool) (told : Bool) whe
       IsSetting here (λ _. told) all left (notes_at old) (notes_at now)
 
   pub noting_more : (all left rest : List X) (x : X) (old now after : Noted)
-      → IsNoting all left old now → left ≡ x ∷ rest → Notes (f x) told now after
+      → IsNoting all left old now → left ≡ x ∷ rest → NotesPairs (f x) told now after
       → IsNoting all rest old after
   noting_more all left rest x old now after h next notes =
       setting_more here (λ _. told) all left rest x (notes_at old) (notes_at now)
       (notes_at after) h next (λ k. notes k.0 k.1)
 
   pub noting_done : (all left : List X) (old now : Noted) → IsNoting all left old now → left ≡ []
-      → Notes (any_names all) told old now
+      → NotesPairs (any_names all) told old now
   noting_done all left old now h none v at =
       setting_done here (λ _. told) all left (notes_at old) (notes_at now) h none (v, at)
 
@@ -114,7 +114,7 @@ function_names item f v at = address_eq at item && has_term v f
 
 pub vars_done : (item : Address) (told : Bool) (vars left : List Address) (old now : Noted)
     → IsNoting (var_names item) told vars left old now → left ≡ []
-    → Notes (λ v at. address_eq at item && list_any (address_eq v) vars) told old now
+    → NotesPairs (λ v at. address_eq at item && list_any (address_eq v) vars) told old now
 vars_done item told vars left old now h none =
     same_notes (any_names (var_names item) told vars)
     (λ v at. address_eq at item && list_any (address_eq v) vars) told old now
@@ -123,7 +123,7 @@ vars_done item told vars left old now h none =
 
 pub functions_done : (item : Address) (told : Bool) (fs left : List Function) (old now : Noted)
     → IsNoting (function_names item) told fs left old now → left ≡ []
-    → Notes (λ v at. address_eq at item && list_any (has_term v) fs) told old now
+    → NotesPairs (λ v at. address_eq at item && list_any (has_term v) fs) told old now
 functions_done item told fs left old now h none =
     same_notes (any_names (function_names item) told fs)
     (λ v at. address_eq at item && list_any (has_term v) fs) told old now
@@ -132,7 +132,7 @@ functions_done item told fs left old now h none =
 
 pub terms_done : (item : Address) (told : Bool) (f : Function) (left : List _) (old now : Noted)
     → IsNoting (term_names item) told (terms_of f) left old now → left ≡ []
-    → Notes (λ v at. address_eq at item && has_term v f) told old now
+    → NotesPairs (λ v at. address_eq at item && has_term v f) told old now
 terms_done item told f left old now h none =
     same_notes (any_names (term_names item) told (terms_of f))
     (λ v at. address_eq at item && has_term v f) told old now
@@ -152,15 +152,15 @@ both_noted false false = refl
 -- nothing was noted, then the rows, and then the objective
 pub indexed : (model : ModelValue) (given : List Row) (objective : Objective)
     (start rows all : Noted) → given ≡ model.rows → objective ≡ model.objective
-    → Notes (λ v at. list_any (λ row. row_names row v at) given) true start rows
+    → NotesPairs (λ v at. list_any (λ row. row_names row v at) given) true start rows
     → start ≡ finite.empty
-    → Notes (λ v at. address_eq at (root_address root.Objective 0)
+    → NotesPairs (λ v at. address_eq at (root_address root.Objective 0)
     && objective_mentions v objective) true rows all
-    → IsIndexOf model all
+    → IsMentionIndex model all
 indexed model given objective start rows all same_rows same_objective first_given none second_given v at =
-    let first = subst (λ rs. Notes (λ v at. list_any (λ row. row_names row v at) rs) true start rows)
+    let first = subst (λ rs. NotesPairs (λ v at. list_any (λ row. row_names row v at) rs) true start rows)
     same_rows first_given in
-    let second = subst (λ (o : Objective). Notes (λ v at.
+    let second = subst (λ (o : Objective). NotesPairs (λ v at.
     address_eq at (root_address root.Objective 0) && objective_mentions v o) true rows all)
     same_objective second_given in
     let named = address_eq at (root_address root.Objective 0)
@@ -184,11 +184,11 @@ or_nothing false true = refl
 or_nothing false false = refl
 
 -- the rows of some items, and then their objective
-module _ (contents : Contents) (told : Bool) (old rows : Noted)
-    (first : Notes (λ v at. list_any (λ row. row_names row v at) (rows_in contents)) told old rows)
+module _ (contents : ModelItems) (told : Bool) (old rows : Noted)
+    (first : NotesPairs (λ v at. list_any (λ row. row_names row v at) (rows_in contents)) told old rows)
   where
     pub without_objective : option_copied contents.objective ≡ None
-        → Notes (contents_name contents) told old rows
+        → NotesPairs (contents_name contents) told old rows
     without_objective none v at =
         first v at
         ∙ ap (λ b. cond b told (is_noted old v at))
@@ -200,9 +200,9 @@ module _ (contents : Contents) (told : Bool) (old rows : Noted)
 
     pub with_objective : (o : Objective) → option_copied contents.objective ≡ Some o
         → (all : Noted)
-        → Notes (λ v at. address_eq at (root_address root.Objective 0) && objective_mentions v o)
+        → NotesPairs (λ v at. address_eq at (root_address root.Objective 0) && objective_mentions v o)
         told rows all
-        → Notes (contents_name contents) told old all
+        → NotesPairs (contents_name contents) told old all
     with_objective o some all second v at =
         let named = address_eq at (root_address root.Objective 0) && objective_mentions v o in
         let listed = list_any (λ row. row_names row v at) (rows_in contents) in
@@ -226,7 +226,7 @@ same_or_other v u = by (address_eq v u) refl
 one_set : (old new : Noted) (var item : Address) (told : Bool)
     → ((at : Address) → is_noted new var at ≡ cond (address_eq at item) told (is_noted old var at))
     → ((v : Address) → v ≢ var → noted_in new v ≡ noted_in old v)
-    → Notes (λ v at. address_eq at item && address_eq v var) told old new
+    → NotesPairs (λ v at. address_eq at item && address_eq v var) told old new
 one_set old new var item told here elsewhere v at = by (same_or_other v var)
   where
     by : (v ≡ var) ⊎ (v ≢ var)
@@ -252,7 +252,7 @@ some_or false given o = refl
 
 pub noted_one : (old new : Noted) (var item : Address)
     → IsNotedAt old new var (with_item (noted_in old var) item)
-    → Notes (λ v at. address_eq at item && address_eq v var) true old new
+    → NotesPairs (λ v at. address_eq at item && address_eq v var) true old new
 noted_one old new var item h =
     one_set old new var item true
     (λ at. ap (λ s. is_some (finite.get s at)) h.here
@@ -262,7 +262,7 @@ noted_one old new var item h =
 
 pub unnoted_one : (old new : Noted) (var item : Address)
     → IsNotedAt old new var (without_item (noted_in old var) item)
-    → Notes (λ v at. address_eq at item && address_eq v var) false old new
+    → NotesPairs (λ v at. address_eq at item && address_eq v var) false old new
 unnoted_one old new var item h =
     one_set old new var item false
     (λ at. ap (λ s. is_some (finite.get s at)) h.here
@@ -276,12 +276,12 @@ noted_if (Err e) f h = h
 
 -- by what was noted
 pub told_as : (told b : Bool) → told ≡ b → (names : Address → Address → Bool) (old new : Noted)
-    → Notes names b old new → Notes names told old new
-told_as told b e names old new h = subst (λ t. Notes names t old new) (sym e) h
+    → NotesPairs names b old new → NotesPairs names told old new
+told_as told b e names old new h = subst (λ t. NotesPairs names t old new) (sym e) h
 
 -- a pair that is noted already
 pub noted_before : (noted : Noted) (var item : Address) → is_noted noted var item ≡ true
-    → Notes (λ v at. address_eq at item && address_eq v var) true noted noted
+    → NotesPairs (λ v at. address_eq at item && address_eq v var) true noted noted
 noted_before noted var item there =
     one_set noted noted var item true (λ at. by at (address_eq at item) refl) (λ v other. refl)
   where

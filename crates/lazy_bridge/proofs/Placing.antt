@@ -10,7 +10,7 @@ use Rattle.lazy_bridge.specs.Native.{supports_native}
 use Rattle.lazy_bridge.specs.NativeLaws.{supported}
 use Rattle.lazy_bridge.specs.Owned.{IsBridgingOf, Owned, setting_in}
 use Rattle.local_laws.specs.Sound.{IsValidUnder}
-use Rattle.objective_laws.specs.ObjectivePlace.{LeadsTo}
+use Rattle.objective_laws.specs.ObjectivePlace.{BridgesLeadTo}
 use Rattle.objective_laws.specs.PlaceLaws.{objective_leads}
 use Rattle.tree_laws.specs.LeafLaws.{SupportsNativeKinds}
 use Rattle.tree_laws.specs.PrimalLaws.{nodes_here}
@@ -19,7 +19,7 @@ use Rattle.user_model.specs.Model.{ModelValue}
 pub placed : (lazy : Owned) (model : ModelValue) → AreSound (means_of lazy.bridges)
     → IsTrue (supports_native lazy.bridges.table) → IsBridgingOf lazy model
     → IsSome lazy.solver.leaves.objective
-    → LeadsTo lazy.bridges.states (root_address Objective 0) lazy.objective_at
+    → BridgesLeadTo lazy.bridges.states (root_address Objective 0) lazy.objective_at
 placed lazy model sound native stands some =
     let setting : Setting = setting_in lazy in
     let natives : SupportsNativeKinds setting = supported setting native in

@@ -8,21 +8,21 @@ use Rattle.address_map.specs.Noted.{noted_items}
 use Rattle.aff_core.specs.Address.{Address}
 use Rattle.bridge_set.specs.Bridges.{Bridges, means_of}
 use Rattle.bridge_graph.specs.declared.Choice.{Choice}
-use Rattle.bridge_plan.specs.Adds.{Adds, kept_of}
+use Rattle.bridge_plan.specs.AddsHeld.{AddsHeld, kept_of}
 use Rattle.bridge_plan.specs.Means.{Means}
-use Rattle.bridge_plan.specs.Worked.{IsWithin, worked, worked_each, worked_in}
+use Rattle.bridge_plan.specs.Worked.{IsItemWithinLevels, worked, worked_each, worked_in}
 use Rattle.bridge_plan.specs.declared.plan.Plan.{Plan}
 use Rattle.found_plan.specs.Read.{is_marked, named_by, own_entries, read_entries}
 use Rattle.fresh_bridging.specs.Entries.{Entry, expression_in, put_in}
 use Rattle.fresh_bridging.specs.ModelImage.{group_item}
 use Rattle.item_core.specs.declared.item.Item.{Item}
 use Rattle.item_core.specs.declared.kind.Kind.{Kind}
-use Rattle.lazy_bridge.specs.Steps.{AreGroupsOf, IsEditOf, IsFoundBy, IsMadeBy, IsPassedBy, IsPlannedOf, IsRefusedBy}
+use Rattle.lazy_bridge.specs.Steps.{AreGroupsOf, IsEditOf, IsEditPlanned, IsFoundBy, IsPassedBy, IsPlannedOf, IsRefusedBy}
 use Rattle.lazy_bridge.specs.declared.pushing.Planned.{Planned}
 use Rattle.model_bridging.specs.Found.{found_others, kept_over}
 use Rattle.model_bridging.specs.Kinds.{first_missing, kind_by, kinds_as_they_stand}
 use Rattle.model_bridging.specs.ModelHeld.{unfit, unfit_put}
-use Rattle.model_bridging.specs.Outcome.{IsFirstAt, KindsOutcome, Outcome}
+use Rattle.model_bridging.specs.PlanOutcome.{IsFirstAt, KindsOutcome, PlanOutcome}
 use Rattle.model_bridging.specs.declared.fault.PushFault.{PushFault}
 use Rattle.model_bridging.specs.declared.fault.PushFault.TheVariants.{Unsupported, Overflow, Memory}
 use Rattle.push_laws.specs.Composed.{others_within, overflow_others}
@@ -41,7 +41,7 @@ use Rattle.item_core.specs.Kind.{kind_count}
 -- ---- a fault that is handed on
 
 pub handed_made : (e : AttachedEdit) (r : Result Planned PushFault) (f : PushFault)
-    → IsErrAnd r (λ x. x ≡ f) → IsRefusedBy e f → IsMadeBy e r
+    → IsErrAnd r (λ x. x ≡ f) → IsRefusedBy e f → IsEditPlanned e r
 handed_made e (Ok x) f is h = absurd is
 handed_made e (Err g) f is h = subst (IsRefusedBy e) (sym is) h
 
@@ -68,25 +68,25 @@ module _ (choice : ℕ → Choice) (given items : List (Bor Group)) (same : give
       subst (λ gs. KindsOutcome {T = T} (Err f)
       (first_missing choice (kinds_as_they_stand (listed gs)))) same
 
-  pub within_seen : All (IsWithin choice kind_count) (listed items) → All (IsWithin choice kind_count) (listed given)
-  within_seen = subst (λ gs. All (IsWithin choice kind_count) (listed gs)) (sym same)
+  pub within_seen : All (IsItemWithinLevels choice kind_count) (listed items) → All (IsItemWithinLevels choice kind_count) (listed given)
+  within_seen = subst (λ gs. All (IsItemWithinLevels choice kind_count) (listed gs)) (sym same)
 
   pub fit_seen : unfit choice kind_count (listed given) ≡ None → unfit choice kind_count (listed items) ≡ None
   fit_seen = subst (λ gs. unfit choice kind_count (listed gs) ≡ None) same
 
   pub adds_seen : (plan new : Plan) (entries : List Entry)
-      → Adds plan new [] entries (worked_each choice (worked choice kind_count) (listed given))
-      → Adds plan new [] entries (worked_each choice (worked choice kind_count) (listed items))
+      → AddsHeld plan new [] entries (worked_each choice (worked choice kind_count) (listed given))
+      → AddsHeld plan new [] entries (worked_each choice (worked choice kind_count) (listed items))
   adds_seen plan new entries =
-      subst (λ gs. Adds plan new [] entries (worked_each choice (worked choice kind_count) (listed gs))) same
+      subst (λ gs. AddsHeld plan new [] entries (worked_each choice (worked choice kind_count) (listed gs))) same
 
   unfit_seen : (at : Address) → IsFirstAt (unfit choice kind_count (listed given)) at
       → IsFirstAt (unfit choice kind_count (listed items)) at
   unfit_seen at = subst (λ gs. IsFirstAt (unfit choice kind_count (listed gs)) at) same
 
   pub overflow_seen : (T : Type 0) (f : PushFault) (Q R : T → Type 0)
-      → Outcome (Err f) (unfit choice kind_count (listed given)) Q
-      → Outcome (Err f) (unfit choice kind_count (listed items)) R
+      → PlanOutcome (Err f) (unfit choice kind_count (listed given)) Q
+      → PlanOutcome (Err f) (unfit choice kind_count (listed items)) R
   overflow_seen T (Unsupported kind) Q R h = h
   overflow_seen T (Overflow at) Q R h = unfit_seen at h
   overflow_seen T Memory Q R h = h
@@ -136,7 +136,7 @@ module _ (choice : ℕ → Choice) (inner : List Entry) (rows every : List (Bor 
       unfit_put choice kind_count inner (found_others (map (λ r. r.now) rs) objective)
 
   pub others_unfit_seen : (T : Type 0) (f : PushFault) (Q R : T → Type 0)
-      → Outcome (Err f) (unfit_among rows) Q → Outcome (Err f) (unfit_among every) R
+      → PlanOutcome (Err f) (unfit_among rows) Q → PlanOutcome (Err f) (unfit_among every) R
   others_unfit_seen T (Unsupported kind) Q R h = h
   others_unfit_seen T (Overflow at) Q R h = subst (λ rs. IsFirstAt (unfit_among rs) at) also h
   others_unfit_seen T Memory Q R h = h
@@ -187,16 +187,16 @@ module _ (e : AttachedEdit) (bridges : Bridges) (places : AddressMap) (after : M
   groups_refused T Memory h = tt
 
   pub groups_can : missing_of (means_of bridges) d ≡ None
-      → All (IsWithin (means_of bridges).choice kind_count) (map group_item (groups_in d.after))
+      → All (IsItemWithinLevels (means_of bridges).choice kind_count) (map group_item (groups_in d.after))
   groups_can none =
-      back (λ m p a x. All (IsWithin m.choice kind_count) (map group_item (groups_in x.after)))
+      back (λ m p a x. All (IsItemWithinLevels m.choice kind_count) (map group_item (groups_in x.after)))
       (groups_within e (trees_here none))
 
   abbrev outcome_of : {T : Type 0} → Result T PushFault → (T → List Entry) → Plan → Plan → Means
       → Differing → Type 0
   outcome_of r entries_of plan new m x =
-      Outcome r (unfit m.choice kind_count (map group_item (groups_in x.after)))
-      (λ t. Adds plan new [] (entries_of t)
+      PlanOutcome r (unfit m.choice kind_count (map group_item (groups_in x.after)))
+      (λ t. AddsHeld plan new [] (entries_of t)
       (worked_each m.choice (worked m.choice kind_count) (map group_item (groups_in x.after))))
 
   -- the groups are planned first
@@ -204,12 +204,12 @@ module _ (e : AttachedEdit) (bridges : Bridges) (places : AddressMap) (after : M
       → plan.leaves.items ≡ [] → plan.nodes.items ≡ []
       → missing_of (means_of bridges) d ≡ None
       → unfit (means_of bridges).choice kind_count (map group_item (groups_in d.after)) ≡ None
-      → Adds plan new [] entries (worked_each (means_of bridges).choice
+      → AddsHeld plan new [] entries (worked_each (means_of bridges).choice
       (worked (means_of bridges).choice kind_count) (map group_item (groups_in d.after)))
       → expression_in standing ≡ expression_in entries
       → AreGroupsOf e standing new
   groups_planned plan new entries standing no_leaves no_nodes none fit adds stands =
-      let more = along (λ m p a x. Adds plan new [] entries (worked_each m.choice
+      let more = along (λ m p a x. AddsHeld plan new [] entries (worked_each m.choice
       (worked m.choice kind_count) (map group_item (groups_in x.after)))) adds in
       record {
         trees = trees_here none;
@@ -221,7 +221,7 @@ module _ (e : AttachedEdit) (bridges : Bridges) (places : AddressMap) (after : M
 
   -- a number of theirs doesn't fit, and no item lacks a tree
   pub groups_overflow : (T : Type 0) (f : PushFault) (Q : T → Type 0)
-      → Outcome (Err f) (unfit (means_of bridges).choice kind_count (map group_item (groups_in d.after))) Q
+      → PlanOutcome (Err f) (unfit (means_of bridges).choice kind_count (map group_item (groups_in d.after))) Q
       → IsPassedBy e (Ok tt) → IsRefusedBy e f
   groups_overflow T (Unsupported kind) Q h passed = absurd h
   groups_overflow T (Overflow at) Q h passed =
@@ -305,17 +305,17 @@ module _ (e : AttachedEdit) (bridges : Bridges) (places : AddressMap) (after : M
             ≡ expression_in (own_entries standing (groups_in x.after)
             ++ read_entries p (named_by rows objective))) stands
 
-        pub others_can : All (λ item. IsWithin (means_of bridges).choice kind_count (put_in further item))
+        pub others_can : All (λ item. IsItemWithinLevels (means_of bridges).choice kind_count (put_in further item))
             (found_others rows objective)
         others_can =
-            back (λ m p a x. All (λ item. IsWithin m.choice kind_count (put_in further item))
+            back (λ m p a x. All (λ item. IsItemWithinLevels m.choice kind_count (put_in further item))
             (found_others rows objective))
             (others_within e changed addresses rows objective search standing changing trees further
             stands_here)
 
         -- a number of theirs doesn't fit
         pub others_overflow : (T : Type 0) (f : PushFault) (Q : T → Type 0)
-            → Outcome (Err f) (unfit_put (means_of bridges).choice kind_count further
+            → PlanOutcome (Err f) (unfit_put (means_of bridges).choice kind_count further
             (found_others rows objective)) Q
             → IsRefusedBy e f
         others_overflow T (Unsupported kind) Q h = absurd h
@@ -329,11 +329,11 @@ module _ (e : AttachedEdit) (bridges : Bridges) (places : AddressMap) (after : M
         -- all is planned
         pub all_planned : (new : Plan)
             → unfit_put (means_of bridges).choice kind_count further (found_others rows objective) ≡ None
-            → Adds plan new [] [] (worked_in (means_of bridges).choice
+            → AddsHeld plan new [] [] (worked_in (means_of bridges).choice
             (worked (means_of bridges).choice kind_count) further (found_others rows objective))
             → IsPlannedOf e standing addresses new
         all_planned new fit adds =
-            let more = along (λ m p a x. Adds plan new [] [] (worked_in m.choice
+            let more = along (λ m p a x. AddsHeld plan new [] [] (worked_in m.choice
             (worked m.choice kind_count) further (found_others rows objective))) adds in
             record {
               step = record {

@@ -6,7 +6,7 @@ use Rattle.std.proofs.lemmas.List.Elements.{All-map}
 use Rattle.address_map.specs.AddressMap.{AddressMap}
 use Rattle.aff_core.specs.Address.{Address}
 use Rattle.bridge_set.specs.Bridges.{kept_by}
-use Rattle.bridge_face.specs.State.{Kept, State}
+use Rattle.bridge_face.specs.BridgeState.{BridgeState, KeptByAddress}
 use Rattle.bridge_plan.specs.Means.{Means}
 use Rattle.item_core.specs.declared.family.Family.{Family}
 use Rattle.lazy_bridge.specs.Owned.{HasLeavesOf, HoldsNothing, Owned, leaf_model_in}
@@ -14,7 +14,7 @@ use Rattle.lazy_bridge.specs.Pushed.{IsTried}
 use Rattle.leaf_update.specs.Splice.{IsChangedTo}
 use Rattle.leaf_model.specs.LeafModel.{LeafModel}
 use Rattle.map_laws.specs.EachLaws.{all_from_map}
-use Rattle.solver_store.specs.SolverModel.{Stored}
+use Rattle.solver_store.specs.SolverModel.{StoredLeaves}
 
 -- a bridging in which the planning step was tried
 pub tried_leaves : (old new : Owned) → IsTried old new → HasLeavesOf old new
@@ -44,17 +44,17 @@ read_alike old now same = λ i. leaf_model_in (record {
 })
 
 -- where nothing is held, the planning step leaves nothing
-none_kept : (states : List State) → All (λ (s : State). s.kept ≡ finite.empty) states
-    → All (λ (k : Family × Kept). k.1 ≡ finite.empty) (kept_by states)
-none_kept states h = All-map (λ (k : Family × Kept). k.1 ≡ finite.empty)
-    (λ (s : State). (s.family, s.kept)) states h
+none_kept : (states : List BridgeState) → All (λ (s : BridgeState). s.kept ≡ finite.empty) states
+    → All (λ (k : Family × KeptByAddress). k.1 ≡ finite.empty) (kept_by states)
+none_kept states h = All-map (λ (k : Family × KeptByAddress). k.1 ≡ finite.empty)
+    (λ (s : BridgeState). (s.family, s.kept)) states h
 
 pub nothing_tried : (old new : Owned) → IsTried old new → HoldsNothing old
-    → All (λ (s : State). s.kept ≡ finite.empty) new.bridges.states
+    → All (λ (s : BridgeState). s.kept ≡ finite.empty) new.bridges.states
 nothing_tried old new same h =
-    all_from_map (λ (k : Family × Kept). k.1 ≡ finite.empty) (λ (s : State). (s.family, s.kept))
+    all_from_map (λ (k : Family × KeptByAddress). k.1 ≡ finite.empty) (λ (s : BridgeState). (s.family, s.kept))
     new.bridges.states
-    (subst (All (λ (k : Family × Kept). k.1 ≡ finite.empty))
+    (subst (All (λ (k : Family × KeptByAddress). k.1 ≡ finite.empty))
     (sym (ap (λ (m : Means). m.kept) same.means)) (none_kept old.bridges.states h.kept))
 
 -- ---- what depends on a map's leaves and expressions alone
@@ -68,7 +68,7 @@ abbrev like : AddressMap → AddressMap → AddressMap
 like one other = record one { vars = other.vars; rows = other.rows; exprs = other.exprs }
 
 -- what was changed stands as it did once mentions and marks are others
-pub changed_since : (leaves : LeafModel) (solver after : Stored) (start start_now put now : AddressMap)
+pub changed_since : (leaves : LeafModel) (solver after : StoredLeaves) (start start_now put now : AddressMap)
     (at at_after : Address) (n : ℕ) → HasLeavesAndExpressions start start_now
     → HasLeavesAndExpressions put now → IsChangedTo leaves solver start at n after put at_after
     → IsChangedTo leaves solver start_now at n after now at_after

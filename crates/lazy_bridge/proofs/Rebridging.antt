@@ -6,7 +6,7 @@ use Rattle.std.proofs.lemmas.Option.{none-some}
 use Rattle.address_map.specs.AddressMap.{AddressMap}
 use Rattle.aff_core.specs.Address.{Address}
 use Rattle.bridge_set.specs.Bridges.{Bridges, choice_in, families_of, kept_by, means_of, setting_by, setting_of}
-use Rattle.bridge_face.specs.State.{State}
+use Rattle.bridge_face.specs.BridgeState.{BridgeState}
 use Rattle.bridge_plan.specs.Means.{AreSound, Means}
 use Rattle.fresh_bridging.specs.ChoiceLaws.{one_choice}
 use Rattle.fresh_bridging.specs.FreshBridging.{FreshBridging, IsUnsupported, unfit_at}
@@ -17,7 +17,7 @@ use Rattle.lazy_bridge.specs.Native.{supports_native}
 use Rattle.lazy_bridge.specs.NativeLaws.{supported}
 use Rattle.lazy_bridge.specs.Few.{ChangesFew}
 use Rattle.lazy_bridge.specs.Owned.{HasLeavesOf, HoldsNothing, Owned, leaf_model_in, setting_in}
-use Rattle.lazy_bridge.specs.Plans.{Holds, IsPuttable}
+use Rattle.lazy_bridge.specs.Plans.{HoldsPlan, IsPuttable}
 use Rattle.lazy_bridge.specs.Pushed.{Counts, IsBridgedBy, IsTried}
 use Rattle.lazy_bridge.proofs.Puttable.{puttable}
 use Rattle.lazy_bridge.proofs.Putting.{read_alike}
@@ -26,9 +26,9 @@ use Rattle.model_bridging.specs.Planned.{IsPlanOf, Planned}
 use Rattle.model_bridging.specs.declared.fault.PushFault.{PushFault}
 use Rattle.model_bridging.specs.declared.fault.PushFault.TheVariants.{Unsupported, Overflow, Memory}
 use Rattle.model_bridging.specs.declared.model_plan.ModelPlan.{ModelPlan}
-use Rattle.small_numbers.specs.ModelLaws.{small_numbers_fit}
-use Rattle.small_numbers.specs.SmallNumbers.{HasSmallNumbers}
-use Rattle.solver_store.specs.SolverModel.{Stored, no_leaves}
+use Rattle.small_number_laws.specs.ModelLaws.{small_numbers_fit}
+use Rattle.small_number_laws.specs.SmallNumbers.{HasSmallNumbers}
+use Rattle.solver_store.specs.SolverModel.{StoredLeaves, no_leaves}
 use Rattle.user_model.specs.Model.{ModelValue}
 use Rattle.user_model.specs.Valid.{IsValid}
 
@@ -44,7 +44,8 @@ can_be_put old tried model planned sound native valid plan same =
 
 -- and is the model's bridging once it stands there
 pub bridged : (old now new : Owned) (model : ModelValue) (planned : ModelPlan) (n : ℕ)
-    → IsPlanOf (setting_in old) model planned → HasLeavesOf old now → Holds now model planned new
+    → IsPlanOf (setting_in old) model planned → HasLeavesOf old now
+    → HoldsPlan now model planned new
     → setting_in new ≡ setting_in now → Counts (leaf_model_in now) (leaf_model_in new) n
     → IsValid model → IsBridgedBy old old.bridges.table model (Ok n) new
 bridged old now new model planned n plan alike holds same counts valid =
@@ -131,13 +132,13 @@ module _ (old first second last : Owned) (table : Table) (model : ModelValue)
 
   still_nothing : HoldsNothing second → HoldsNothing last
   still_nothing h = record {
-    leaves = subst (λ (s : Stored). s.leaves ≡ no_leaves s.leaves.calls) (sym back.solver) h.leaves;
+    leaves = subst (λ (s : StoredLeaves). s.leaves ≡ no_leaves s.leaves.calls) (sym back.solver) h.leaves;
     vars = ap (λ (m : AddressMap). m.vars.indices) back.map ∙ h.vars;
     rows = ap (λ (m : AddressMap). m.rows.indices) back.map ∙ h.rows;
     exprs = ap (λ (m : AddressMap). m.exprs) back.map ∙ h.exprs;
     noted = ap (λ (m : AddressMap). m.noted) back.map ∙ h.noted;
     marks = ap (λ (m : AddressMap). m.kept) back.map ∙ h.marks;
-    kept = subst (All (λ (bridge : State). bridge.kept ≡ finite.empty)) (sym back.states) h.kept;
+    kept = subst (All (λ (bridge : BridgeState). bridge.kept ≡ finite.empty)) (sym back.states) h.kept;
   }
 
   pub set_back : (fault : PushFault) → IsBridgedBy first first.bridges.table model (Err fault) second
@@ -173,7 +174,7 @@ pub few_on : (old first second : Owned) (table : Table) (n : ℕ) → IsSet old 
     → ChangesFew first n second → ChangesFew old n second
 few_on old first second table n set few =
     let back : ChangesFew (record first { solver = old.solver; map = old.map }) n second =
-    subst (λ (p : Stored × AddressMap). ChangesFew (record first { solver = p.0; map = p.1 }) n
+    subst (λ (p : StoredLeaves × AddressMap). ChangesFew (record first { solver = p.0; map = p.1 }) n
     second) (λ i. (set.solver i, set.map i)) few in
     record {
       rises = back.rises;

@@ -4,7 +4,7 @@ use Rattle.std.proofs.Common.{arith, ap, sym, subst, ◌∙◌}
 use Rattle.address_map.specs.AddressMap.{AddressMap}
 use Rattle.aff_core.specs.Address.{Address}
 use Rattle.bridge_graph.specs.declared.Choice.{Choice}
-use Rattle.bridge_face.specs.State.{State}
+use Rattle.bridge_face.specs.BridgeState.{BridgeState}
 use Rattle.bridge_plan.specs.Means.{AreSound, Means}
 use Rattle.bridge_plan.specs.declared.plan.Plan.{Plan}
 use Rattle.bridge_set.specs.Bridges.{Bridges, choice_in, families_of, means_of, occur_once, setting_by, setting_of}
@@ -31,16 +31,16 @@ use Rattle.model_bridging.specs.Planned.{Planned}
 use Rattle.fresh_bridging.specs.TheRules.{Setting}
 use Rattle.model_bridging.specs.declared.fault.PushFault.{PushFault}
 use Rattle.model_bridging.specs.declared.fault.PushFault.TheVariants.{Unsupported, Overflow, Memory}
-use Rattle.solver_store.specs.SolverModel.{Stored}
+use Rattle.solver_store.specs.SolverModel.{StoredLeaves}
 use Rattle.table_change.specs.Given.{AreGiven, passes}
 use Rattle.lazy_bridge.proofs.TableEdits.{AreRetabled, table_edit}
 use Rattle.touched_items.specs.declared.differing.Differing.{Differing}
 use Rattle.user_model.specs.Model.{ModelValue}
 
-module _ (bridges : Bridges) (table : Table) (choices : List Choice) (solver : Stored)
+module _ (bridges : Bridges) (table : Table) (choices : List Choice) (solver : StoredLeaves)
     (places : AddressMap) (objective_at : Address) (model : ModelValue)
     (start : IsTableStart bridges table choices solver places objective_at model) where
-  abbrev told : Result ℕ PushFault → Bridges → Stored → AddressMap → Address → Type 0
+  abbrev told : Result ℕ PushFault → Bridges → StoredLeaves → AddressMap → Address → Type 0
   told r b s p o =
       IsRetabledTo bridges table choices solver places objective_at model start r b s p o
 
@@ -113,7 +113,7 @@ module _ (bridges : Bridges) (table : Table) (choices : List Choice) (solver : S
     refused later Memory same h = ap (λ (m : Means). m.setting) same
 
     pub retabled : (standing : List Entry) (found : List Address) (plan : Plan)
-        (made : IsPlannedOf edit standing found plan) (later last : Bridges) (solver_last : Stored)
+        (made : IsPlannedOf edit standing found plan) (later last : Bridges) (solver_last : StoredLeaves)
         (places_last : AddressMap) (objective_last : Address) (n : ℕ)
         → means_of later ≡ means_of bridges → setting_of last ≡ setting_of later
         → turns_of later.states ≤ turns_of bridges.states + length plan.nodes.items
@@ -137,10 +137,10 @@ module _ (bridges : Bridges) (table : Table) (choices : List Choice) (solver : S
         }
 
 -- a fault that is handed on
-pub handed_by : (bridges : Bridges) (table : Table) (choices : List Choice) (solver : Stored)
+pub handed_by : (bridges : Bridges) (table : Table) (choices : List Choice) (solver : StoredLeaves)
     (places : AddressMap) (objective_at : Address) (model : ModelValue)
     (start : IsTableStart bridges table choices solver places objective_at model)
-    (r : Result ℕ PushFault) (f : PushFault) (b : Bridges) (s : Stored) (p : AddressMap) (o : Address)
+    (r : Result ℕ PushFault) (f : PushFault) (b : Bridges) (s : StoredLeaves) (p : AddressMap) (o : Address)
     → IsErrAnd r (λ x. x ≡ f)
     → IsRetabledTo bridges table choices solver places objective_at model start (Err f) b s p o
     → IsRetabledTo bridges table choices solver places objective_at model start r b s p o
@@ -241,7 +241,7 @@ module _ (old : Owned) (model : ModelValue) (table : Table) (choices : List Choi
     refused_true native named = (
       subst (λ t. supports_native t ≡ true)
           (sym (ap (λ (m : Means). m.setting.table) turned.means)) native,
-      subst (λ (p : AddressMap × Stored). NamesEach p.0 p.1.leaves)
+      subst (λ (p : AddressMap × StoredLeaves). NamesEach p.0 p.1.leaves)
           (λ i. (sym turned.places_are i, sym turned.solver_is i)) named,
     )
 
@@ -260,7 +260,7 @@ module _ (old first : Owned) (model : ModelValue) (table : Table) (set : IsSet o
     → choice_in choices (kind_number kind) ≡ (means_of old.bridges).choice (kind_number kind)) where
   -- what was held, with the states that there were
   abbrev Held : Type 0
-  Held = List State × Stored × AddressMap × Address
+  Held = List BridgeState × StoredLeaves × AddressMap × Address
 
   abbrev was : Held
   was = (old.bridges.states, old.solver, old.map, old.objective_at)

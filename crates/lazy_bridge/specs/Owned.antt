@@ -19,28 +19,28 @@ use Rattle.address_map.specs.AddressMap.{AddressMap, address_map_code}
 use Rattle.aff_core.specs.Address.{Address, address_code}
 use Rattle.bridge_set.specs.Bridges.{Bridges, bridges_code, setting_of}
 use Rattle.bridge_set.specs.Nodes.{nodes_by}
-use Rattle.bridge_face.specs.State.{State}
+use Rattle.bridge_face.specs.BridgeState.{BridgeState}
 use Rattle.fresh_bridging.specs.FreshBridging.{FreshBridging, is_made, leaves_of}
 use Rattle.fresh_bridging.specs.TheRules.{Setting}
 use Rattle.leaf_update.specs.Named.{NamesEach}
-use Rattle.lazy_bridge.specs.Mentioned.{IsIndexOf, marks_of}
+use Rattle.lazy_bridge.specs.Mentioned.{IsMentionIndex, marks_of}
 use Rattle.leaf_model.specs.LeafModel.{LeafModel}
 use Rattle.leaf_model.specs.ReadThrough.{read_through}
 use Rattle.model_bridging.specs.Expressions.{expressions_by}
 use Rattle.model_bridging.specs.Planned.{kept_variables}
-use Rattle.solver_store.specs.SolverModel.{Stored, no_leaves, stored_code}
+use Rattle.solver_store.specs.SolverModel.{StoredLeaves, no_leaves, stored_code}
 use Rattle.user_model.specs.Model.{ModelValue}
 use Rattle.user_model.specs.Valid.{IsValid}
 
 pub record Owned : Type 0 where
   pub bridges : Bridges
-  pub solver : Stored
+  pub solver : StoredLeaves
   pub map : AddressMap
   pub objective_at : Address
 
 abbrev pub owned_code : Coded Owned
 owned_code =
-    code_by (Bridges × (Stored × (AddressMap × Address)))
+    code_by (Bridges × (StoredLeaves × (AddressMap × Address)))
     (coded× bridges_code (coded× stored_code (coded× address_map_code address_code)))
     (λ l. (l.bridges, (l.solver, (l.map, l.objective_at))))
     (λ p. record { bridges = p.0; solver = p.1.0; map = p.1.1.0; objective_at = p.1.1.1 })
@@ -71,7 +71,7 @@ pub record HoldsNothing (lazy : Owned) : Type 0 where
   pub exprs : lazy.map.exprs ≡ finite.empty
   pub noted : lazy.map.noted ≡ finite.empty
   pub marks : lazy.map.kept ≡ finite.empty
-  pub kept : All (λ (bridge : State). bridge.kept ≡ finite.empty) lazy.bridges.states
+  pub kept : All (λ (bridge : BridgeState). bridge.kept ≡ finite.empty) lazy.bridges.states
 
 -- the fresh bridging of the model, which is valid, and in which each number fits
 pub record IsBridgingOf (lazy : Owned) (model : ModelValue) : Type 0 where
@@ -80,7 +80,7 @@ pub record IsBridgingOf (lazy : Owned) (model : ModelValue) : Type 0 where
   pub made : is_made bridging ≡ true
   pub leaves : leaf_model_in lazy ≡ leaves_of bridging
   pub named : NamesEach lazy.map lazy.solver.leaves
-  pub kept : All (λ (bridge : State). bridge.kept ≡ nodes_by bridging bridge.family) lazy.bridges.states
+  pub kept : All (λ (bridge : BridgeState). bridge.kept ≡ nodes_by bridging bridge.family) lazy.bridges.states
   pub exprs : lazy.map.exprs ≡ expressions_by bridging
-  pub noted : IsIndexOf model lazy.map.noted
+  pub noted : IsMentionIndex model lazy.map.noted
   pub marks : lazy.map.kept ≡ marks_of (kept_variables bridging)

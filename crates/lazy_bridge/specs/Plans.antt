@@ -8,7 +8,7 @@ use Rattle.aff_core.specs.Rising.{HasDistinctKeys}
 use Rattle.bridge_set.specs.Bridges.{AreKeepable, kept_by, keeping}
 use Rattle.fresh_bridging.specs.Leaves.{leaf_model_of}
 use Rattle.item_core.specs.declared.family.Family.{Family}
-use Rattle.lazy_bridge.specs.Mentioned.{IsIndexOf, marks_of}
+use Rattle.lazy_bridge.specs.Mentioned.{IsMentionIndex, marks_of}
 use Rattle.lazy_bridge.specs.Owned.{Owned, leaf_model_in}
 use Rattle.leaf_update.specs.Leaves.{AreLeaves}
 use Rattle.leaf_update.specs.Named.{NamesEach}
@@ -26,12 +26,12 @@ abbrev pub with_exprs : AddressMap → List (Address × Function) → AddressMap
 with_exprs m exprs = record m { exprs = finite.from_entries exprs }
 
 -- the plan of the model stands in it
-pub record Holds (old : Owned) (model : ModelValue) (planned : ModelPlan) (new : Owned)
+pub record HoldsPlan (old : Owned) (model : ModelValue) (planned : ModelPlan) (new : Owned)
     : Type 0 where
   pub leaves : leaf_model_in new ≡ leaf_model_of planned.plan.leaves.items
   pub named : NamesEach new.map new.solver.leaves
   pub kept :
       kept_by new.bridges.states ≡ map (keeping planned.plan.nodes.items) old.bridges.states
   pub exprs : new.map.exprs ≡ finite.from_entries planned.exprs.items
-  pub noted : IsIndexOf model new.map.noted
+  pub noted : IsMentionIndex model new.map.noted
   pub marks : new.map.kept ≡ marks_of planned.kept.items

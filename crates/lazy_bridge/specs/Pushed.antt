@@ -10,7 +10,7 @@ use Rattle.std.specs.Prelude.{◌≡◌, ◌-◌, ◌^◌, ℕ, min, Some, Resul
 use Rattle.bridge_set.specs.Bridges.{means_of, setting_by}
 use Rattle.fresh_bridging.specs.FreshBridging.{FreshBridging, IsUnsupported, unfit_at}
 use Rattle.item_core.specs.declared.table.Table.{Table}
-use Rattle.leaf_model.specs.LeafModel.{IsChanged, LeafModel}
+use Rattle.leaf_model.specs.LeafModel.{IsChangeCount, LeafModel}
 use Rattle.lazy_bridge.specs.Owned.{HoldsNothing, IsBridgingOf, Owned, leaf_model_in, setting_in}
 use Rattle.model_bridging.specs.Planned.{IsPlanOf}
 use Rattle.model_bridging.specs.declared.fault.PushFault.{PushFault}
@@ -27,7 +27,7 @@ pub record IsTried (old new : Owned) : Type 0 where
 
 -- the number of addresses at which leaf models differ, or the last number of 64 bits
 abbrev pub Counts : LeafModel → LeafModel → ℕ → Type 0
-Counts before after n = (m : ℕ) × IsChanged before after m × (n ≡ min m (2 ^ 64 - 1))
+Counts before after n = (m : ℕ) × IsChangeCount before after m × (n ≡ min m (2 ^ 64 - 1))
 
 -- the fresh bridging of the model by the table stands in it, and the answer is the number of
 -- addresses at which leaves changed; or there is none, or a number of it doesn't fit; or memory is

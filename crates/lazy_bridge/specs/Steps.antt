@@ -11,23 +11,23 @@ use Rattle.address_map.specs.AddressMap.{AddressMap}
 use Rattle.aff_core.specs.Address.{Address}
 use Rattle.bridge_set.specs.Bridges.{Bridges, families_of, means_of, occur_once, setting_of}
 use Rattle.bridge_set.specs.Turns.{turns_of}
-use Rattle.bridge_plan.specs.Adds.{kept_of}
+use Rattle.bridge_plan.specs.AddsHeld.{kept_of}
 use Rattle.bridge_plan.specs.Means.{AreSound}
 use Rattle.bridge_plan.specs.declared.plan.Plan.{Plan}
 use Rattle.fresh_bridging.specs.Entries.{Entry, expression_in}
 use Rattle.fresh_bridging.specs.FreshBridging.{FreshBridging, IsUnsupported, unfit_at}
 use Rattle.fresh_bridging.specs.Touched.{IsInner, IsTouched}
 use Rattle.leaf_update.specs.Splice.{KeepsIndices}
-use Rattle.leaf_model.specs.LeafModel.{IsChanged, IsCountOf}
+use Rattle.leaf_model.specs.LeafModel.{IsChangeCount, IsCountOf}
 use Rattle.leaf_model.specs.ReadThrough.{read_through}
 use Rattle.local_laws.specs.Unlisted.{LeadBackTo, entries_of}
-use Rattle.model_bridging.specs.Outcome.{IsFirstAt}
+use Rattle.model_bridging.specs.PlanOutcome.{IsFirstAt}
 use Rattle.model_bridging.specs.declared.fault.PushFault.{PushFault}
 use Rattle.model_bridging.specs.declared.fault.PushFault.TheVariants.{Unsupported, Overflow, Memory}
 use Rattle.lazy_bridge.specs.declared.pushing.Planned.{Planned}
 use Rattle.push_laws.specs.Composed.{IsDone}
 use Rattle.push_laws.specs.Edits.{AttachedEdit, PlannedEdit, groups_held, missing_groups, setting_here, unfit_groups, HoldsBridging}
-use Rattle.solver_store.specs.SolverModel.{Stored}
+use Rattle.solver_store.specs.SolverModel.{StoredLeaves}
 use Rattle.tree_laws.specs.LeafLaws.{SupportsNativeKinds}
 use Rattle.touched_items.specs.Differences.{own_variables}
 use Rattle.touched_items.specs.HeldExpressions.{stays_as}
@@ -88,14 +88,14 @@ abbrev pub IsFoundBy : {T : Type 0} → Result T PushFault → (T → List Addre
 IsFoundBy (Ok found) items e standing plan = IsPlannedOf e standing (items found) plan
 IsFoundBy (Err fault) items e standing plan = IsRefusedBy e fault
 
-abbrev pub IsMadeBy : AttachedEdit → Result Planned PushFault → Type 0
-IsMadeBy e (Ok planned) = IsPlannedOf e planned.standing planned.found.items planned.plan
-IsMadeBy e (Err fault) = IsRefusedBy e fault
+abbrev pub IsEditPlanned : AttachedEdit → Result Planned PushFault → Type 0
+IsEditPlanned e (Ok planned) = IsPlannedOf e planned.standing planned.found.items planned.plan
+IsEditPlanned e (Err fault) = IsRefusedBy e fault
 
 -- ---- what is changed
 
 -- the edit is of these parts
-pub record IsHeldBy (e : AttachedEdit) (bridges : Bridges) (solver : Stored) (places : AddressMap)
+pub record IsHeldBy (e : AttachedEdit) (bridges : Bridges) (solver : StoredLeaves) (places : AddressMap)
     (objective_at : Address) (d : Differing) : Type 0 where
   pub means : means_of bridges ≡ means_of e.bridges
   pub leaves : solver.leaves ≡ e.solver
@@ -105,16 +105,16 @@ pub record IsHeldBy (e : AttachedEdit) (bridges : Bridges) (solver : Stored) (pl
 
 -- the answer is the number of addresses at which leaves changed, with no more calls than that and no
 -- more turns than two for each node, and the fresh bridging of the model after stands
-pub record IsChangedOf (e : AttachedEdit) (step : PlannedEdit e) (bridges : Bridges) (solver : Stored)
+pub record IsChangedOf (e : AttachedEdit) (step : PlannedEdit e) (bridges : Bridges) (solver : StoredLeaves)
     (places : AddressMap) (objective_at : Address) (changed : ℕ) (bridges_after : Bridges)
-    (solver_after : Stored) (places_after : AddressMap) (objective_after : Address)
+    (solver_after : StoredLeaves) (places_after : AddressMap) (objective_after : Address)
     : Type 0 where
   pub done :
       (start : ℕ) → turns_of bridges.states ≤ start + length step.nodes
       → IsDone e step (setting_of bridges_after) bridges_after.states solver_after.leaves
       places_after objective_after start (turns_of bridges_after.states)
   pub counted :
-      IsChanged (read_through places solver.leaves objective_at)
+      IsChangeCount (read_through places solver.leaves objective_at)
       (read_through places_after solver_after.leaves objective_after) changed
   pub rises : solver.leaves.calls ≤ solver_after.leaves.calls
   pub calls : solver_after.leaves.calls ≤ solver.leaves.calls + changed
@@ -124,7 +124,7 @@ pub record IsChangedOf (e : AttachedEdit) (step : PlannedEdit e) (bridges : Brid
 -- ---- all of it
 
 -- the fresh bridging of a model stands, to which undos lead back from a valid one
-pub record IsStart (bridges : Bridges) (solver : Stored) (places : AddressMap) (objective_at : Address)
+pub record IsStart (bridges : Bridges) (solver : StoredLeaves) (places : AddressMap) (objective_at : Address)
     (model : ModelValue) (undos : List Undo) (after : ModelValue) : Type 0 where
   pub sound : AreSound (means_of bridges)
   pub once : occur_once (families_of bridges.states) ≡ true
@@ -137,7 +137,7 @@ pub record IsStart (bridges : Bridges) (solver : Stored) (places : AddressMap) (
 -- what holds afterwards
 pub record Parts : Type 0 where
   pub bridges : Bridges
-  pub solver : Stored
+  pub solver : StoredLeaves
   pub places : AddressMap
   pub objective_at : Address
   pub reads : ℕ
@@ -157,7 +157,7 @@ pub record IsPushed (old : Parts) (model : ModelValue) (undos : List Undo) (afte
       × (turns_of new.bridges.states ≤ turns_of old.bridges.states + 2 * n)
   pub reads : new.reads ≤ old.reads + (entries_of undos + touched)
   pub counted :
-      IsChanged (read_through old.places old.solver.leaves old.objective_at)
+      IsChangeCount (read_through old.places old.solver.leaves old.objective_at)
       (read_through new.places new.solver.leaves new.objective_at) changed
   pub rises : old.solver.leaves.calls ≤ new.solver.leaves.calls
   pub calls : new.solver.leaves.calls ≤ old.solver.leaves.calls + changed
@@ -184,7 +184,7 @@ IsPushedTo old model undos after start (Err (Overflow at)) new =
 IsPushedTo old model undos after start (Err Memory) new =
     setting_of new.bridges ≡ setting_of old.bridges
 
-abbrev pub parts_of : Bridges → Stored → AddressMap → Address → ℕ → Parts
+abbrev pub parts_of : Bridges → StoredLeaves → AddressMap → Address → ℕ → Parts
 parts_of bridges solver places objective_at reads = record {
   bridges = bridges;
   solver = solver;

@@ -20,13 +20,13 @@ use Rattle.item_core.specs.Kind.{kind_number}
 use Rattle.item_core.specs.declared.kind.Kind.{Kind}
 use Rattle.item_core.specs.declared.table.Table.{Table}
 use Rattle.lazy_bridge.specs.Owned.{IsBridgingOf, Owned}
-use Rattle.leaf_model.specs.LeafModel.{IsChanged}
+use Rattle.leaf_model.specs.LeafModel.{IsChangeCount}
 use Rattle.leaf_model.specs.ReadThrough.{read_through}
 use Rattle.leaf_update.specs.Splice.{KeepsIndices}
 use Rattle.model_bridging.specs.declared.fault.PushFault.{PushFault}
 use Rattle.model_bridging.specs.declared.fault.PushFault.TheVariants.{Unsupported, Overflow, Memory}
 use Rattle.push_laws.specs.Edits.{HoldsBridging}
-use Rattle.solver_store.specs.SolverModel.{Leaves, Stored}
+use Rattle.solver_store.specs.SolverModel.{Leaves, StoredLeaves}
 use Rattle.tree_laws.specs.LeafLaws.{SupportsNativeKinds}
 use Rattle.user_model.specs.Model.{ModelValue}
 
@@ -45,18 +45,18 @@ pub record HoldsByTable (bridges : Bridges) (table : Table) (choice : ℕ → Ch
       HoldsBridging (setting_by table bridges.states) bridges.states solver places objective_at model
 
 -- the fresh bridging of a model stands, by a table and these choices
-pub record IsTableStart (bridges : Bridges) (table : Table) (choices : List Choice) (solver : Stored)
+pub record IsTableStart (bridges : Bridges) (table : Table) (choices : List Choice) (solver : StoredLeaves)
     (places : AddressMap) (objective_at : Address) (model : ModelValue) : Type 0 where
   pub choice : ℕ → Choice
   pub holds : HoldsByTable bridges table choice solver.leaves places objective_at model
   pub told :
       (kind : Kind) → choice_in choices (kind_number kind) ≡ choice (kind_number kind)
 
-module _ (bridges : Bridges) (table : Table) (choices : List Choice) (solver : Stored)
+module _ (bridges : Bridges) (table : Table) (choices : List Choice) (solver : StoredLeaves)
     (places : AddressMap) (objective_at : Address) (model : ModelValue)
     (start : IsTableStart bridges table choices solver places objective_at model) where
   -- the fresh bridging by the bridges' choices stands
-  pub record IsRetabled (changed : ℕ) (bridges_after : Bridges) (solver_after : Stored)
+  pub record IsRetabled (changed : ℕ) (bridges_after : Bridges) (solver_after : StoredLeaves)
       (places_after : AddressMap) (objective_after : Address) : Type 0 where
     pub holds :
         HoldsBridging (setting_of bridges_after) bridges_after.states solver_after.leaves places_after
@@ -66,7 +66,7 @@ module _ (bridges : Bridges) (table : Table) (choices : List Choice) (solver : S
         (n : ℕ) × IsInner start.holds.held.bridging holds.bridging n
         × (turns_of bridges_after.states ≤ turns_of bridges.states + 2 * n)
     pub counted :
-        IsChanged (read_through places solver.leaves objective_at)
+        IsChangeCount (read_through places solver.leaves objective_at)
         (read_through places_after solver_after.leaves objective_after) changed
     pub rises : solver.leaves.calls ≤ solver_after.leaves.calls
     pub calls : solver_after.leaves.calls ≤ solver.leaves.calls + changed
@@ -74,14 +74,15 @@ module _ (bridges : Bridges) (table : Table) (choices : List Choice) (solver : S
     pub rows : KeepsIndices places.rows.indices places_after.rows.indices
 
   -- nothing but turns was changed
-  pub record IsTurnedTo (bridges_after : Bridges) (solver_after : Stored) (places_after : AddressMap)
+  pub record IsTurnedTo (bridges_after : Bridges) (solver_after : StoredLeaves) (places_after : AddressMap)
       (objective_after : Address) : Type 0 where
     pub means : means_of bridges_after ≡ means_of bridges
     pub solver_is : solver_after ≡ solver
     pub places_are : places_after ≡ places
     pub objective_is : objective_after ≡ objective_at
 
-  abbrev pub IsRetabledTo : Result ℕ PushFault → Bridges → Stored → AddressMap → Address → Type 0
+  abbrev pub IsRetabledTo : Result ℕ PushFault → Bridges → StoredLeaves → AddressMap → Address
+      → Type 0
   IsRetabledTo (Ok n) b s p o = IsRetabled n b s p o
   IsRetabledTo (Err (Unsupported kind)) b s p o =
       IsUnsupported (setting_of bridges) model kind × IsTurnedTo b s p o

@@ -9,12 +9,12 @@ ghost use Rattle.user_model.specs.Model.{objective_mentions};
 
 use aff_core::{Address, Aff};
 use ratio_core::Ratio;
-use touched_items::Contents;
+use touched_items::ModelItems;
 use user_model::{Objective, Row, UserFunc};
 
 // Whether the rows and the objective among some items name the same variables as those among others.
 // They are compared one by one: the answer is `false` too where another order hides that they do.
-pub(crate) fn name_alike(one: &Contents<'_>, other: &Contents<'_>) -> bool
+pub(crate) fn name_alike(one: &ModelItems<'_>, other: &ModelItems<'_>) -> bool
     ensures { IsTrue result → (var at : Address)
         → contents_name one.now var at ≡ contents_name other.now var at }
 {

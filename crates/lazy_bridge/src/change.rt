@@ -8,7 +8,7 @@ ghost use Rattle.bridge_set.specs.Bridges.{families_of, kept_by, keeping};
 ghost use Rattle.fresh_bridging.specs.Leaves.{leaf_model_of};
 ghost use Rattle.leaf_update.specs.Named.{NamesEach};
 ghost use Rattle.leaf_update.specs.Splice.{IsChangedTo};
-ghost use Rattle.lazy_bridge.specs.Mentioned.{IsIndexOf, marks_of};
+ghost use Rattle.lazy_bridge.specs.Mentioned.{IsMentionIndex, marks_of};
 ghost use Rattle.lazy_bridge.specs.Plans.{IsPuttable, with_exprs};
 ghost use Rattle.solver_store.specs.SolverModel.{no_leaves};
 
@@ -46,7 +46,7 @@ pub(crate) fn put_model<B: Bridge>(
         solver.new map.new objective_at.new) }
     ensures kept { OnOk result (kept_by bridges.new.states
         ≡ prelude.map (keeping planned.plan.nodes.items) bridges.old.states) }
-    ensures noted { OnOk result (IsIndexOf model.now.model map.new.noted) }
+    ensures noted { OnOk result (IsMentionIndex model.now.model map.new.noted) }
     ensures marks { OnOk result (map.new.kept ≡ marks_of planned.kept.items) }
     ensures families { families_of bridges.new.states ≡ families_of bridges.old.states }
     ensures table { bridges.new.table ≡ bridges.old.table }

@@ -15,12 +15,12 @@ ghost use Rattle.leaf_update.specs.Named.{NamesEach};
 ghost use Rattle.lazy_bridge.specs.Few.{CanPush, ChangesFew, IsPushedByFew, IsRetabledByFew};
 ghost use Rattle.lazy_bridge.specs.Native.{supports_native};
 ghost use Rattle.lazy_bridge.specs.Owned.{HoldsNothing, IsBridgingOf, leaf_model_in, setting_in};
-ghost use Rattle.lazy_bridge.specs.Plans.{Holds, IsPuttable};
+ghost use Rattle.lazy_bridge.specs.Plans.{HoldsPlan, IsPuttable};
 ghost use Rattle.lazy_bridge.specs.Pushed.{Counts, IsBridgedBy, IsPlannedBy};
 ghost use Rattle.lazy_bridge.specs.Tables.{IsRetabledFrom, IsTableStart};
 ghost use Rattle.item_core.specs.declared.table.Table.{Table};
-ghost use Rattle.objective_laws.specs.ObjectivePlace.{LeadsTo};
-ghost use Rattle.small_numbers.specs.SmallNumbers.{HasSmallNumbers};
+ghost use Rattle.objective_laws.specs.ObjectivePlace.{BridgesLeadTo};
+ghost use Rattle.small_number_laws.specs.SmallNumbers.{HasSmallNumbers};
 ghost use Rattle.solver_store.specs.SolverModel.{no_leaves};
 ghost use Rattle.user_model.specs.Model.{ModelValue};
 ghost use Rattle.user_model.specs.Valid.{IsValid};
@@ -275,7 +275,7 @@ impl<B: Bridge> Lazy<B> {
         requires planned { IsPuttable (families_of self.old.bridges.states) planned }
         requires kept { All (λ s. s.kept ≡ finite.empty) self.old.bridges.states }
         requires exprs { self.old.map.exprs ≡ finite.empty }
-        ensures holds { IfOk result (λ changed. Holds self.old model.now.model planned self.new
+        ensures holds { IfOk result (λ changed. HoldsPlan self.old model.now.model planned self.new
             × Counts (leaf_model_in self.old) (leaf_model_in self.new) changed) }
         ensures few { IfOk result (λ changed. ChangesFew self.old changed self.new) }
         ensures err { OnErr result (HoldsNothing self.new) }
@@ -312,6 +312,7 @@ impl<B: Bridge> Lazy<B> {
         let_all_go(&mut self.bridges, &mut self.solver, &mut self.map);
     }
 
+    /// The table by which the model is bridged: what the solver takes, and what each edge costs.
     pub fn table(&self) -> &Table
         ensures table { result.now ≡ self.now.bridges.table }
         ensures costs { IsTrue (list_all is_edge_cost self.now.bridges.table.cost) }
@@ -322,6 +323,7 @@ impl<B: Bridge> Lazy<B> {
         self.bridges.table()
     }
 
+    /// The solver's model, which holds the leaves.
     pub fn solver(&self) -> &SolverModel
         ensures { result.now ≡ self.now.solver }
     {
@@ -336,6 +338,7 @@ impl<B: Bridge> Lazy<B> {
         &self.map
     }
 
+    /// The bridges, one a family at most, each with the items that it keeps.
     pub fn bridges(&self) -> &[B]
         ensures { prelude.map B.state result.now ≡ self.now.bridges.states }
     {
@@ -348,7 +351,7 @@ impl<B: Bridge> Lazy<B> {
         ensures at { result.now ≡ self.now.objective_at }
         ensures place { (model : ModelValue) → IsBridgingOf self.now model
             → IsSome self.now.solver.leaves.objective
-            → LeadsTo self.now.bridges.states (root_address Objective 0) result.now }
+            → BridgesLeadTo self.now.bridges.states (root_address Objective 0) result.now }
     {
         // what this ensures of the choices and of the table
         let _sound = self.bridges.table();

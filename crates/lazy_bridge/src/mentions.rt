@@ -5,7 +5,7 @@ ghost use Rattle.std.specs.FinMap as finite;
 ghost use Rattle.std.specs.List.{list_any};
 ghost use Rattle.aff_core.specs.Address.{address_eq, root_address};
 ghost use Rattle.aff_core.specs.declared.root.Root.TheVariants as root;
-ghost use Rattle.lazy_bridge.specs.Mentioned.{IsIndexOf, Notes, contents_name, row_names};
+ghost use Rattle.lazy_bridge.specs.Mentioned.{IsMentionIndex, NotesPairs, contents_name, row_names};
 ghost use Rattle.user_model.specs.Functions.{func_mentions, has_term};
 ghost use Rattle.user_model.specs.Model.{objective_mentions};
 
@@ -13,12 +13,12 @@ use address_map::AddressMap;
 use aff_core::{Address, Aff, Root};
 use lists::Memory;
 use model_store::UserModel;
-use touched_items::Contents;
+use touched_items::ModelItems;
 use user_model::{Objective, Row, Rows, UserFunc};
 
 // Notes anew what the rows and the objective of a model name, in place of all notes before.
 pub(crate) fn note_model(map: &mut AddressMap, model: &UserModel) -> Result<(), Memory>
-    ensures index { OnOk result (IsIndexOf model.now.model map.new.noted) }
+    ensures index { OnOk result (IsMentionIndex model.now.model map.new.noted) }
     ensures vars { map.new.vars ≡ map.old.vars }
     ensures rows { map.new.rows ≡ map.old.rows }
     ensures exprs { map.new.exprs ≡ map.old.exprs }
@@ -32,10 +32,10 @@ pub(crate) fn note_model(map: &mut AddressMap, model: &UserModel) -> Result<(), 
 // Notes what the rows and the objective among some items name, or takes these notes away.
 pub(crate) fn note_contents(
     map: &mut AddressMap,
-    contents: &Contents<'_>,
+    contents: &ModelItems<'_>,
     noted: bool,
 ) -> Result<(), Memory>
-    ensures noted { OnOk result (Notes (contents_name contents.now) noted map.old.noted
+    ensures noted { OnOk result (NotesPairs (contents_name contents.now) noted map.old.noted
         map.new.noted) }
     ensures vars { map.new.vars ≡ map.old.vars }
     ensures rows { map.new.rows ≡ map.old.rows }
@@ -50,7 +50,7 @@ pub(crate) fn note_contents(
 }
 
 fn note_found(map: &mut AddressMap, rows: &[&Row], noted: bool) -> Result<(), Memory>
-    ensures noted { OnOk result (Notes (λ var at. list_any (λ row. row_names row var at)
+    ensures noted { OnOk result (NotesPairs (λ var at. list_any (λ row. row_names row var at)
         (prelude.map (λ r. r.now) rows.now)) noted map.old.noted map.new.noted) }
     ensures vars { map.new.vars ≡ map.old.vars }
     ensures rows { map.new.rows ≡ map.old.rows }
@@ -64,7 +64,7 @@ fn note_found(map: &mut AddressMap, rows: &[&Row], noted: bool) -> Result<(), Me
 }
 
 fn note_rows(map: &mut AddressMap, rows: &Rows) -> Result<(), Memory>
-    ensures noted { OnOk result (Notes
+    ensures noted { OnOk result (NotesPairs
         (λ var at. list_any (λ row. row_names row var at) rows.now.items) true
         map.old.noted map.new.noted) }
     ensures vars { map.new.vars ≡ map.old.vars }
@@ -80,7 +80,7 @@ fn note_rows(map: &mut AddressMap, rows: &Rows) -> Result<(), Memory>
 
 // Notes the objective at each variable that it names, or takes the notes away.
 fn note_objective(map: &mut AddressMap, objective: &Objective, noted: bool) -> Result<(), Memory>
-    ensures noted { OnOk result (Notes (λ var at. address_eq at (root_address root.Objective 0)
+    ensures noted { OnOk result (NotesPairs (λ var at. address_eq at (root_address root.Objective 0)
         && objective_mentions var objective.now) noted map.old.noted map.new.noted) }
     ensures vars { map.new.vars ≡ map.old.vars }
     ensures rows { map.new.rows ≡ map.old.rows }
@@ -102,7 +102,8 @@ fn note_func(
     func: &UserFunc,
     noted: bool,
 ) -> Result<(), Memory>
-    ensures noted { OnOk result (Notes (λ var at. address_eq at item && func_mentions var func.now)
+    ensures noted { OnOk result
+        (NotesPairs (λ var at. address_eq at item && func_mentions var func.now)
         noted map.old.noted map.new.noted) }
     ensures vars { map.new.vars ≡ map.old.vars }
     ensures rows { map.new.rows ≡ map.old.rows }
@@ -124,7 +125,7 @@ fn note_each(
     vars: &[Address],
     noted: bool,
 ) -> Result<(), Memory>
-    ensures noted { OnOk result (Notes
+    ensures noted { OnOk result (NotesPairs
         (λ var at. address_eq at item && list_any (address_eq var) vars.now)
         noted map.old.noted map.new.noted) }
     ensures vars { map.new.vars ≡ map.old.vars }
@@ -145,7 +146,7 @@ fn note_components(
     funcs: &[Aff],
     noted: bool,
 ) -> Result<(), Memory>
-    ensures noted { OnOk result (Notes
+    ensures noted { OnOk result (NotesPairs
         (λ var at. address_eq at item && list_any (has_term var) funcs.now)
         noted map.old.noted map.new.noted) }
     ensures vars { map.new.vars ≡ map.old.vars }
@@ -161,7 +162,7 @@ fn note_components(
 
 // Notes the item at each variable that the function has a term of, or takes the notes away.
 fn note_terms(map: &mut AddressMap, item: Address, func: &Aff, noted: bool) -> Result<(), Memory>
-    ensures noted { OnOk result (Notes (λ var at. address_eq at item && has_term var func.now)
+    ensures noted { OnOk result (NotesPairs (λ var at. address_eq at item && has_term var func.now)
         noted map.old.noted map.new.noted) }
     ensures vars { map.new.vars ≡ map.old.vars }
     ensures rows { map.new.rows ≡ map.old.rows }
@@ -176,7 +177,7 @@ fn note_terms(map: &mut AddressMap, item: Address, func: &Aff, noted: bool) -> R
 
 // Notes the item at the variable, unless it is noted there, or takes the note away.
 fn set_noted(map: &mut AddressMap, var: Address, item: Address, noted: bool) -> Result<(), Memory>
-    ensures noted { OnOk result (Notes (λ v at. address_eq at item && address_eq v var) noted
+    ensures noted { OnOk result (NotesPairs (λ v at. address_eq at item && address_eq v var) noted
         map.old.noted map.new.noted) }
     ensures vars { map.new.vars ≡ map.old.vars }
     ensures rows { map.new.rows ≡ map.old.rows }
@@ -192,7 +193,7 @@ fn set_noted(map: &mut AddressMap, var: Address, item: Address, noted: bool) -> 
 
 // Notes the item at the variable, unless it is noted there.
 fn note_once(map: &mut AddressMap, var: Address, item: Address) -> Result<(), Memory>
-    ensures noted { OnOk result (Notes (λ v at. address_eq at item && address_eq v var) true
+    ensures noted { OnOk result (NotesPairs (λ v at. address_eq at item && address_eq v var) true
         map.old.noted map.new.noted) }
     ensures vars { map.new.vars ≡ map.old.vars }
     ensures rows { map.new.rows ≡ map.old.rows }

@@ -7,7 +7,7 @@ ghost use Rattle.bridge_set.specs.Bridges.{means_of, setting_of};
 ghost use Rattle.bridge_set.specs.Turns.{turns_of};
 ghost use Rattle.found_plan.specs.Read.{named_by, own_entries, read_entries};
 ghost use Rattle.fresh_bridging.specs.Entries.{expression_in};
-ghost use Rattle.lazy_bridge.specs.Steps.{AreGroupsOf, IsChangedOf, IsEditOf, IsFoundBy, IsHeldBy, IsMadeBy, IsPassedBy, IsPlannedOf, IsPushedTo, IsStart, changing_variables, parts_of};
+ghost use Rattle.lazy_bridge.specs.Steps.{AreGroupsOf, IsChangedOf, IsEditOf, IsEditPlanned, IsFoundBy, IsHeldBy, IsPassedBy, IsPlannedOf, IsPushedTo, IsStart, changing_variables, parts_of};
 ghost use Rattle.local_laws.specs.Unlisted.{LeadBackTo, entries_of};
 ghost use Rattle.push_laws.specs.Edits.{AttachedEdit, IsMappedAnew, missing_groups};
 ghost use Rattle.touched_items.specs.DifferenceLaws.{HasDifferences};
@@ -32,7 +32,7 @@ use model_store::{CountedView, Undo};
 use solver_store::SolverModel;
 use std::alloc::Global;
 use touched_items::{
-    Differing, Found, changed_variables, compare_listed, find_items, list_undos, own_variables,
+    Differing, FoundItems, changed_variables, compare_listed, find_items, list_undos, own_variables,
 };
 
 // Most edits make no more leaves and no more nodes. Room for so many takes less than a kilobyte each:
@@ -113,7 +113,7 @@ pub(crate) fn plan_touched<'a, B: Bridge>(
 ) -> Result<Planned, PushFault>
     requires { (e : AttachedEdit) × IsEditOf e bridges.old map.now reading.old.model differing.now }
     ensures made { (e : AttachedEdit) → IsEditOf e bridges.old map.now reading.old.model differing.now
-        → IsMadeBy e result }
+        → IsEditPlanned e result }
     ensures means { means_of bridges.new ≡ means_of bridges.old }
     ensures turns { IfOk result (λ planned. turns_of bridges.new.states
         ≤ turns_of bridges.old.states + length planned.plan.nodes.items) }
@@ -182,7 +182,7 @@ fn plan_found<'a, B: Bridge>(
         &found.rows,
         found.objective,
     )?;
-    let Found { addresses, .. } = found;
+    let FoundItems { addresses, .. } = found;
     Ok(addresses)
 }
 
@@ -193,7 +193,7 @@ fn find_touched<'a>(
     map: &AddressMap,
     differing: &Differing<'a>,
     standing: &Standing,
-) -> Result<Found<'a>, Memory>
+) -> Result<FoundItems<'a>, Memory>
     ensures order { IfOk result (λ found. AreInOrder (differing_addresses differing.now
         ++ flat_map (noted_items map.now.noted)
         (changing_variables map.now standing.now differing.now)) found.addresses.items) }
@@ -218,7 +218,7 @@ fn stand_for_found(
     standing: &Standing,
     map: &AddressMap,
     differing: &Differing<'_>,
-    found: &Found<'_>,
+    found: &FoundItems<'_>,
 ) -> Result<Standing, Memory>
     ensures { IfOk result (λ further. expression_in further
         ≡ expression_in (own_entries standing.now (groups_in differing.now.after)

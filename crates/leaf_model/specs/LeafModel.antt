@@ -35,7 +35,7 @@ Differ m n at = finite.get m at ≢ finite.get n at
 
 -- the number of addresses at which the variables differ, the rows, and the objectives: an address
 -- that was a variable's and becomes a row's counts twice
-pub record IsChanged (before after : LeafModel) (n : ℕ) : Type 0 where
+pub record IsChangeCount (before after : LeafModel) (n : ℕ) : Type 0 where
   pub variables : ℕ
   pub rows : ℕ
   pub objective : ℕ

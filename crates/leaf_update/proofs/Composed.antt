@@ -20,22 +20,22 @@ use Rattle.item_core.specs.declared.item.Item.{Item}
 use Rattle.leaf_update.specs.Leaves.{NamesLeaves}
 use Rattle.leaf_update.specs.Named.{HasIndices, IsIndexed, NamesEach}
 use Rattle.leaf_update.specs.Puts.{objectives_in, put_all, rows_in, variables_in}
-use Rattle.leaf_model.specs.LeafModel.{Differ, IsChanged, IsCountOf, LeafModel}
+use Rattle.leaf_model.specs.LeafModel.{Differ, IsChangeCount, IsCountOf, LeafModel}
 use Rattle.leaf_model.specs.ReadThrough.{by_address, read_objective, read_row, read_through}
 use Rattle.map_laws.specs.EachLaws.{cons_head, all_both, contains_here, contains_later}
 use Rattle.map_laws.specs.OptionLaws.{not_some}
-use Rattle.solver_store.specs.SolverModel.{Leaves, Stored}
+use Rattle.solver_store.specs.SolverModel.{Leaves, StoredLeaves}
 use Rattle.solver_store.specs.declared.leaf.LeafObjective.{LeafObjective}
 use Rattle.solver_store.specs.declared.leaf.LeafVar.{LeafVar}
-use Rattle.leaf_update.specs.Steps.{Calls, rest_of}
+use Rattle.leaf_update.specs.Steps.{CallsAtMost, rest_of}
 use Rattle.leaf_update.specs.CoverLaws.{read_where, row_where}
 use Rattle.leaf_update.proofs.Counted.{counts_none}
-use Rattle.leaf_update.specs.Phases.{AreDroppable, BodiesMiss, Changes, CountsAt, DropsRows, HasDropped, SetsRows, SetsVariables}
+use Rattle.leaf_update.specs.Phases.{AreDroppable, BodiesMiss, ChangesAtKeys, CountsAt, DropsRows, HasDropped, SetsRows, SetsVariables}
 use Rattle.leaf_update.proofs.Dropping.{own_miss}
 use Rattle.leaf_update.specs.Objective.{CanChange, ChangesObjective, objective_held}
 use Rattle.leaf_update.proofs.ObjectiveSteps.{read_objective_is}
 use Rattle.leaf_update.proofs.PhaseSteps.{spliced_after}
-use Rattle.leaf_update.specs.Splice.{AreBeside, Gone, IsSplice, IsSplicedInto, KeepsIndices, keys_of, spliced, spliced_model, without_all}
+use Rattle.leaf_update.specs.Splice.{ArePutBeside, Gone, IsSplice, IsSplicedInto, KeepsIndices, keys_of, spliced, spliced_model, without_all}
 use Rattle.leaf_update.specs.SplicedLaws.{get_beside, get_gone, get_put, get_without}
 
 -- ---- what goes is no key of what is put
@@ -49,7 +49,7 @@ contains_key k (e ∷ es) (suc i, inside, is) =
     (r.0, contains_later e r.0 es r.1, r.2)
 
 pub no_key_gone : {X : Type 0} (gone : List Address) (es : List (Address × X)) (q : Address)
-    → AreBeside gone es → Contains gone q → ¬ (Contains (keys_of es) q)
+    → ArePutBeside gone es → Contains gone q → ¬ (Contains (keys_of es) q)
 no_key_gone gone es q beside c k =
     let r = contains_key q es k in
     All-contains (λ e. ¬ (Contains gone e.0)) es r.0 beside r.1
@@ -60,8 +60,8 @@ all_by : {A : Type 0} (P : A → Type 0) (xs : List A) → ((x : A) → Contains
 all_by {A} P xs h = All-weaker (Contains xs) P h xs (All-contains_itself xs)
 
 module _ {X : Type 0} (m n : FinMap address_cmp X) (es : List (Address × X)) (gone : List Address)
-    (set : n ≡ put_all m es) (c : ℕ) (changes : Changes m n (keys_of es) c)
-    (beside : AreBeside gone es) where
+    (set : n ≡ put_all m es) (c : ℕ) (changes : ChangesAtKeys m n (keys_of es) c)
+    (beside : ArePutBeside gone es) where
   -- what goes is still as it was
   pub gone_as_was : All (λ at. finite.get n at ≡ finite.get m at) gone
   gone_as_was = all_by (λ at. finite.get n at ≡ finite.get m at) gone
@@ -345,7 +345,7 @@ module _ (start : AddressMap) (l0 : Leaves) (at0 : Address) (gone : Gone) (leave
                   ))
                   third.counts
 
-              pub changed : IsChanged (read_through start l0 at0) (read_through m5 l5 at3)
+              pub changed : IsChangeCount (read_through start l0 at0) (read_through m5 l5 at3)
                   (c1 + c2 + c3 + c4 + c5)
               changed = record {
                 variables = c1 + c5;
@@ -375,7 +375,7 @@ module _ (start : AddressMap) (l0 : Leaves) (at0 : Address) (gone : Gone) (leave
               rest_kept = fifth.beside.rest ∙ fourth.beside.rest ∙ second.beside.rest
                   ∙ first.beside.rest
 
-              pub all_calls : Calls l0 l5 (c1 + c2 + c3 + c4 + c5)
+              pub all_calls : CallsAtMost l0 l5 (c1 + c2 + c3 + c4 + c5)
               all_calls = record {
                 rises = omega (
                   arith,
@@ -395,7 +395,7 @@ module _ (start : AddressMap) (l0 : Leaves) (at0 : Address) (gone : Gone) (leave
                 );
               }
 
-pub spliced_into : (start : AddressMap) (s0 : Stored) (at0 : Address) (gone : Gone)
+pub spliced_into : (start : AddressMap) (s0 : StoredLeaves) (at0 : Address) (gone : Gone)
     (leaves : List Item) (names : NamesEach start s0.leaves)
     (splice : IsSplice (read_through start s0.leaves at0) gone leaves)
     (m1 : AddressMap) (l1 : Leaves) (c1 : ℕ)
@@ -406,7 +406,7 @@ pub spliced_into : (start : AddressMap) (s0 : Stored) (at0 : Address) (gone : Go
     → (third : ChangesObjective m2 l2 at0 gone.objective (flat_map leaf_objectives leaves) c3 l3 at3)
     → (m4 : AddressMap) (l4 : Leaves) (c4 : ℕ)
     → (fourth : DropsRows m2 l3 gone.rows c4 m4 l4)
-    → (m5 : AddressMap) (s5 : Stored) (c5 : ℕ)
+    → (m5 : AddressMap) (s5 : StoredLeaves) (c5 : ℕ)
     → (fifth : HasDropped m4 l4 c5 m5 s5.leaves)
     → (left : variables_in m5 s5.leaves ≡ without_all (variables_in m4 l4) gone.variables)
     → (counts : CountsAt (variables_in m4 l4) (variables_in m5 s5.leaves) gone.variables c5)

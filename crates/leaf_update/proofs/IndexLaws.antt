@@ -14,7 +14,7 @@ use Rattle.std.proofs.lemmas.List.Sorted.{All-permutation, IsPermutation-map}
 use Rattle.std.proofs.lemmas.List.Sums.{AllPass-from_list_all, list_all-from_AllPass}
 use Rattle.std.proofs.lemmas.Map.Keys.{apart_from_distinct}
 use Rattle.ratio_core.specs.Rational.{Rational, one_ℚ}
-use Rattle.address_map.specs.Places.{Indices, IsOneToOne}
+use Rattle.address_map.specs.Places.{AreIndicesOneToOne, Indices}
 use Rattle.aff_core.specs.Address.{Address, address_cmp}
 use Rattle.aff_core.specs.Function.{Function, function_of, gathered, terms_of, variable}
 use Rattle.aff_core.specs.FunctionLaws.{constant-function_of, function_of-terms, nonzero-filter, terms-function_of, terms-variable, tested}
@@ -30,7 +30,7 @@ use Rattle.leaf_model.specs.ReadThrough.{address_in, named, named_terms}
 use Rattle.map_laws.specs.EntryLaws.{is_sorted_adjacent}
 use Rattle.map_laws.specs.OptionLaws.{not_some}
 use Rattle.solver_store.specs.SolverFunction.{IndicesRise}
-use Rattle.std_form.specs.NameLaws.{IsNamedTerm, NamesNamed, address_in_is, index_order}
+use Rattle.std_form.specs.NameLaws.{IsTermIndexNamed, NamesNamed, address_in_is, index_order}
 
 -- ---- numbers in order, no two of which are equal, rise
 
@@ -68,7 +68,7 @@ module _ (indices : Indices) where
   abbrev HasIndex : Address × Rational → Type 0
   HasIndex t = IsSome (finite.get indices t.0)
 
-  module _ (one : IsOneToOne indices) where
+  module _ (one : AreIndicesOneToOne indices) where
     other_index : (t u : Address × Rational) → HasIndex t → HasIndex u
         → address_cmp t.0 u.0 ≡ Less
         → eq_by_cmp nat_cmp (index_at indices t.0) (index_at indices u.0) ≡ false
@@ -130,10 +130,10 @@ module _ (indices : Indices) where
 
       pub names_made : NamesNamed indices (function_of ys f.constant)
       names_made =
-          subst (All (IsNamedTerm indices)) (sym terms_made)
-          (All-permutation (IsNamedTerm indices) (indexed_terms indices (terms_of f)) ys permuted
-          (All-map (IsNamedTerm indices) (λ t. (index_at indices t.0, t.1)) (terms_of f)
-          (All-weaker HasIndex (λ t. IsNamedTerm indices (index_at indices t.0, t.1))
+          subst (All (IsTermIndexNamed indices)) (sym terms_made)
+          (All-permutation (IsTermIndexNamed indices) (indexed_terms indices (terms_of f)) ys permuted
+          (All-map (IsTermIndexNamed indices) (λ t. (index_at indices t.0, t.1)) (terms_of f)
+          (All-weaker HasIndex (λ t. IsTermIndexNamed indices (index_at indices t.0, t.1))
           (λ t h. (t.0, index_is t.0 h)) (terms_of f) indexed)))
 
 -- ---- what an item's functions mention has an index

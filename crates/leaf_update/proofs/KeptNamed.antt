@@ -3,7 +3,7 @@ use Rattle.std.specs.Prelude.{◌≡◌, ℕ, IfSome, Some}
 use Rattle.std.specs.FinMap as finite
 use Rattle.std.proofs.Common.{sym, subst}
 use Rattle.address_map.specs.AddressMap.{AddressMap}
-use Rattle.address_map.specs.Places.{Indices, IsOneToOne}
+use Rattle.address_map.specs.Places.{AreIndicesOneToOne, Indices}
 use Rattle.leaf_update.specs.Named.{RowNames}
 use Rattle.leaf_model.specs.ReadThrough.{by_address, read_objective, read_row}
 use Rattle.solver_store.specs.SolverModel.{Leaves}
@@ -19,7 +19,7 @@ pub record KeepsNamed (old new : Indices) (leaves : Leaves) : Type 0 where
   pub objective : IfSome leaves.objective (SharesObjective old new)
 
 module _ (map : AddressMap) (leaves : Leaves) (vars : Indices)
-    (one : IsOneToOne map.vars.indices) (other : IsOneToOne vars)
+    (one : AreIndicesOneToOne map.vars.indices) (other : AreIndicesOneToOne vars)
     (keeps : KeepsNamed map.vars.indices vars leaves) where
   pub rows_kept :
       by_address (read_row vars) map.rows.indices leaves.rows

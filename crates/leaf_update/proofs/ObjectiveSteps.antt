@@ -19,12 +19,12 @@ use Rattle.map_laws.specs.EachLaws.{cons_head}
 use Rattle.map_laws.specs.OptionLaws.{not_some}
 use Rattle.solver_store.specs.SolverModel.{Leaves, with_objective}
 use Rattle.solver_store.specs.declared.leaf.LeafObjective.{LeafObjective}
-use Rattle.leaf_update.specs.Steps.{Calls}
+use Rattle.leaf_update.specs.Steps.{CallsAtMost}
 use Rattle.leaf_update.proofs.Counted.{counts_none}
 use Rattle.leaf_update.specs.Splice.{spliced, without_all}
 use Rattle.leaf_update.specs.SplicedLaws.{get_beside, get_gone, get_past, get_put}
 use Rattle.leaf_update.proofs.VariableSteps.{gone_counts, one_call, set_counts}
-use Rattle.leaf_update.specs.Objective.{CanChange, ChangesObjective, HasOne, SetsObjective, no_body, objective_held, objective_in, only}
+use Rattle.leaf_update.specs.Objective.{CanChange, ChangesObjective, HasOneAddress, SetsObjective, no_body, objective_held, objective_in, only}
 
 pub read_objective_is : (map : AddressMap) (leaves : Leaves) (at : Address)
     → (read_through map leaves at).objective ≡ objective_held at (objective_in map leaves)
@@ -69,7 +69,7 @@ one_there at b q h = same_or_other address_order _ q at (λ e. e)
     (λ n. absurd (not_some _ (get_past address_order no_body at b q n ∙ get_empty q) h))
 
 -- a map with at most one is the map of what is known to stand there
-is_one : (m : FinMap address_cmp Body) (p : Address) (b : Body) → HasOne m
+is_one : (m : FinMap address_cmp Body) (p : Address) (b : Body) → HasOneAddress m
     → finite.get m p ≡ Some b → m ≡ finite.insert no_body p b
 is_one m p b one here = finite.same_map address_total exact_addresses _ _ (λ q.
     same_or_other address_order _ q p
@@ -137,7 +137,7 @@ module _ (map : AddressMap) (leaves : Leaves) (names : NamesEach map leaves) (at
 
   module _ (few : leaves.calls ≤ 2 ^ 64 - 1) (after : Leaves) where
     call : (o : Option LeafObjective) → after ≡ with_objective leaves o → (n : ℕ) → 1 ≤ n
-        → Calls leaves after n
+        → CallsAtMost leaves after n
     call o is n h =
         let c = one_call leaves.calls after.calls few (ap (λ l. l.calls) is) in
         record { rises = c.0; bound = omega (arith, c.1, h) }

@@ -20,16 +20,16 @@ use Rattle.leaf_update.specs.CoverLaws.{objective_covers, rows_cover, variables_
 use Rattle.leaf_update.specs.Leaves.{AreLeaves, NamesLeaves}
 use Rattle.leaf_update.specs.LeavesLaws.{among_contained, contains_among, entries_apart, has_one, keys_apart, looked_among, names_own}
 use Rattle.leaf_update.specs.Named.{NamesEach}
-use Rattle.leaf_update.specs.Objective.{HasOne}
+use Rattle.leaf_update.specs.Objective.{HasOneAddress}
 use Rattle.leaf_update.specs.Others.{among, objective_addresses, others, others_in}
-use Rattle.leaf_update.specs.Splice.{AreBeside, Gone, IsChangedTo, IsSplice, NamesOwn, keys_of, spliced, spliced_model, without_all}
+use Rattle.leaf_update.specs.Splice.{ArePutBeside, Gone, IsChangedTo, IsSplice, NamesOwn, keys_of, spliced, spliced_model, without_all}
 use Rattle.leaf_update.specs.SplicedLaws.{get_put_all, get_without, none_without}
 use Rattle.leaf_update.proofs.KeyLaws.{rising_distinct}
 use Rattle.leaf_model.specs.LeafModel.{LeafModel}
 use Rattle.leaf_model.specs.ReadThrough.{read_through}
 use Rattle.map_laws.specs.EachLaws.{all_from_map, contains_later}
 use Rattle.map_laws.specs.MadeLaws.{get_made}
-use Rattle.solver_store.specs.SolverModel.{Leaves, Stored}
+use Rattle.solver_store.specs.SolverModel.{Leaves, StoredLeaves}
 
 -- ---- keys
 
@@ -94,7 +94,7 @@ module _ {X : Type 0} (m : FinMap address_cmp X) (es : List (Address × X)) (all
       (All-weaker (Contains all) (λ at. IsSome (finite.get m at))
       (λ at c. covers at ∙ among_contained at all c) all (All-contains_itself all))
 
-  pub all_beside : AreBeside gone es
+  pub all_beside : ArePutBeside gone es
   all_beside =
       All-weaker (λ e. Contains (keys_of es) e.0) (λ e. ¬ (Contains gone e.0))
       (λ e c k. true≢false (sym (All-contains (λ at. not (among (keys_of es) at) ≡ true) gone e.0
@@ -155,11 +155,11 @@ module _ (places : AddressMap) (leaves : Leaves) (at : Address) (put : List Item
         (λ q. not (among (keys_of (flat_map leaf_rows put)) q))
         (addresses places.rows.indices) (indices_apart places.rows.indices);
     names = subst NamesOwn (sym replaced) (names_own put are);
-    one = subst (λ (m : LeafModel). HasOne m.objective) (sym replaced) (has_one put are);
+    one = subst (λ (m : LeafModel). HasOneAddress m.objective) (sym replaced) (has_one put are);
   }
 
   -- so what is spliced is the leaves
-  pub changed_to : (old new : Stored) (map : AddressMap) (after : Address) (going : Gone) (n : ℕ)
+  pub changed_to : (old new : StoredLeaves) (map : AddressMap) (after : Address) (going : Gone) (n : ℕ)
       → going ≡ all_gone
       → IsChangedTo (spliced_model model going put) old places at n new map after
       → IsChangedTo (leaf_model_of put) old places at n new map after

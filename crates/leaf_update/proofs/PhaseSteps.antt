@@ -17,11 +17,11 @@ use Rattle.map_laws.specs.EachLaws.{all_both, all_first, all_second, contains_he
 use Rattle.map_laws.specs.PairLaws.{AllPairs-first, AllPairs-head, AllPairs-second, AllPairs-tail}
 use Rattle.solver_store.specs.SolverModel.{Leaves}
 use Rattle.solver_store.specs.declared.leaf.LeafVar.{LeafVar}
-use Rattle.leaf_update.specs.Steps.{Calls, CountsFrom, DropsRow, SetsRow, SetsVariable, StaysBeside, StaysBesideRows}
+use Rattle.leaf_update.specs.Steps.{CallsAtMost, CountsFrom, DropsRow, SetsRow, SetsVariable, StaysBeside, StaysBesideRows}
 use Rattle.leaf_update.proofs.Counted.{contains_first}
 use Rattle.leaf_update.specs.SplicedLaws.{get_beside, get_gone, get_left, get_past, get_put}
-use Rattle.leaf_update.specs.Splice.{AreApart, keys_of, without_all}
-use Rattle.leaf_update.specs.Phases.{Changes, DropsRows, SetsRows, SetsVariables}
+use Rattle.leaf_update.specs.Splice.{HaveDistinctKeys, keys_of, without_all}
+use Rattle.leaf_update.specs.Phases.{ChangesAtKeys, DropsRows, SetsRows, SetsVariables}
 
 -- ---- keys that are apart
 
@@ -63,7 +63,7 @@ these_apart all ks ls rest h e =
     (subst (AllPairs (λ a b. ¬ (b ≡ a))) (sym e) h))
 
 module _ {X : Type 0} where
-  pub changes_none : (m : FinMap address_cmp X) → Changes m m [] 0
+  pub changes_none : (m : FinMap address_cmp X) → ChangesAtKeys m m [] 0
   changes_none m = record {
     outside = λ q h. refl;
     counts = λ start h k c. subst (IsCountOf (Differ start m)) (zero_more k) c;
@@ -74,7 +74,7 @@ module _ {X : Type 0} where
 
   pub changes_one : (m n : FinMap address_cmp X) (at : Address) (c : ℕ)
       → ((q : Address) → ¬ (q ≡ at) → finite.get n q ≡ finite.get m q)
-      → CountsFrom m n at c → Changes m n (at ∷ []) c
+      → CountsFrom m n at c → ChangesAtKeys m n (at ∷ []) c
   changes_one m n at c beside counts = record {
     outside = λ q h. beside q (λ e. h (subst (Contains (at ∷ [])) (sym e) (contains_here at [])));
     counts = λ start h. counts start
@@ -82,8 +82,8 @@ module _ {X : Type 0} where
   }
 
   pub changes_both : (m n o : FinMap address_cmp X) (ks ls : List Address) (c d : ℕ)
-      → Changes m n ks c → Changes n o ls d → All (λ k. ¬ (Contains ks k)) ls
-      → Changes m o (ks ++ ls) (c + d)
+      → ChangesAtKeys m n ks c → ChangesAtKeys n o ls d → All (λ k. ¬ (Contains ks k)) ls
+      → ChangesAtKeys m o (ks ++ ls) (c + d)
   changes_both m n o ks ls c d first second apart = record {
     outside = λ q h.
         second.outside q (λ k. h (Contains-append_right ks ls q k))
@@ -154,10 +154,11 @@ module _ {X : Type 0} where
 
 -- ---- calls and indices
 
-pub calls_none : (leaves : Leaves) → Calls leaves leaves 0
+pub calls_none : (leaves : Leaves) → CallsAtMost leaves leaves 0
 calls_none leaves = record { rises = omega arith; bound = omega arith }
 
-pub calls_both : (a b c : Leaves) (n m : ℕ) → Calls a b n → Calls b c m → Calls a c (n + m)
+pub calls_both : (a b c : Leaves) (n m : ℕ) → CallsAtMost a b n → CallsAtMost b c m
+    → CallsAtMost a c (n + m)
 calls_both a b c n m first second = record {
   rises = omega (arith, first.rises, second.rises);
   bound = omega (arith, first.bound, second.bound);
@@ -217,7 +218,7 @@ sets_both a b c x y z es fs n m first second apart = record {
   set = second.set ∙ ap (λ m. put_all m fs) first.set ∙ sym (put_all_both (variables_in a x) es fs);
   extends = λ at i e. second.extends at i (first.extends at i e);
   calls = calls_both x y z n m first.calls second.calls;
-  changes = subst (λ ks. Changes (variables_in a x) (variables_in c z) ks (n + m))
+  changes = subst (λ ks. ChangesAtKeys (variables_in a x) (variables_in c z) ks (n + m))
       (sym (map-append (λ e. e.0) es fs))
       (changes_both (variables_in a x) (variables_in b y) (variables_in c z) (keys_of es)
       (keys_of fs) n m first.changes second.changes apart);
@@ -257,7 +258,7 @@ sets_rows_both a b c x y z es fs n m first second apart = record {
   set = second.set ∙ ap (λ m. put_all m fs) first.set ∙ sym (put_all_both (rows_in a x) es fs);
   extends = λ at i e. second.extends at i (first.extends at i e);
   calls = calls_both x y z n m first.calls second.calls;
-  changes = subst (λ ks. Changes (rows_in a x) (rows_in c z) ks (n + m))
+  changes = subst (λ ks. ChangesAtKeys (rows_in a x) (rows_in c z) ks (n + m))
       (sym (map-append (λ e. e.0) es fs))
       (changes_both (rows_in a x) (rows_in b y) (rows_in c z) (keys_of es)
       (keys_of fs) n m first.changes second.changes apart);
@@ -307,14 +308,14 @@ module _ {X : Type 0} (all es fs rest : List (Address × X)) (e : es ++ (fs ++ r
       sym (map-append (λ e. e.0) es (fs ++ rest)
       ∙ ap (λ ks. keys_of es ++ ks) (map-append (λ e. e.0) fs rest)) ∙ ap keys_of e
 
-  pub next_keys : AreApart all → All (λ k. ¬ (Contains (keys_of es) k)) (keys_of fs)
+  pub next_keys : HaveDistinctKeys all → All (λ k. ¬ (Contains (keys_of es) k)) (keys_of fs)
   next_keys h = next_apart (keys_of all) (keys_of es) (keys_of fs) (keys_of rest) h keys_are
 
-  pub these_keys : AreApart all → AreApart fs
+  pub these_keys : HaveDistinctKeys all → HaveDistinctKeys fs
   these_keys h = these_apart (keys_of all) (keys_of es) (keys_of fs) (keys_of rest) h keys_are
 
 pub sets_more : (a b c : AddressMap) (x y z : Leaves) (all es fs rest : List (Address × LeafVar))
-    (n m : ℕ) → AreApart all → es ++ (fs ++ rest) ≡ all → SetsVariables a x es n b y
+    (n m : ℕ) → HaveDistinctKeys all → es ++ (fs ++ rest) ≡ all → SetsVariables a x es n b y
     → SetsVariables b y fs m c z
     → (ds : List (Address × LeafVar)) × (ds ++ rest ≡ all) × SetsVariables a x ds (n + m) c z
 sets_more a b c x y z all es fs rest n m h e first second = (
@@ -324,7 +325,7 @@ sets_more a b c x y z all es fs rest n m h e first second = (
 )
 
 pub sets_rows_more : (a b c : AddressMap) (x y z : Leaves) (all es fs rest : List (Address × Body))
-    (n m : ℕ) → AreApart all → es ++ (fs ++ rest) ≡ all → SetsRows a x es n b y
+    (n m : ℕ) → HaveDistinctKeys all → es ++ (fs ++ rest) ≡ all → SetsRows a x es n b y
     → SetsRows b y fs m c z
     → (ds : List (Address × Body)) × (ds ++ rest ≡ all) × SetsRows a x ds (n + m) c z
 sets_rows_more a b c x y z all es fs rest n m h e first second = (

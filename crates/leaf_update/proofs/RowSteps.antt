@@ -7,7 +7,7 @@ use Rattle.std.specs.Ordering.{nat_cmp}
 use Rattle.std.proofs.Common.{arith, sym, ◌∙◌, ap, subst}
 use Rattle.std.proofs.lemmas.Option.{none-some, same_Some}
 use Rattle.address_map.specs.AddressMap.{AddressMap}
-use Rattle.address_map.specs.Places.{Indices, IsOneToOne, Places}
+use Rattle.address_map.specs.Places.{AreIndicesOneToOne, Indices, Places}
 use Rattle.aff_core.specs.Address.{Address, address_total, exact_addresses}
 use Rattle.aff_core.specs.KeyOrder.{address_order, same_or_other}
 use Rattle.item_core.specs.declared.item.Body.{Body}
@@ -104,7 +104,7 @@ module _ (old : AddressMap) (leaves : Leaves) (names : NamesEach old leaves)
             (rows_in new after) set_more (λ e. none-some _ (sym nothing ∙ e));
       }
 
-    module _ (one : IsOneToOne old.rows.indices) (here : finite.get old.rows.indices at ≡ Some i)
+    module _ (one : AreIndicesOneToOne old.rows.indices) (here : finite.get old.rows.indices at ≡ Some i)
         (same_places : new.rows ≡ old.rows)
         (differs : ¬ (finite.get (rows_in old leaves) at ≡ Some (read_row old.vars.indices row)))
       where
@@ -138,7 +138,7 @@ module _ (old : AddressMap) (leaves : Leaves) (names : NamesEach old leaves)
               (rows_in new after) set_again differs;
         }
 
-  module _ (at : Address) (i : ℕ) (one : IsOneToOne old.rows.indices)
+  module _ (at : Address) (i : ℕ) (one : AreIndicesOneToOne old.rows.indices)
       (here : finite.get old.rows.indices at ≡ Some i)
       (is : after ≡ without_row leaves i)
       (put : new.rows.indices ≡ finite.remove old.rows.indices at) where

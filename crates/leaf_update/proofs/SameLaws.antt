@@ -18,7 +18,7 @@ use Rattle.std.proofs.lemmas.Map.Made.{length-le_from_is_member}
 use Rattle.std.proofs.lemmas.Option.{same_Some}
 use Rattle.rational_laws.specs.Tests.{zero_test}
 use Rattle.ratio_core.specs.Rational.{Rational, zero_ℚ}
-use Rattle.address_map.specs.Places.{Indices, IsOneToOne}
+use Rattle.address_map.specs.Places.{AreIndicesOneToOne, Indices}
 use Rattle.aff_core.specs.Address.{Address, address_cmp, address_eq, address_eq-Decides, address_total}
 use Rattle.aff_core.specs.Function.{Function, coefficient, terms_of}
 use Rattle.aff_core.specs.FunctionLaws.{coefficient-gathered, coefficient_in, coefficient_in-terms_of, same_coefficients}
@@ -32,7 +32,7 @@ use Rattle.leaf_update.proofs.SameRows.{refused}
 use Rattle.leaf_model.specs.ReadThrough.{address_in, named, named_terms}
 use Rattle.map_laws.specs.EntryLaws.{find_at}
 use Rattle.solver_store.specs.SolverFunction.{SolverFunction}
-use Rattle.std_form.specs.NameLaws.{IsNamedTerm, NamesNamed, address_in_is, coefficient_named, constant_named, index_order}
+use Rattle.std_form.specs.NameLaws.{IsTermIndexNamed, NamesNamed, address_in_is, coefficient_named, constant_named, index_order}
 
 -- ---- keys and coefficients
 
@@ -142,9 +142,9 @@ module _ (ts us : List (Address × Rational)) where
 
 -- ---- a function of indices, read
 
-module _ (indices : Indices) (one : IsOneToOne indices) (g : SolverFunction)
+module _ (indices : Indices) (one : AreIndicesOneToOne indices) (g : SolverFunction)
     (names : NamesNamed indices g) (f : Function) where
-  other_name : (t u : ℕ × Rational) → IsNamedTerm indices t → IsNamedTerm indices u
+  other_name : (t u : ℕ × Rational) → IsTermIndexNamed indices t → IsTermIndexNamed indices u
       → nat_cmp t.0 u.0 ≡ Less
       → address_eq (address_in indices t.0) (address_in indices u.0) ≡ false
   other_name t u ht hu less =
@@ -164,7 +164,7 @@ module _ (indices : Indices) (one : IsOneToOne indices) (g : SolverFunction)
 
   distinct : HasDistinctKeys address_cmp (named_terms indices (terms_of g))
   distinct =
-      renamed_distinct nat_cmp address_cmp (address_in indices) (IsNamedTerm indices) other_name
+      renamed_distinct nat_cmp address_cmp (address_in indices) (IsTermIndexNamed indices) other_name
       (terms_of g) (finite.entries_sorted g.terms) names
 
   read_coefficient : (v : Address) → coefficient (named indices g) v
@@ -221,7 +221,7 @@ module _ (indices : Indices) (one : IsOneToOne indices) (g : SolverFunction)
           → length (terms_of g) ≡ length (terms_of f)
       both_fewer h k = omega (arith, as_many (terms_of g))
 
-      term : (t : ℕ × Rational) → IsNamedTerm indices t → coefficient g t.0 ≡ t.1
+      term : (t : ℕ × Rational) → IsTermIndexNamed indices t → coefficient g t.0 ≡ t.1
           → IsSameTerm indices f t
       term t n own = (
         n.0,
@@ -232,7 +232,7 @@ module _ (indices : Indices) (one : IsOneToOne indices) (g : SolverFunction)
 
 -- ---- as tests
 
-module _ (indices : Indices) (one : IsOneToOne indices) (g : SolverFunction)
+module _ (indices : Indices) (one : AreIndicesOneToOne indices) (g : SolverFunction)
     (names : NamesNamed indices g) (f : Function) where
   pub tested_terms : (r : Bool) → length (terms_of g) ≡ length (terms_of f)
       → g.constant ≡ f.constant → (IsTrue r ↔ All (IsSameTerm indices f) (terms_of g)) → IsTrue r

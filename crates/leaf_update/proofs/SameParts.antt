@@ -4,7 +4,7 @@ use Rattle.std.proofs.Common.{sym, ◌∙◌, ap, subst}
 use Rattle.std.proofs.lemmas.Option.{same_Some}
 use Rattle.ratio_core.specs.Rational.{Rational, rational_eq}
 use Rattle.ratio_core.specs.RationalLaws.{eq_rational_eq, rational_eq-true}
-use Rattle.address_map.specs.Places.{Indices, IsAddressAt, IsOneToOne}
+use Rattle.address_map.specs.Places.{AreIndicesOneToOne, Indices, IsAddressAt}
 use Rattle.aff_core.specs.Address.{Address}
 use Rattle.aff_core.specs.Function.{Function, coefficient}
 use Rattle.leaf_update.specs.Named.{IsSameTerm}
@@ -24,7 +24,8 @@ term_same indices f t at q r named is test = (
       ∙ s.2),
 )
 
-pub variable_same : (indices : Indices) (i : ℕ) (name at : Address) (r : Bool) → IsOneToOne indices
+pub variable_same : (indices : Indices) (i : ℕ) (name at : Address) (r : Bool)
+    → AreIndicesOneToOne indices
     → IsAddressAt indices i (Some name) → (IsTrue r ↔ (name ≡ at)) → IsTrue r
     ↔ (address_in indices i ≡ at)
 variable_same indices i name at r one named same =

@@ -7,7 +7,7 @@ use Rattle.std.proofs.lemmas.Cmp.{tied_itself}
 use Rattle.std.proofs.lemmas.List.Elements.{All-head, All-weaker}
 use Rattle.std.proofs.lemmas.List.Sums.{AllPass-from_list_all}
 use Rattle.std.proofs.lemmas.Option.{none-some, same_Some}
-use Rattle.address_map.specs.Places.{Indices, IsOneToOne}
+use Rattle.address_map.specs.Places.{AreIndicesOneToOne, Indices}
 use Rattle.aff_core.specs.Address.{Address, address_cmp, address_total}
 use Rattle.aff_core.specs.Function.{coefficient, gathered, terms_of, variable}
 use Rattle.aff_core.specs.FunctionLaws.{coefficient-variable_same}
@@ -28,7 +28,7 @@ use Rattle.solver_store.specs.declared.leaf.LeafObjective.{LeafObjective}
 use Rattle.solver_store.specs.declared.leaf.LeafObjective.TheVariants as objective
 use Rattle.solver_store.specs.declared.leaf.LeafRow.{LeafRow}
 use Rattle.solver_store.specs.declared.leaf.LeafRow.TheVariants as row
-use Rattle.std_form.specs.NameLaws.{IsNamed, NamesNamed, address_in_is, coefficient_named}
+use Rattle.std_form.specs.NameLaws.{IsIndexNamed, NamesNamed, address_in_is, coefficient_named}
 
 -- ---- maps that share an index
 
@@ -51,7 +51,7 @@ module _ (one other : Indices) where
   SharesObjective (objective.Plain sense var) = Shares var
   SharesObjective (objective.Affine sense func) = SharesFunction func
 
-  module _ (first : IsOneToOne one) (second : IsOneToOne other) where
+  module _ (first : AreIndicesOneToOne one) (second : AreIndicesOneToOne other) where
     same_address : (i : ℕ) → Shares i → address_in one i ≡ address_in other i
     same_address i s =
         address_in_is one first s.at i s.first ∙ sym (address_in_is other second s.at i s.second)
@@ -79,12 +79,12 @@ module _ (one other : Indices) where
     same_objective (objective.Affine sense func) h = ap (AffineObj sense) (same_function func h)
 
   -- so all is named in both
-  named_second : (i : ℕ) → Shares i → IsNamed other i
+  named_second : (i : ℕ) → Shares i → IsIndexNamed other i
   named_second i s = (s.at, s.second)
 
   function_named : (f : SolverFunction) → SharesFunction f → NamesNamed other f
   function_named f h =
-      All-weaker (λ t. Shares t.0) (λ t. IsNamed other t.0) (λ t s. named_second t.0 s) (terms_of f)
+      All-weaker (λ t. Shares t.0) (λ t. IsIndexNamed other t.0) (λ t s. named_second t.0 s) (terms_of f)
       h
 
   pub row_named : (r : LeafRow) → SharesRow r → RowNames other r
@@ -100,7 +100,7 @@ module _ (one other : Indices) where
 -- ---- one address more
 
 module _ (indices : Indices) (at : Address) (i : ℕ) (absent : finite.get indices at ≡ None) where
-  grown : (j : ℕ) → IsNamed indices j → Shares indices (finite.insert indices at i) j
+  grown : (j : ℕ) → IsIndexNamed indices j → Shares indices (finite.insert indices at i) j
   grown j n = record {
     at = n.0;
     first = n.1;
@@ -114,7 +114,7 @@ module _ (indices : Indices) (at : Address) (i : ℕ) (absent : finite.get indic
   grown_function : (f : SolverFunction) → NamesNamed indices f
       → SharesFunction indices (finite.insert indices at i) f
   grown_function f h =
-      All-weaker (λ t. IsNamed indices t.0)
+      All-weaker (λ t. IsIndexNamed indices t.0)
       (λ t. Shares indices (finite.insert indices at i) t.0) (λ t n. grown t.0 n) (terms_of f) h
 
   -- a row that was read before is read alike once an address is added
@@ -150,9 +150,10 @@ terms_named f =
         (finite.entries_sorted f.terms) end
         (tied_itself nat_cmp_total (slice_index_or (terms_of f) k d).0))
 
-module _ (indices : Indices) (one : IsOneToOne indices) (at : Address) (i : ℕ)
+module _ (indices : Indices) (one : AreIndicesOneToOne indices) (at : Address) (i : ℕ)
     (here : finite.get indices at ≡ Some i) where
-  shrunk : (j : ℕ) → IsNamed indices j → ¬ (j ≡ i) → Shares indices (finite.remove indices at) j
+  shrunk : (j : ℕ) → IsIndexNamed indices j → ¬ (j ≡ i)
+      → Shares indices (finite.remove indices at) j
   shrunk j n other = record {
     at = n.0;
     first = n.1;
@@ -167,15 +168,15 @@ module _ (indices : Indices) (one : IsOneToOne indices) (at : Address) (i : ℕ)
       → coefficient (named indices f) at ≡ zero_ℚ
       → SharesFunction indices (finite.remove indices at) f
   shrunk_function f h misses =
-      All-weaker (λ t. IsNamed indices t.0 × (¬ (coefficient f t.0 ≡ zero_ℚ)))
+      All-weaker (λ t. IsIndexNamed indices t.0 × (¬ (coefficient f t.0 ≡ zero_ℚ)))
       (λ t. Shares indices (finite.remove indices at) t.0)
       (λ t k. shrunk t.0 k.0 (λ e. k.1 (ap (coefficient f) e
       ∙ sym (coefficient_named indices one f at i here h) ∙ misses)))
       (terms_of f)
-      (all_both (λ t. IsNamed indices t.0) (λ t. ¬ (coefficient f t.0 ≡ zero_ℚ)) (terms_of f) h
+      (all_both (λ t. IsIndexNamed indices t.0) (λ t. ¬ (coefficient f t.0 ≡ zero_ℚ)) (terms_of f) h
       (terms_named f))
 
-  shrunk_variable : (var : ℕ) → IsNamed indices var
+  shrunk_variable : (var : ℕ) → IsIndexNamed indices var
       → coefficient (variable {R = address_cmp} (address_in indices var)) at ≡ zero_ℚ
       → Shares indices (finite.remove indices at) var
   shrunk_variable var n misses =

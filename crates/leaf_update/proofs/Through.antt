@@ -7,7 +7,7 @@ use Rattle.std.specs.Option.{option_map}
 use Rattle.std.specs.Ordering.{nat_cmp}
 use Rattle.std.proofs.Common.{sym, ◌∙◌, ap, subst}
 use Rattle.std.proofs.lemmas.Option.{none-some, same_Some}
-use Rattle.address_map.specs.Places.{Indices, IsOneToOne}
+use Rattle.address_map.specs.Places.{AreIndicesOneToOne, Indices}
 use Rattle.aff_core.specs.Address.{Address, address_total, exact_addresses}
 use Rattle.aff_core.specs.KeyOrder.{address_order, same_or_other}
 use Rattle.leaf_model.specs.ReadThrough.{by_address}
@@ -18,7 +18,7 @@ use Rattle.std_form.specs.ThroughLaws.{get_through}
 use Rattle.leaf_update.specs.SplicedLaws.{get_beside, get_gone, get_past, get_put}
 
 module _ {X : Type 0} (indices : Indices) (leaves : FinMap nat_cmp X)
-    (exact : NamesExactly indices leaves) (one : IsOneToOne indices)
+    (exact : NamesExactly indices leaves) (one : AreIndicesOneToOne indices)
     (at : Address) (i : ℕ) (here : finite.get indices at ≡ Some i) where
   -- ---- changed
 
@@ -71,7 +71,7 @@ module _ {X : Type 0} (indices : Indices) (leaves : FinMap nat_cmp X)
 
   -- ---- taken out
 
-  pub one_removed : IsOneToOne (finite.remove indices at)
+  pub one_removed : AreIndicesOneToOne (finite.remove indices at)
   one_removed p q j e f = one p q j (kept p j e) (kept q j f)
     where
       kept : (p : Address) (j : ℕ) → finite.get (finite.remove indices at) p ≡ Some j

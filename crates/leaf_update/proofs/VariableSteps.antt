@@ -8,7 +8,7 @@ use Rattle.std.specs.Ordering.{nat_cmp}
 use Rattle.std.proofs.Common.{arith, sym, ◌∙◌, ap, ap₂, subst}
 use Rattle.std.proofs.lemmas.Option.{none-some}
 use Rattle.address_map.specs.AddressMap.{AddressMap}
-use Rattle.address_map.specs.Places.{Indices, IsOneToOne, Places}
+use Rattle.address_map.specs.Places.{AreIndicesOneToOne, Indices, Places}
 use Rattle.aff_core.specs.Address.{Address, address_cmp, address_total, exact_addresses}
 use Rattle.aff_core.specs.KeyOrder.{address_order, same_or_other}
 use Rattle.bridge_face.specs.Law.{Miss}
@@ -59,8 +59,8 @@ one_call calls after h e = (omega (arith, h, e), omega (arith, h, e))
 -- ---- other indices of variables
 
 module _ (old : AddressMap) (leaves : Leaves) (names : NamesEach old leaves)
-    (one : IsOneToOne old.vars.indices) (new : AddressMap) (after : Leaves)
-    (other : IsOneToOne new.vars.indices)
+    (one : AreIndicesOneToOne old.vars.indices) (new : AddressMap) (after : Leaves)
+    (other : AreIndicesOneToOne new.vars.indices)
     (row_places : new.rows ≡ old.rows) (rest : rest_of new ≡ rest_of old)
     (rows : after.rows ≡ leaves.rows) (objective : after.objective ≡ leaves.objective)
     (exact : NamesExactly new.vars.indices after.vars)
@@ -100,12 +100,12 @@ module _ (old : AddressMap) (leaves : Leaves) (names : NamesEach old leaves)
 -- ---- added
 
 module _ (old : AddressMap) (leaves : Leaves) (names : NamesEach old leaves)
-    (one : IsOneToOne old.vars.indices) (at : Address) (var : LeafVar) (i : ℕ)
+    (one : AreIndicesOneToOne old.vars.indices) (at : Address) (var : LeafVar) (i : ℕ)
     (absent : finite.get old.vars.indices at ≡ None) (unused : finite.get leaves.vars i ≡ None)
     (few : leaves.calls ≤ 2 ^ 64 - 1)
     (new : AddressMap) (after : Leaves) (added : after ≡ with_var leaves i var)
     (put : new.vars.indices ≡ finite.insert old.vars.indices at i)
-    (other : IsOneToOne new.vars.indices)
+    (other : AreIndicesOneToOne new.vars.indices)
     (row_places : new.rows ≡ old.rows) (rest : rest_of new ≡ rest_of old) where
   pub variable_added : SetsVariable old leaves at var 1 new after
   variable_added = record {
@@ -153,7 +153,7 @@ module _ (old : AddressMap) (leaves : Leaves) (names : NamesEach old leaves)
 -- ---- taken out
 
 module _ (old : AddressMap) (leaves : Leaves) (names : NamesEach old leaves)
-    (one : IsOneToOne old.vars.indices) (at : Address) (i : ℕ)
+    (one : AreIndicesOneToOne old.vars.indices) (at : Address) (i : ℕ)
     (here : finite.get old.vars.indices at ≡ Some i) (nobody : NobodyNames old leaves at)
     (few : leaves.calls ≤ 2 ^ 64 - 1)
     (new : AddressMap) (after : Leaves) (removed : after ≡ without_var leaves i)
@@ -162,7 +162,7 @@ module _ (old : AddressMap) (leaves : Leaves) (names : NamesEach old leaves)
   pub variable_dropped : DropsVariable old leaves at 1 new after
   variable_dropped = record {
     beside = stays_beside old leaves names one new after
-        (subst IsOneToOne (sym put)
+        (subst AreIndicesOneToOne (sym put)
         (one_removed old.vars.indices leaves.vars names.vars one at i here)) row_places rest
         (ap (λ l. l.rows) removed) (ap (λ l. l.objective) removed) exact keeps;
     dropped = dropped_is;
@@ -215,7 +215,7 @@ module _ (old : AddressMap) (leaves : Leaves) (names : NamesEach old leaves)
 -- ---- changed, or as it is
 
 module _ (old : AddressMap) (leaves : Leaves) (names : NamesEach old leaves)
-    (one : IsOneToOne old.vars.indices) (at : Address) (var : LeafVar) (i : ℕ)
+    (one : AreIndicesOneToOne old.vars.indices) (at : Address) (var : LeafVar) (i : ℕ)
     (here : finite.get old.vars.indices at ≡ Some i) where
   found_at : (o : Option LeafVar) → finite.get leaves.vars i ≡ o
       → finite.get (variables_in old leaves) at ≡ o

@@ -21,10 +21,10 @@ use Rattle.item_core.specs.declared.item.Body.{Body}
 use Rattle.item_core.specs.declared.item.Body.TheVariants.{Group, Free, Plain, Affine, PlainVec, AffineVec, PlainObj, AffineObj}
 use Rattle.item_core.specs.declared.item.Item.{Item}
 use Rattle.leaf_update.specs.Leaves.{AreLeaves, NamesLeaves}
-use Rattle.leaf_update.specs.Objective.{HasOne}
+use Rattle.leaf_update.specs.Objective.{HasOneAddress}
 use Rattle.leaf_update.specs.Others.{among}
 use Rattle.leaf_update.specs.ReadableLaws.{found_passes}
-use Rattle.leaf_update.specs.Splice.{AreApart, NamesOwn, keys_of}
+use Rattle.leaf_update.specs.Splice.{HaveDistinctKeys, NamesOwn, keys_of}
 use Rattle.leaf_model.specs.LeafModel.{LeafModel}
 use Rattle.map_laws.specs.EachLaws.{contains_later}
 use Rattle.map_laws.specs.PairLaws.{AllPairs-map, AllPairs-nil}
@@ -61,7 +61,7 @@ module _ {X : Type 0} where
           All-cons (λ f. ¬ (f.0 ≡ e.0)) f fs
           (λ s. true≢false (sym ((address_eq-Decides e.0 f.0).1 (sym s)) ∙ k.0)) (each fs k.1)
 
-  pub keys_apart : (es : List (Address × X)) → HasDistinctKeys address_cmp es → AreApart es
+  pub keys_apart : (es : List (Address × X)) → HasDistinctKeys address_cmp es → HaveDistinctKeys es
   keys_apart es h =
       AllPairs-map (λ a b. ¬ (b ≡ a)) (λ (e : Address × X). e.0) (λ d e. ¬ (e.0 ≡ d.0)) es
       (λ d e n. n) (entries_apart es h)
@@ -134,7 +134,7 @@ objective_bodies i = by i.body
 
 -- at most one objective stands at one address
 pub one_at : (os : List (Address × Body)) → length os ≤ 1
-    → HasOne (finite.from_entries {R = address_cmp} os)
+    → HasOneAddress (finite.from_entries {R = address_cmp} os)
 one_at [] h one other f g e k =
     absurd (none-some f (sym (finite.get-from_entries {R = address_cmp} address_total [] one) ∙ e))
 one_at (o ∷ []) h one other f g e k = its one f e ∙ sym (its other g k)
@@ -159,5 +159,5 @@ module _ (leaves : List Item) (are : AreLeaves leaves) where
         (each_names (leaf_model_of leaves) leaf_objectives objective_bodies leaves are.names);
   }
 
-  pub has_one : HasOne (leaf_model_of leaves).objective
+  pub has_one : HasOneAddress (leaf_model_of leaves).objective
   has_one = one_at (flat_map leaf_objectives leaves) are.objective

@@ -14,18 +14,18 @@ use Rattle.solver_store.specs.declared.leaf.LeafObjective.{LeafObjective}
 use Rattle.solver_store.specs.declared.leaf.LeafObjective.TheVariants as objective
 use Rattle.solver_store.specs.declared.leaf.LeafRow.{LeafRow}
 use Rattle.solver_store.specs.declared.leaf.LeafRow.TheVariants as row
-use Rattle.std_form.specs.NameLaws.{IsNamed, NamesNamed}
+use Rattle.std_form.specs.NameLaws.{IsIndexNamed, NamesNamed}
 use Rattle.std_form.specs.Readable.{NamesExactly}
 
 module _ (indices : Indices) where
   -- all that the row names has an address
   abbrev pub RowNames : LeafRow → Type 0
-  RowNames (row.Plain var set) = IsNamed indices var
+  RowNames (row.Plain var set) = IsIndexNamed indices var
   RowNames (row.Affine func set) = NamesNamed indices func
   RowNames (row.AffineVec func set) = All (NamesNamed indices) func
 
   abbrev pub ObjectiveNames : LeafObjective → Type 0
-  ObjectiveNames (objective.Plain sense var) = IsNamed indices var
+  ObjectiveNames (objective.Plain sense var) = IsIndexNamed indices var
   ObjectiveNames (objective.Affine sense func) = NamesNamed indices func
 
   -- the function has the term, at the address that has its index

@@ -8,7 +8,7 @@ use Rattle.aff_core.specs.Address.{Address, address_cmp}
 use Rattle.item_core.specs.declared.item.Body.{Body}
 use Rattle.leaf_update.specs.Named.{NamesEach}
 use Rattle.leaf_update.specs.Splice.{spliced}
-use Rattle.leaf_update.specs.Steps.{Calls}
+use Rattle.leaf_update.specs.Steps.{CallsAtMost}
 use Rattle.leaf_model.specs.LeafModel.{Differ, IsCountOf}
 use Rattle.leaf_model.specs.ReadThrough.{read_objective, read_through}
 use Rattle.solver_store.specs.SolverModel.{Leaves}
@@ -28,8 +28,8 @@ abbrev pub objective_in : AddressMap → Leaves → Option Body
 objective_in map leaves = option_map (read_objective map.vars.indices) leaves.objective
 
 -- all stand at one address at most
-abbrev pub HasOne : FinMap address_cmp Body → Type 0
-HasOne m =
+abbrev pub HasOneAddress : FinMap address_cmp Body → Type 0
+HasOneAddress m =
     (one other : Address) (f g : Body)
     → finite.get m one ≡ Some f → finite.get m other ≡ Some g → one ≡ other
 
@@ -37,7 +37,7 @@ HasOne m =
 pub record CanChange (held : FinMap address_cmp Body) (gone : List Address)
     (es : List (Address × Body)) : Type 0 where
   pub there : All (λ at. IsSome (finite.get held at)) gone
-  pub one : HasOne (spliced held gone es)
+  pub one : HasOneAddress (spliced held gone es)
 
 -- it does
 pub record ChangesObjective (map : AddressMap) (leaves : Leaves) (at : Address)
@@ -52,7 +52,7 @@ pub record ChangesObjective (map : AddressMap) (leaves : Leaves) (at : Address)
   pub counts :
       IsCountOf (Differ (read_through map leaves at).objective
       (read_through map after at_after).objective) n
-  pub calls : Calls leaves after n
+  pub calls : CallsAtMost leaves after n
 
 -- it stands at the address p
 pub record SetsObjective (map : AddressMap) (leaves : Leaves) (at p : Address) (body : Body)
@@ -64,4 +64,4 @@ pub record SetsObjective (map : AddressMap) (leaves : Leaves) (at p : Address) (
   pub counts :
       IsCountOf (Differ (read_through map leaves at).objective
       (read_through map after at_after).objective) n
-  pub calls : Calls leaves after n
+  pub calls : CallsAtMost leaves after n

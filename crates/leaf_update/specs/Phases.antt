@@ -1,5 +1,5 @@
 -- Several leaves set or removed one after another.
---     Changes             nothing outside some addresses changes, and n of them differ more
+--     ChangesAtKeys       nothing outside some addresses changes, and n of them differ more
 --     SetsVariables SetsRows      leaves are set
 --     DropsRows           leaf rows are removed
 --     AreDroppable HasDropped      leaf variables are, which nobody names any more
@@ -13,7 +13,7 @@ use Rattle.item_core.specs.Item.{functions_of}
 use Rattle.item_core.specs.declared.item.Body.{Body}
 use Rattle.leaf_update.specs.Puts.{objectives_in, put_all, rows_in, variables_in}
 use Rattle.leaf_update.specs.Splice.{keys_of, without_all}
-use Rattle.leaf_update.specs.Steps.{Calls, CountsMore, Extends, StaysBeside, StaysBesideRows}
+use Rattle.leaf_update.specs.Steps.{CallsAtMost, CountsMore, Extends, StaysBeside, StaysBesideRows}
 use Rattle.solver_store.specs.SolverModel.{Leaves}
 use Rattle.solver_store.specs.declared.leaf.LeafVar.{LeafVar}
 
@@ -24,7 +24,7 @@ CountsAt {X} m n keys c =
     (start : FinMap address_cmp X)
     → All (λ at. finite.get m at ≡ finite.get start at) keys → CountsMore start m n c
 
-pub record Changes {X : Type 0} (m n : FinMap address_cmp X) (keys : List Address)
+pub record ChangesAtKeys {X : Type 0} (m n : FinMap address_cmp X) (keys : List Address)
     (c : ℕ) : Type 0 where
   pub outside : (q : Address) → ¬ (Contains keys q) → finite.get n q ≡ finite.get m q
   pub counts : CountsAt m n keys c
@@ -36,16 +36,16 @@ pub record SetsVariables (old : AddressMap) (leaves : Leaves) (es : List (Addres
   pub beside : StaysBeside old leaves new after
   pub set : variables_in new after ≡ put_all (variables_in old leaves) es
   pub extends : Extends old.vars.indices new.vars.indices
-  pub calls : Calls leaves after n
-  pub changes : Changes (variables_in old leaves) (variables_in new after) (keys_of es) n
+  pub calls : CallsAtMost leaves after n
+  pub changes : ChangesAtKeys (variables_in old leaves) (variables_in new after) (keys_of es) n
 
 pub record SetsRows (old : AddressMap) (leaves : Leaves) (es : List (Address × Body))
     (n : ℕ) (new : AddressMap) (after : Leaves) : Type 0 where
   pub beside : StaysBesideRows old leaves new after
   pub set : rows_in new after ≡ put_all (rows_in old leaves) es
   pub extends : Extends old.rows.indices new.rows.indices
-  pub calls : Calls leaves after n
-  pub changes : Changes (rows_in old leaves) (rows_in new after) (keys_of es) n
+  pub calls : CallsAtMost leaves after n
+  pub changes : ChangesAtKeys (rows_in old leaves) (rows_in new after) (keys_of es) n
 
 -- ---- leaves are removed
 
@@ -54,8 +54,8 @@ pub record DropsRows (old : AddressMap) (leaves : Leaves) (gone : List Address)
   pub beside : StaysBesideRows old leaves new after
   pub dropped : rows_in new after ≡ without_all (rows_in old leaves) gone
   pub extends : Extends new.rows.indices old.rows.indices
-  pub calls : Calls leaves after n
-  pub changes : Changes (rows_in old leaves) (rows_in new after) gone n
+  pub calls : CallsAtMost leaves after n
+  pub changes : ChangesAtKeys (rows_in old leaves) (rows_in new after) gone n
 
 -- no row and no objective, as it is read, names the variable
 pub record BodiesMiss (rows : FinMap address_cmp Body) (objectives : List Body)
@@ -73,4 +73,4 @@ pub record HasDropped (old : AddressMap) (leaves : Leaves) (n : ℕ) (new : Addr
     (after : Leaves) : Type 0 where
   pub beside : StaysBeside old leaves new after
   pub extends : Extends new.vars.indices old.vars.indices
-  pub calls : Calls leaves after n
+  pub calls : CallsAtMost leaves after n

@@ -23,7 +23,7 @@ use Rattle.solver_store.specs.declared.leaf.LeafObjective.TheVariants as objecti
 use Rattle.solver_store.specs.declared.leaf.LeafRow.{LeafRow}
 use Rattle.solver_store.specs.declared.leaf.LeafRow.TheVariants as row
 use Rattle.std_form.specs.Indexed.{SolverEquation, equations_in, objective_in}
-use Rattle.std_form.specs.NameLaws.{IsNamed, IsNamedTerm, NamesNamed}
+use Rattle.std_form.specs.NameLaws.{IsIndexNamed, IsTermIndexNamed, NamesNamed}
 use Rattle.std_form.specs.Readable.{IsReadable, NamesUsed}
 use Rattle.std_form.specs.ThroughLaws.{get_through}
 
@@ -42,16 +42,16 @@ found_passes P (f ∷ es) v x h e =
     by false other is later = later is
 
 module _ (places : AddressMap) (leaves : Leaves) (names : NamesEach places leaves) where
-  used_term : (i : ℕ) → IsNamed places.vars.indices i → IsSome (finite.get leaves.vars i)
+  used_term : (i : ℕ) → IsIndexNamed places.vars.indices i → IsSome (finite.get leaves.vars i)
   used_term i n = names.vars.used n.0 i n.1
 
   used_function : (f : SolverFunction) → NamesNamed places.vars.indices f
       → NamesUsed places leaves f
   used_function f h =
-      All-weaker (IsNamedTerm places.vars.indices) (λ t. IsSome (finite.get leaves.vars t.0))
+      All-weaker (IsTermIndexNamed places.vars.indices) (λ t. IsSome (finite.get leaves.vars t.0))
       (λ t n. used_term t.0 n) (terms_of f) h
 
-  used_variable : (var : ℕ) → IsNamed places.vars.indices var
+  used_variable : (var : ℕ) → IsIndexNamed places.vars.indices var
       → NamesUsed places leaves (variable var)
   used_variable var n =
       subst (All (λ t. IsSome (finite.get leaves.vars t.0))) (sym (terms-variable nat_cmp var))

@@ -19,9 +19,9 @@ use Rattle.leaf_update.specs.Leaves.{HasNativeForm, NamesLeaves}
 use Rattle.leaf_update.specs.Named.{NamesEach}
 use Rattle.leaf_update.specs.Puts.{put_all}
 use Rattle.leaf_update.specs.declared.change.GoneLeaves.{GoneLeaves}
-use Rattle.leaf_model.specs.LeafModel.{IsChanged, LeafModel}
+use Rattle.leaf_model.specs.LeafModel.{IsChangeCount, LeafModel}
 use Rattle.leaf_model.specs.ReadThrough.{read_through}
-use Rattle.solver_store.specs.SolverModel.{Stored}
+use Rattle.solver_store.specs.SolverModel.{StoredLeaves}
 
 -- ---- what is to stand
 
@@ -57,15 +57,15 @@ spliced_model model gone leaves = record {
 -- ---- what is asked
 
 -- nothing is put where something goes for good: what stands at an entry's address is changed there
-abbrev pub AreBeside : {X : Type 0} → List Address → List (Address × X) → Type 0
-AreBeside gone es = All (λ e. ¬ (Contains gone e.0)) es
+abbrev pub ArePutBeside : {X : Type 0} → List Address → List (Address × X) → Type 0
+ArePutBeside gone es = All (λ e. ¬ (Contains gone e.0)) es
 
 -- each entry has an address of its own
 abbrev pub keys_of : {X : Type 0} → List (Address × X) → List Address
 keys_of es = map (λ e. e.0) es
 
-abbrev pub AreApart : {X : Type 0} → List (Address × X) → Type 0
-AreApart es = AllPairs (λ a b. ¬ (b ≡ a)) (keys_of es)
+abbrev pub HaveDistinctKeys : {X : Type 0} → List (Address × X) → Type 0
+HaveDistinctKeys es = AllPairs (λ a b. ¬ (b ≡ a)) (keys_of es)
 
 -- each row and the objective name variables of the model alone
 pub record NamesOwn (model : LeafModel) : Type 0 where
@@ -81,12 +81,12 @@ pub record IsSplice (model : LeafModel) (gone : Gone) (leaves : List Item) : Typ
   pub forms : All (λ leaf. HasNativeForm leaf.body) leaves
   pub leaves_name : All (NamesLeaves (spliced_model model gone leaves)) leaves
   -- each stands once, and beside what goes
-  pub variables : AreApart (flat_map leaf_variables leaves)
-  pub rows : AreApart (flat_map leaf_rows leaves)
+  pub variables : HaveDistinctKeys (flat_map leaf_variables leaves)
+  pub rows : HaveDistinctKeys (flat_map leaf_rows leaves)
   pub objective : length (flat_map leaf_objectives leaves) ≤ 1
-  pub variables_beside : AreBeside gone.variables (flat_map leaf_variables leaves)
-  pub rows_beside : AreBeside gone.rows (flat_map leaf_rows leaves)
-  pub objective_beside : AreBeside gone.objective (flat_map leaf_objectives leaves)
+  pub variables_beside : ArePutBeside gone.variables (flat_map leaf_variables leaves)
+  pub rows_beside : ArePutBeside gone.rows (flat_map leaf_rows leaves)
+  pub objective_beside : ArePutBeside gone.objective (flat_map leaf_objectives leaves)
   -- what goes stands there
   pub gone_variables : All (λ at. IsSome (finite.get model.variables at)) gone.variables
   pub gone_rows : All (λ at. IsSome (finite.get model.rows at)) gone.rows
@@ -110,8 +110,8 @@ KeepsIndices old new =
     → finite.get old at ≡ Some i → finite.get new at ≡ Some j → i ≡ j
 
 -- the solver's model, read through the map, is the leaf model given
-pub record IsChangedTo (model : LeafModel) (solver : Stored) (map : AddressMap)
-    (objective_at : Address) (changed : ℕ) (solver_after : Stored) (map_after : AddressMap)
+pub record IsChangedTo (model : LeafModel) (solver : StoredLeaves) (map : AddressMap)
+    (objective_at : Address) (changed : ℕ) (solver_after : StoredLeaves) (map_after : AddressMap)
     (objective_after : Address) : Type 0 where
   pub through : read_through map_after solver_after.leaves objective_after ≡ model
   pub named : NamesEach map_after solver_after.leaves
@@ -120,13 +120,13 @@ pub record IsChangedTo (model : LeafModel) (solver : Stored) (map : AddressMap)
   pub rows : KeepsIndices map.rows.indices map_after.rows.indices
   -- the answer is the number of addresses at which the leaves differ, and there are no more calls
   pub counted :
-      IsChanged (read_through map solver.leaves objective_at)
+      IsChangeCount (read_through map solver.leaves objective_at)
       (read_through map_after solver_after.leaves objective_after) changed
   pub rises : solver.leaves.calls ≤ solver_after.leaves.calls
   pub calls : solver_after.leaves.calls ≤ solver.leaves.calls + changed
 
 -- the one before without what goes, and with the leaves
-abbrev pub IsSplicedInto : Stored → AddressMap → Address → Gone → List Item → ℕ → Stored
+abbrev pub IsSplicedInto : StoredLeaves → AddressMap → Address → Gone → List Item → ℕ → StoredLeaves
     → AddressMap → Address → Type 0
 IsSplicedInto solver map objective_at gone leaves =
     IsChangedTo (spliced_model (read_through map solver.leaves objective_at) gone leaves)

@@ -1,7 +1,7 @@
 -- One leaf of a solver's model set or removed, with what its map of addresses then has. Everything
 -- else is read through the map as before.
 --     Extends             each address has its index still
---     Calls               the solver's model was called n times at most
+--     CallsAtMost         the solver's model was called n times at most
 --     CountsMore CountsFrom      at how many more addresses a map differs from what it was
 --     rest_of             what a map has beside leaves
 --     SetsVariable DropsVariable NobodyNames      a leaf variable
@@ -30,7 +30,7 @@ abbrev pub Extends : Indices → Indices → Type 0
 Extends old new = (at : Address) (i : ℕ) → finite.get old at ≡ Some i → finite.get new at ≡ Some i
 
 -- n calls at most, and none is taken back
-pub record Calls (leaves after : Leaves) (n : ℕ) : Type 0 where
+pub record CallsAtMost (leaves after : Leaves) (n : ℕ) : Type 0 where
   pub rises : leaves.calls ≤ after.calls
   pub bound : after.calls ≤ leaves.calls + n
 
@@ -66,7 +66,7 @@ pub record SetsVariable (old : AddressMap) (leaves : Leaves) (at : Address) (var
   pub beside : StaysBeside old leaves new after
   pub set : variables_in new after ≡ finite.insert (variables_in old leaves) at var
   pub extends : Extends old.vars.indices new.vars.indices
-  pub calls : Calls leaves after n
+  pub calls : CallsAtMost leaves after n
   pub counts : CountsFrom (variables_in old leaves) (variables_in new after) at n
 
 pub record DropsVariable (old : AddressMap) (leaves : Leaves) (at : Address) (n : ℕ)
@@ -74,7 +74,7 @@ pub record DropsVariable (old : AddressMap) (leaves : Leaves) (at : Address) (n 
   pub beside : StaysBeside old leaves new after
   pub dropped : variables_in new after ≡ finite.remove (variables_in old leaves) at
   pub extends : Extends new.vars.indices old.vars.indices
-  pub calls : Calls leaves after n
+  pub calls : CallsAtMost leaves after n
   pub counts : CountsFrom (variables_in old leaves) (variables_in new after) at n
 
 -- no row and no objective names the variable
@@ -101,7 +101,7 @@ pub record SetsRow (old : AddressMap) (leaves : Leaves) (at : Address) (body : B
   pub beside : StaysBesideRows old leaves new after
   pub set : rows_in new after ≡ finite.insert (rows_in old leaves) at body
   pub extends : Extends old.rows.indices new.rows.indices
-  pub calls : Calls leaves after n
+  pub calls : CallsAtMost leaves after n
   pub counts : CountsFrom (rows_in old leaves) (rows_in new after) at n
 
 pub record DropsRow (old : AddressMap) (leaves : Leaves) (at : Address) (n : ℕ)
@@ -109,5 +109,5 @@ pub record DropsRow (old : AddressMap) (leaves : Leaves) (at : Address) (n : ℕ
   pub beside : StaysBesideRows old leaves new after
   pub dropped : rows_in new after ≡ finite.remove (rows_in old leaves) at
   pub extends : Extends new.rows.indices old.rows.indices
-  pub calls : Calls leaves after n
+  pub calls : CallsAtMost leaves after n
   pub counts : CountsFrom (rows_in old leaves) (rows_in new after) at n

@@ -7,7 +7,7 @@ ghost use Rattle.leaf_update.specs.Named.{HasIndices, IsIndexed, ObjectiveNames,
 ghost use Rattle.leaf_update.specs.Puts.{objective_at, row_at};
 ghost use Rattle.leaf_model.specs.ReadThrough.{address_in, named};
 ghost use Rattle.std.specs.List.Sorted.{IsPermutation};
-ghost use Rattle.address_map.specs.Places.{IsOneToOne};
+ghost use Rattle.address_map.specs.Places.{AreIndicesOneToOne};
 ghost use Rattle.aff_core.specs.Function.{terms_of};
 ghost use Rattle.solver_store.specs.SolverFunction.{IndicesRise};
 ghost use Rattle.std_form.specs.NameLaws.{NamesNamed};
@@ -107,7 +107,7 @@ fn sorted_terms(alloc: Global, map: &AddressMap, func: &Aff) -> Result<Vec<(usiz
     ensures permutation { IfOk result (λ terms.
         IsPermutation (indexed_terms map.now.vars.indices (terms_of func.now)) terms.items) }
     ensures rising { IfOk result (λ terms. IndicesRise terms.items) }
-    ensures one_to_one { IsOneToOne map.now.vars.indices }
+    ensures one_to_one { AreIndicesOneToOne map.now.vars.indices }
 {
     // what this ensures of the map
     let _one_to_one = map.var_at(0);

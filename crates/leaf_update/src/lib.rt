@@ -12,11 +12,6 @@ mod same;
 mod sorted;
 mod variables;
 
-pub use address_map::AddressMap;
-pub use aff_core::Address;
 pub use change::{GoneLeaves, change_leaves};
 pub use gone::gone_among;
-pub use item_core::Item;
-pub use lists::Memory;
 pub use others::replace_leaves;
-pub use solver_store::SolverModel;

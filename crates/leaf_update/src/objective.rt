@@ -88,7 +88,7 @@ fn set_objective(
 {
     // what this ensures of the count
     let _few = solver.calls();
-    let changed = compare(solver, map, at, leaf);
+    let changed = count_differing(solver, map, at, leaf);
     if changed == 0 {
         return Ok(0);
     }
@@ -101,7 +101,7 @@ fn set_objective(
 }
 
 // The number of addresses at which the objective is another than the leaf.
-fn compare(solver: &SolverModel, map: &AddressMap, at: &Address, leaf: &Item) -> u8
+fn count_differing(solver: &SolverModel, map: &AddressMap, at: &Address, leaf: &Item) -> u8
     requires { NamesEach map.now solver.now.leaves }
     ensures counted { IsCountOf
         (Differ (read_through map.now solver.now.leaves at.now).objective

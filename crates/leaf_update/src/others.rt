@@ -9,7 +9,7 @@ ghost use Rattle.leaf_update.specs.Splice.{IsChangedTo, gone_in, keys_of};
 
 use crate::change::{GoneLeaves, change_leaves};
 use crate::objective::is_objective;
-use crate::rows::is_other;
+use crate::rows::is_no_row;
 use crate::sorted::SortedAddresses;
 use address_map::AddressMap;
 use aff_core::Address;
@@ -164,7 +164,7 @@ pub(crate) fn rows_put(alloc: Global, leaves: &[Item]) -> Result<SortedAddresses
 fn add_row(put: &mut Vec<Address>, leaf: &Item) -> Result<(), Memory>
     ensures { OnOk result (put.new.items ≡ put.old.items ++ keys_of (leaf_rows leaf.now)) }
 {
-    if !is_other(leaf) {
+    if !is_no_row(leaf) {
         put.push(leaf.at)?;
     }
     Ok(())

@@ -6,7 +6,7 @@ ghost use Rattle.leaf_update.specs.Leaves.{HasNativeForm};
 ghost use Rattle.leaf_update.specs.Named.{HasIndices, NamesEach};
 ghost use Rattle.leaf_update.specs.Puts.{rows_in};
 ghost use Rattle.leaf_update.specs.Phases.{DropsRows, SetsRows};
-ghost use Rattle.leaf_update.specs.Splice.{AreApart};
+ghost use Rattle.leaf_update.specs.Splice.{HaveDistinctKeys};
 ghost use Rattle.leaf_update.specs.Steps.{DropsRow, SetsRow};
 
 use crate::indexed::leaf_row;
@@ -77,7 +77,7 @@ pub(crate) fn set_rows(
     requires forms { All (λ leaf. HasNativeForm leaf.body) leaves.now }
     requires indexed { All (HasIndices map.old.vars.indices) leaves.now }
     requires named { NamesEach map.old solver.old.leaves }
-    requires apart { AreApart (flat_map leaf_rows leaves.now) }
+    requires apart { HaveDistinctKeys (flat_map leaf_rows leaves.now) }
     ensures set { IfOk result (λ n. SetsRows map.old solver.old.leaves
         (flat_map leaf_rows leaves.now) n map.new solver.new.leaves) }
 {
@@ -102,7 +102,7 @@ fn set_if_row(
         (leaf_rows leaf.now) n map.new solver.new.leaves) }
     ensures few { IfOk result (λ n. n ≤ 1) }
 {
-    if is_other(leaf) {
+    if is_no_row(leaf) {
         return Ok(0);
     }
     let changed = set_row(alloc, solver, map, leaf)?;
@@ -110,7 +110,7 @@ fn set_if_row(
 }
 
 // Whether a leaf is no row.
-pub(crate) fn is_other(leaf: &Item) -> bool
+pub(crate) fn is_no_row(leaf: &Item) -> bool
     ensures { MatchBool result (leaf_rows leaf.now ≡ [])
         (leaf_rows leaf.now ≡ (leaf.now.at, leaf.now.body) ∷ []) }
 {

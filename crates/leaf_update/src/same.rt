@@ -2,7 +2,7 @@
 ghost use Rattle.std.specs.Prelude.{◌≡◌, ◌≢◌, ◌↔◌, All, IsTrue, MatchBool, map};
 ghost use Rattle.leaf_update.specs.Named.{IsSameTerm, ObjectiveNames, RowNames};
 ghost use Rattle.leaf_model.specs.ReadThrough.{address_in, named, read_objective, read_row};
-ghost use Rattle.std_form.specs.NameLaws.{IsNamed, NamesNamed};
+ghost use Rattle.std_form.specs.NameLaws.{IsIndexNamed, NamesNamed};
 
 use address_map::AddressMap;
 use aff_core::{Address, Aff, Sense};
@@ -116,7 +116,7 @@ fn same_term(map: &AddressMap, term: &(usize, Ratio), func: &Aff) -> bool
 }
 
 fn same_variable(map: &AddressMap, var: usize, at: &Address) -> bool
-    requires { IsNamed map.now.vars.indices var }
+    requires { IsIndexNamed map.now.vars.indices var }
     ensures { IsTrue result ↔ (address_in map.now.vars.indices var ≡ at.now) }
 {
     match map.var_at(var) {

@@ -5,7 +5,7 @@ ghost use Rattle.leaf_update.specs.Named.{NamesEach};
 ghost use Rattle.fresh_bridging.specs.Leaves.{leaf_variable, leaf_variables};
 ghost use Rattle.leaf_update.specs.Puts.{variables_as, variables_in};
 ghost use Rattle.leaf_update.specs.Phases.{AreDroppable, CountsAt, HasDropped, SetsVariables};
-ghost use Rattle.leaf_update.specs.Splice.{AreApart, without_all};
+ghost use Rattle.leaf_update.specs.Splice.{HaveDistinctKeys, without_all};
 ghost use Rattle.leaf_update.specs.Steps.{DropsVariable, NobodyNames, SetsVariable};
 
 use address_map::AddressMap;
@@ -82,7 +82,7 @@ pub(crate) fn set_variables(
     leaves: &[Item],
 ) -> Result<u128, Memory>
     requires named { NamesEach map.old solver.old.leaves }
-    requires apart { AreApart (flat_map leaf_variables leaves.now) }
+    requires apart { HaveDistinctKeys (flat_map leaf_variables leaves.now) }
     ensures set { IfOk result (λ n. SetsVariables map.old solver.old.leaves
         (flat_map leaf_variables leaves.now) n map.new solver.new.leaves) }
     ensures few { IfOk result (λ n. n ≤ (2 ^ 64 - 1) * length leaves.now) }
@@ -96,7 +96,7 @@ pub(crate) fn set_variables(
 
 fn set_leaf(solver: &mut SolverModel, map: &mut AddressMap, leaf: &Item) -> Result<u64, Memory>
     requires named { NamesEach map.old solver.old.leaves }
-    requires apart { AreApart (leaf_variables leaf.now) }
+    requires apart { HaveDistinctKeys (leaf_variables leaf.now) }
     ensures set { IfOk result (λ n. SetsVariables map.old solver.old.leaves
         (leaf_variables leaf.now) n map.new solver.new.leaves) }
     ensures few { IfOk result (λ n. n ≤ 2 ^ 64 - 1) }
@@ -127,7 +127,7 @@ fn set_each(
     var: LeafVar,
 ) -> Result<u64, Memory>
     requires named { NamesEach map.old solver.old.leaves }
-    requires apart { AreApart (variables_as var vars.now) }
+    requires apart { HaveDistinctKeys (variables_as var vars.now) }
     ensures set { IfOk result (λ n. SetsVariables map.old solver.old.leaves
         (variables_as var vars.now) n map.new solver.new.leaves) }
     ensures few { IfOk result (λ n. n ≤ 2 ^ 64 - 1) }

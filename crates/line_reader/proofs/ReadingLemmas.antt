@@ -8,7 +8,7 @@ use Rattle.std.proofs.Math.Seq.{take-append-add}
 use Rattle.std.proofs.lemmas.List.Elements.{All-push, All-append}
 use Rattle.std.proofs.lemmas.List.Sums.{take_while-cons}
 use Rattle.std.proofs.lemmas.Bool.{cases_Bool, eqb-true, eqb-false, leb-true, leb-false, lt-leb, cond-false, cond-true, cond_both}
-use Rattle.io_face.specs.Source.{Takes}
+use Rattle.io_face.specs.Source.{Takes, TakesAtMost}
 use Rattle.io_face.specs.SourceLaws.{Takes-append}
 use Rattle.line_reader.specs.declared.line_reader.Next.{Next}
 use Rattle.line_reader.specs.declared.line_reader.Next.TheVariants.{End, LastLine}
@@ -16,7 +16,7 @@ use Rattle.line_reader.specs.declared.line_reader.ReadStop.{ReadStop}
 use Rattle.line_reader.specs.declared.line_reader.ReadStop.TheVariants.{TooLong}
 use Rattle.line_reader.specs.Limits.{line_limit}
 use Rattle.line_reader.specs.Lines.{ended_lines, IsUnended, is_short}
-use Rattle.line_reader.specs.Reading.{Buffered, allowance, rest_of, HasLongLine, IsTooLong, TakesAtMost}
+use Rattle.line_reader.specs.Reading.{Buffered, allowance, rest_of, HasLongLine, IsTooLong}
 use Rattle.line_reader.specs.LinesLaws.{ended_lines-unended, ended_lines-ended, lines-unended, lines-ended}
 use Rattle.line_reader.specs.ReadingLaws.{prepend-append, told_always, told_behind, told_weaker}
 

@@ -2,7 +2,6 @@
 use Rattle.std.specs.Prelude.{◌≡◌, ℕ, ◌+◌, ◌<◌, ◌≤◌, ◌⊎◌, List, [], ◌∷◌, ◌++◌, length, take, take_while, Option}
 use Rattle.std.specs.Str.Lines.{strip_carriage_return, lines}
 use Rattle.std.specs.Io.KnownBytes.{prepend_known, IsAtEnd}
-use Rattle.io_face.specs.Source.{Takes}
 use Rattle.line_reader.specs.Limits.{line_limit}
 use Rattle.line_reader.specs.Lines.{ended_lines, IsUnended, is_short}
 
@@ -52,12 +51,6 @@ pub record LosesPart (old : Buffered) (left left' : Option (List ℕ)) : Type 0 
   pub unended : IsUnended part
   pub short : length (strip_carriage_return part) ≤ line_limit
   pub kept : rest_of old left ≡ prepend_known part left'
-
--- n bytes were taken, or fewer
-pub record TakesAtMost (most : ℕ) (left left' : Option (List ℕ)) : Type 0 where
-  pub taken : List ℕ
-  pub takes : Takes left left' taken
-  pub few : length taken ≤ most
 
 -- the first line is too long
 pub record HasLongLine (text : List ℕ) : Type 0 where

@@ -3,10 +3,9 @@ ghost use Rattle.std.specs.Prelude.{◌≡◌, ◌≢◌, ℕ, List, ◌+◌, �
 ghost use Rattle.std.specs.Str.Lines.{strip_carriage_return};
 ghost use Rattle.std.specs.Io.KnownBytes.{IsAtEnd};
 ghost use Rattle.io_face.specs.Fault.{HasFaulted};
-ghost use Rattle.io_face.specs.Source.{Takes};
+ghost use Rattle.io_face.specs.Source.{Takes, TakesAtMost};
 ghost use Rattle.line_reader.specs.Limits.{line_limit, input_limit};
 ghost use Rattle.line_reader.specs.Lines.{IsUnended};
-ghost use Rattle.line_reader.specs.Reading.{TakesAtMost};
 
 use io_face::Source;
 use memchr::memchr;

@@ -5,7 +5,7 @@ use Rattle.std.specs.Option.{option_map_or}
 use Rattle.std.proofs.Common.{ap, inl, inr, subst, sym, ◌∙◌}
 use Rattle.cache_layer.specs.Answers.{IsLoaded}
 use Rattle.model_load.specs.Loads.{after_edits}
-use Rattle.cache_layer.specs.State.{State}
+use Rattle.cache_layer.specs.CacheState.{CacheState}
 use Rattle.cache_layer.specs.declared.fault.EditFault.{EditFault}
 use Rattle.cache_layer.specs.declared.fault.EditFault.TheVariants as edit
 use Rattle.edit_engine.specs.Bare.{is_bare}
@@ -79,8 +79,9 @@ made_by_leading (e ∷ es) old new h =
 
 module _ (model : ModelValue) (text : List ℕ) (makes : MakesAgain model text) where
   -- the edits are made, unless memory runs out
-  loaded : (s : State) → s.model ≡ empty_model → (given : Result Unit EditFault) (answer : Answer)
-      (new : State) → IsLoaded s makes.edits given new → answer ≡ load_answer given
+  loaded : (s : CacheState) → s.model ≡ empty_model
+      → (given : Result Unit EditFault) (answer : Answer)
+      (new : CacheState) → IsLoaded s makes.edits given new → answer ≡ load_answer given
       → answer ≢ Memory → (answer ≡ done None) × SameUpToNumbers model new.model
   loaded s empty given answer new h is fit = by given h is
     where
@@ -106,7 +107,7 @@ module _ (model : ModelValue) (text : List ℕ) (makes : MakesAgain model text) 
   loaded_again machine name said can is answer new steps fit =
       by (can.gets fetched.0 fetched.1)
     where
-      s : State
+      s : CacheState
       s = machine.state
 
       step : LoadsWhere false true machine.shelf s name answer new.state

@@ -32,10 +32,10 @@ Terms = List (Address × Rational)
 -- ---- functions that agree on the variables of a function
 
 module _ (e g : Address → Function) where
-  abbrev pub Agree : Terms → Type 0
-  Agree ts = All (λ t. e t.0 ≡ g t.0) ts
+  abbrev pub AgreeOnTerms : Terms → Type 0
+  AgreeOnTerms ts = All (λ t. e t.0 ≡ g t.0) ts
 
-  value_alike : (sum : Rational) (ts : Terms) → Agree ts
+  value_alike : (sum : Rational) (ts : Terms) → AgreeOnTerms ts
       → value_fits sum ts (λ u. (e u).constant) ≡ value_fits sum ts (λ u. (g u).constant)
   unfolding value_fits
   value_alike sum [] h = refl
@@ -45,7 +45,7 @@ module _ (e g : Address → Function) where
       (ap (λ c. value_fits (sum +ℚ (t.1 *ℚ c)) ts (λ u. (e u).constant)) first
       ∙ value_alike (sum +ℚ (t.1 *ℚ (g t.0).constant)) ts (All-tail (λ s. e s.0 ≡ g s.0) t ts h))
 
-  products_alike : (ts : Terms) → Agree ts
+  products_alike : (ts : Terms) → AgreeOnTerms ts
       → list_all (λ t. times_fit t.1 (terms_of (e t.0))) ts
       ≡ list_all (λ t. times_fit t.1 (terms_of (g t.0))) ts
   products_alike [] h = refl
@@ -53,14 +53,14 @@ module _ (e g : Address → Function) where
       ap₂ ◌&&◌ (ap (λ f. times_fit t.1 (terms_of f)) (All-head (λ s. e s.0 ≡ g s.0) t ts h))
       (products_alike ts (All-tail (λ s. e s.0 ≡ g s.0) t ts h))
 
-  substituted_alike : (ts : Terms) → Agree ts → substituted e ts ≡ substituted g ts
+  substituted_alike : (ts : Terms) → AgreeOnTerms ts → substituted e ts ≡ substituted g ts
   unfolding substituted
   substituted_alike [] h = refl
   substituted_alike (t ∷ ts) h =
       ap₂ (λ f rest. times t.1 (terms_of f) ++ rest) (All-head (λ s. e s.0 ≡ g s.0) t ts h)
       (substituted_alike ts (All-tail (λ s. e s.0 ≡ g s.0) t ts h))
 
-  linear_alike : (ts : Terms) → Agree ts
+  linear_alike : (ts : Terms) → AgreeOnTerms ts
       → linear ts (λ u. (e u).constant) ≡ linear ts (λ u. (g u).constant)
   unfolding linear
   linear_alike [] h = refl
@@ -68,14 +68,14 @@ module _ (e g : Address → Function) where
       ap₂ (λ f rest. (t.1 *ℚ f.constant) +ℚ rest) (All-head (λ s. e s.0 ≡ g s.0) t ts h)
       (linear_alike ts (All-tail (λ s. e s.0 ≡ g s.0) t ts h))
 
-  pub fits_alike : (f : Function) → Agree (terms_of f)
+  pub fits_alike : (f : Function) → AgreeOnTerms (terms_of f)
       → substitution_fits e f ≡ substitution_fits g f
   fits_alike f h =
       ap₂ ◌&&◌ (value_alike f.constant (terms_of f) h)
       (ap₂ ◌&&◌ (products_alike (terms_of f) h)
       (ap (terms_fit (finite.empty {R = address_cmp})) (substituted_alike (terms_of f) h)))
 
-  pub composed_alike : (f : Function) → Agree (terms_of f) → composed e f ≡ composed g f
+  pub composed_alike : (f : Function) → AgreeOnTerms (terms_of f) → composed e f ≡ composed g f
   unfolding composed value_of
   composed_alike f h =
       ap₂ (λ ts c. function_of (finite.entries (added_terms (finite.empty {R = address_cmp}) ts)) c)
@@ -130,7 +130,7 @@ module _ (es fs : List Entry) where
       (all_from_map NamesAgree variable vs h))
 
   at_terms : (f : Function) → NamesAgree f
-      → Agree (λ v. expressed (expression_in es v)) (λ v. expressed (expression_in fs v))
+      → AgreeOnTerms (λ v. expressed (expression_in es v)) (λ v. expressed (expression_in fs v))
       (terms_of f)
   at_terms f h =
       All-weaker (λ t. ¬ (coefficient f t.0 ≡ zero_ℚ))

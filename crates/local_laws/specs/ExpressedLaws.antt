@@ -25,7 +25,7 @@ use Rattle.address_laws.specs.Apart.{Avoids, avoids}
 use Rattle.address_laws.specs.DistinctLaws.{model_groups_here}
 use Rattle.address_laws.specs.KeyLaws.{IsHere}
 use Rattle.address_laws.specs.Keys.{Mine}
-use Rattle.address_laws.specs.Regions.{AreApart}
+use Rattle.address_laws.specs.Regions.{AreRegionsApart}
 use Rattle.tree_laws.specs.LookupLaws.{components, found_first, found_second, itself}
 use Rattle.tree_laws.specs.SeenLaws.{IsGroupHere, components_of, components_of_each}
 use Rattle.local_laws.specs.Held.{HasOwn, expressed_at, held_at_each, held_at_in, held_of, is_there}
@@ -45,7 +45,8 @@ module _ (setting : Setting) (costly : IsCostly (graph_of setting)) (choice : �
   module _ (at : Address) where
     pub expressed_in_each : {items : List Item} {entries : List Entry}
         (trees : EachBridged (rules_by choice) items entries) → All There items
-        → AreApart Mine items → (item : Item) → find (is_there at) items ≡ Some item → HasOwn v item
+        → AreRegionsApart Mine items → (item : Item) → find (is_there at) items ≡ Some item
+        → HasOwn v item
         → expression_in entries v ≡ expressed_at (held_at_each at trees) v
     unfolding held_at_each
     expressed_in_each none here apart item f m = absurd (none-some item f)

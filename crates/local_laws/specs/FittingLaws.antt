@@ -24,7 +24,7 @@ use Rattle.fresh_bridging.specs.ModelImage.{items_of, model_image}
 use Rattle.fresh_bridging.specs.TheRules.{Setting, rules_by}
 use Rattle.fresh_bridging.specs.Touched.{IsTouched, item_at}
 use Rattle.address_laws.specs.Keys.{Mine}
-use Rattle.address_laws.specs.Regions.{AreApart, AtOrBelow}
+use Rattle.address_laws.specs.Regions.{AreRegionsApart, AtOrBelow}
 use Rattle.local_laws.specs.Held.{fit, fits_at, held_at_each, held_at_in, held_of, is_there}
 use Rattle.local_laws.specs.HeldLaws.{none_at_each}
 use Rattle.local_laws.specs.LookedLaws.{below_itself, found_passes, groups_apart, mine_itself, no_groups, others_below_apart}
@@ -40,7 +40,7 @@ AreAlone [] = Unit {0}
 AreAlone (x ∷ xs) = All (λ y. ¬ (x.at ≡ y.at)) xs × AreAlone xs
 
 pub alone : (Of : Item → Address → Type 0) → ((item : Item) → Of item item.at) → (items : List Item)
-    → AreApart Of items → AreAlone items
+    → AreRegionsApart Of items → AreAlone items
 alone Of itself [] h = tt
 alone Of itself (x ∷ xs) h = (
   All-weaker (λ y. ¬ (Of y x.at)) (λ y. ¬ (x.at ≡ y.at))

@@ -246,8 +246,8 @@ module _ (next : Setting) (choice : ℕ → Choice) (chosen : AreChoices next ch
 
 -- where each item that is left out has a tree, the first without one is the first of the others
 module _ (graph : Hypergraph) (keep : Item → Bool) (made : Item → Item) (kind : Kind) where
-  abbrev pub IsLeft : Item → Type 0
-  IsLeft i = keep i ≡ false → HasTree graph (made i)
+  abbrev pub IsTreeLeft : Item → Type 0
+  IsTreeLeft i = keep i ≡ false → HasTree graph (made i)
 
   one_more : (x : Item) (items : List Item) → HasTree graph x → IsFirstTreeless graph items kind
       → IsFirstTreeless graph (x ∷ items) kind
@@ -261,13 +261,13 @@ module _ (graph : Hypergraph) (keep : Item → Bool) (made : Item → Item) (kin
     kind_is = h.kind_is;
   }
 
-  pub first_treeless_of_kept : (items : List Item) → All IsLeft items
+  pub first_treeless_of_kept : (items : List Item) → All IsTreeLeft items
       → IsFirstTreeless graph (map made (filter keep items)) kind
       → IsFirstTreeless graph (map made items) kind
   first_treeless_of_kept [] left h = h
   first_treeless_of_kept (x ∷ xs) left h =
       step (keep x) refl h
-      (λ g. first_treeless_of_kept xs (All-tail IsLeft x xs left) g)
+      (λ g. first_treeless_of_kept xs (All-tail IsTreeLeft x xs left) g)
     where
       split : (before : List Item) (item : Item) (after : List Item)
           → made x ∷ map made (filter keep xs) ≡ before ++ item ∷ after
@@ -309,4 +309,4 @@ module _ (graph : Hypergraph) (keep : Item → Bool) (made : Item → Item) (kin
           → IsFirstTreeless graph (made x ∷ map made xs) kind
       step true e h later = split h.before h.item h.after h.parts h.earlier h.none h.kind_is later
       step false e h later =
-          one_more (made x) (map made xs) (All-head IsLeft x xs left e) (later h)
+          one_more (made x) (map made xs) (All-head IsTreeLeft x xs left e) (later h)

@@ -13,7 +13,7 @@ use Rattle.item_core.specs.declared.item.Item.{Item}
 use Rattle.fresh_bridging.specs.Entries.{Entry}
 use Rattle.fresh_bridging.specs.Touched.{KeepsAtEach, KeepsAtIn}
 use Rattle.local_laws.specs.Held.{held_at_each, held_at_in, is_there}
-use Rattle.local_laws.specs.SettledLaws.{Stands, settled_choice}
+use Rattle.local_laws.specs.SettledLaws.{IsStable, settled_choice}
 
 -- ---- choices that can't fail to agree do
 
@@ -22,7 +22,7 @@ module _ {rules : Rules Item Entry} (choice : Item → Choice) where
     unfolding Keeps
 
     stand_keeps : {item : Item} {entries : List Entry} (tree : Bridged rules item entries)
-        → Stands (Keeps choice tree)
+        → IsStable (Keeps choice tree)
     stand_keeps (natively {item} c) h = settled_choice (choice item) _ h
     stand_keeps (by {item} {edge} c groups others) h = (
       settled_choice (choice item) _ (λ n. h (λ k. n k.0)),
@@ -31,7 +31,7 @@ module _ {rules : Rules Item Entry} (choice : Item → Choice) where
     )
 
     stand_keeps_each : {items : List Item} {entries : List Entry}
-        (trees : EachBridged rules items entries) → Stands (KeepsEach choice trees)
+        (trees : EachBridged rules items entries) → IsStable (KeepsEach choice trees)
     stand_keeps_each none h = tt
     stand_keeps_each (each first rest) h = (
       stand_keeps first (λ n. h (λ k. n k.0)),
@@ -39,7 +39,7 @@ module _ {rules : Rules Item Entry} (choice : Item → Choice) where
     )
 
     stand_keeps_in : {inner : List Entry} {items : List Item}
-        (trees : EachBridgedIn rules inner items) → Stands (KeepsIn choice trees)
+        (trees : EachBridgedIn rules inner items) → IsStable (KeepsIn choice trees)
     stand_keeps_in none_in h = tt
     stand_keeps_in (each_in first rest) h = (
       stand_keeps first (λ n. h (λ k. n k.0)),
@@ -48,7 +48,7 @@ module _ {rules : Rules Item Entry} (choice : Item → Choice) where
 
   module _ (at : Address) where
     pub stand_at_each : {items : List Item} {entries : List Entry}
-        (trees : EachBridged rules items entries) → Stands (KeepsAtEach choice at trees)
+        (trees : EachBridged rules items entries) → IsStable (KeepsAtEach choice at trees)
     unfolding KeepsAtEach
     stand_at_each none h = tt
     stand_at_each (each first rest) h = (
@@ -57,7 +57,7 @@ module _ {rules : Rules Item Entry} (choice : Item → Choice) where
     )
 
     pub stand_at_in : {inner : List Entry} {items : List Item}
-        (trees : EachBridgedIn rules inner items) → Stands (KeepsAtIn choice at trees)
+        (trees : EachBridgedIn rules inner items) → IsStable (KeepsAtIn choice at trees)
     unfolding KeepsAtIn
     stand_at_in none_in h = tt
     stand_at_in (each_in first rest) h = (
@@ -69,7 +69,7 @@ module _ {rules : Rules Item Entry} (choice : Item → Choice) where
 
 module _ (rules : Rules Item Entry) (choice : Item → Choice) where
   -- a tree of a child group, with other choices that agree with it
-  pub record IsHeld (item : Item) (found : Option (Held Item Entry)) : Type 0 where
+  pub record IsHeldTree (item : Item) (found : Option (Held Item Entry)) : Type 0 where
     pub entries : List Entry
     pub tree : Bridged rules item entries
     pub is : found ≡ Some (held tree)
@@ -87,7 +87,8 @@ module _ {rules : Rules Item Entry} (choice : Item → Choice) where
   module _ (at : Address) where
     pub held_each_at : {items : List Item} {entries : List Entry}
         (trees : EachBridged rules items entries) → KeepsAtEach choice at trees → (item : Item)
-        → find (is_there at) items ≡ Some item → IsHeld rules choice item (held_at_each at trees)
+        → find (is_there at) items ≡ Some item
+        → IsHeldTree rules choice item (held_at_each at trees)
     unfolding held_at_each KeepsAtEach
     held_each_at none k item f = absurd (none-some item f)
     held_each_at (each {item} {items} first rest) k other f =
@@ -95,10 +96,10 @@ module _ {rules : Rules Item Entry} (choice : Item → Choice) where
       where
         step : (b : Bool) → is_there at item ≡ b
             → cond b (Some item) (find (is_there at) items) ≡ Some other
-            → (find (is_there at) items ≡ Some other → IsHeld rules choice other (held_at_each at rest))
-            → IsHeld rules choice other (cond b (Some (held first)) (held_at_each at rest))
+            → (find (is_there at) items ≡ Some other → IsHeldTree rules choice other (held_at_each at rest))
+            → IsHeldTree rules choice other (cond b (Some (held first)) (held_at_each at rest))
         step true e f later =
-            subst (λ i. IsHeld rules choice i (Some (held first))) (same_Some item other f)
+            subst (λ i. IsHeldTree rules choice i (Some (held first))) (same_Some item other f)
             (record {
               entries = _;
               tree = first;

@@ -20,7 +20,7 @@ use Rattle.fresh_bridging.specs.Touched.{choice_of_item, item_at}
 use Rattle.address_laws.specs.DistinctLaws.{model_groups_here, model_others_below, model_others_here}
 use Rattle.address_laws.specs.KeyLaws.{IsHere, other_below}
 use Rattle.address_laws.specs.Keys.{Mine}
-use Rattle.address_laws.specs.Regions.{AreApart, AtOrBelow}
+use Rattle.address_laws.specs.Regions.{AreRegionsApart, AtOrBelow}
 use Rattle.local_laws.specs.Held.{held_at_in, held_of, is_there}
 use Rattle.local_laws.specs.HeldLaws.{held_each_at, held_in_at, keeps_own_each, keeps_own_in, none_at_each}
 use Rattle.local_laws.specs.LookedLaws.{Now, found_passes, groups_apart, groups_avoid, looked, others_apart, owner_looks}
@@ -32,7 +32,7 @@ use Rattle.local_laws.specs.Views.{IsView, Part, look, look-append, look_in}
 
 -- two that are found among items whose regions are apart, and that both have an address, are one
 apart_one : (Of : Item → Address → Type 0) (f g : Item → Bool) (items : List Item) (x y : Item)
-    (v : Address) → AreApart Of items → find f items ≡ Some x → find g items ≡ Some y → Of x v
+    (v : Address) → AreRegionsApart Of items → find f items ≡ Some x → find g items ≡ Some y → Of x v
     → Of y v → x ≡ y
 apart_one Of f g [] x y v h e k a b = absurd (none-some x e)
 apart_one Of f g (z ∷ zs) x y v h e k a b =

@@ -29,7 +29,7 @@ use Rattle.address_laws.specs.Apart.{in_or_not, not_in}
 use Rattle.address_laws.specs.DistinctLaws.{MineNow, groups_of_model_apart, model_beside, model_groups_here, model_others_below, model_others_here, others_of_model_apart, vars_distinct}
 use Rattle.address_laws.specs.KeyLaws.{itself_below, other_below}
 use Rattle.address_laws.specs.Keys.{Mine, own}
-use Rattle.address_laws.specs.Regions.{AreApart, AtOrBelow, apart_less}
+use Rattle.address_laws.specs.Regions.{AreRegionsApart, AtOrBelow, apart_less}
 use Rattle.local_laws.specs.Held.{held_at_in, held_of, is_there}
 use Rattle.local_laws.specs.HeldLaws.{held_each_at, keeps_own_each, none_at_each}
 use Rattle.local_laws.specs.Owner.{IsOwner}
@@ -126,19 +126,19 @@ below_itself item = record { rest = []; is = itself_below item.at }
 
 module _ (setting : Setting) (costly : IsCostly (graph_of setting)) (lawful : AreLawful setting)
     (model : ModelValue) (valid : IsValid model) (bridging : FreshBridging setting model) where
-  pub groups_apart : AreApart Mine (model_image model).groups
+  pub groups_apart : AreRegionsApart Mine (model_image model).groups
   groups_apart =
       groups_of_model_apart model.groups valid.consistent.groups_rise
       (vars_distinct setting costly lawful model valid bridging)
 
-  pub others_below_apart : AreApart AtOrBelow (model_image model).others
+  pub others_below_apart : AreRegionsApart AtOrBelow (model_image model).others
   others_below_apart =
       others_of_model_apart model.rows model.objective valid.consistent.rows_rise
 
   abbrev pub Now : Item → Address → Type 0
   Now c v = MineNow setting costly lawful model valid bridging c v
 
-  pub others_apart : AreApart Now (model_image model).others
+  pub others_apart : AreRegionsApart Now (model_image model).others
   others_apart =
       apart_less AtOrBelow Now (model_image model).others
       (model_others_below setting costly lawful model valid bridging) others_below_apart

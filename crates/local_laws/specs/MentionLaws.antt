@@ -136,8 +136,8 @@ OtherMentions model at var =
     × (¬ (Miss (functions_of item.body) var))
 
 -- at each variable there are noted exactly the rows, and the objective, that name it
-abbrev pub IsIndexOf : ModelValue → (Address → List Address) → Type 0
-IsIndexOf model noted = (var at : Address) → Contains (noted var) at ↔ OtherMentions model at var
+abbrev pub NotesMentions : ModelValue → (Address → List Address) → Type 0
+NotesMentions model noted = (var at : Address) → Contains (noted var) at ↔ OtherMentions model at var
 
 -- what of the pairs changes: those of items whose content differs alone
 pub pairs_stay : (model after : ModelValue) (at var : Address)
@@ -157,8 +157,8 @@ pub record IsNotedAnew (after : ModelValue) (differing : List Address)
 pub index_changed : (model after : ModelValue) (differing : List Address)
     (noted noted_after : Address → List Address)
     → ((at : Address) → ¬ (Contains differing at) → item_at model at ≡ item_at after at)
-    → IsIndexOf model noted → IsNotedAnew after differing noted noted_after
-    → IsIndexOf after noted_after
+    → NotesMentions model noted → IsNotedAnew after differing noted noted_after
+    → NotesMentions after noted_after
 index_changed model after differing noted noted_after same index anew var at =
     by (contains_or_not differing at)
   where
@@ -217,7 +217,7 @@ module _ {setting : Setting} {model after : ModelValue} (sound : IsValidUnder se
     -- variables whose expression differs
     pub record IsSearched (noted : Address → List Address) (vars found : List Address) : Type 0 where
       pub differ : All (λ at. item_at model at ≢ item_at after at) differing
-      pub index : IsIndexOf model noted
+      pub index : NotesMentions model noted
       pub changed : All (λ v. expression_of old v ≢ expression_of new v) vars
       -- each other variable of a group that differs has the expression that it had
       pub compared :

@@ -21,7 +21,7 @@ use Rattle.address_laws.specs.Apart.{Avoids}
 use Rattle.address_laws.specs.KeyLaws.{IsHere, avoid_each, avoid_in, within}
 use Rattle.address_laws.specs.Keys.{Mine}
 use Rattle.address_laws.specs.MadeLaws.{absent}
-use Rattle.address_laws.specs.Regions.{AreApart}
+use Rattle.address_laws.specs.Regions.{AreRegionsApart}
 use Rattle.local_laws.specs.Held.{held_at_each, held_at_in, is_there}
 use Rattle.local_laws.specs.StaysLaws.{found_is}
 use Rattle.local_laws.specs.Views.{IsView, Part, look, look-append, look_in}
@@ -37,7 +37,7 @@ pub record IsHomeIn (Of : Item → Address → Type 0) (items : List Item) (v : 
 module _ (Of : Item → Address → Type 0) (itself : (item : Item) → Of item item.at) (v : Address)
   where
     -- one item at most has it
-    pub home_or_none : (items : List Item) → AreApart Of items
+    pub home_or_none : (items : List Item) → AreRegionsApart Of items
         → All (λ i. Of i v ⊎ (¬ (Of i v))) items → IsHomeIn Of items v ⊎ All (λ i. ¬ (Of i v)) items
     home_or_none [] apart test = inr (All-nil (λ i. ¬ (Of i v)))
     home_or_none (x ∷ xs) apart test =
@@ -105,7 +105,8 @@ module _ (setting : Setting) (costly : IsCostly (graph_of setting)) (choice : �
   module _ (at : Address) where
     pub found_in_each : {items : List Item} {entries : List Entry}
         (trees : EachBridged (rules_by choice) items entries) → All Here items
-        → AreApart Mine items → (item : Item) → find (is_there at) items ≡ Some item → Mine item v
+        → AreRegionsApart Mine items → (item : Item) → find (is_there at) items ≡ Some item
+        → Mine item v
         → look v (part (leaves_of_each trees) (nodes_of_each trees))
         ≡ look_in v part (held_at_each at trees)
     unfolding held_at_each leaves nodes
@@ -142,7 +143,7 @@ module _ (setting : Setting) (costly : IsCostly (graph_of setting)) (choice : �
       pub found_in_others : {items : List Item}
           (trees : EachBridgedIn (rules_by choice) inner items)
           → All (λ c. Here (put_in inner c)) items
-          → AreApart MineIn items → (item : Item) → find (is_there at) items ≡ Some item
+          → AreRegionsApart MineIn items → (item : Item) → find (is_there at) items ≡ Some item
           → MineIn item v
           → look v (part (leaves_in trees) (nodes_in trees)) ≡ look_in v part (held_at_in at trees)
       unfolding held_at_in leaves nodes

@@ -22,25 +22,25 @@ use Rattle.item_core.specs.declared.item.Body.TheVariants.{Group, Free, Plain, A
 use Rattle.item_core.specs.declared.item.Item.{Item}
 
 -- it holds where it can't fail
-abbrev pub Stands : Type 0 → Type 0
-Stands P = ¬ (¬ P) → P
+abbrev pub IsStable : Type 0 → Type 0
+IsStable P = ¬ (¬ P) → P
 
 abbrev pub AreSettled : Type 0 → Type 0
-AreSettled A = (a b : A) → Stands (a ≡ b)
+AreSettled A = (a b : A) → IsStable (a ≡ b)
 
 -- ---- how it is shown
 
-pub decided : {P : Type 0} (b : Bool) → Decides b P → Stands P
+pub decided : {P : Type 0} (b : Bool) → Decides b P → IsStable P
 decided true d h = d.0 refl
 decided false d h = absurd (h (λ p. false_true (d.1 p)))
   where
     false_true : false ≡ true → ⊥
     false_true e = cc
 
-pub stand_both : {P Q : Type 0} → Stands P → Stands Q → Stands (P × Q)
+pub stand_both : {P Q : Type 0} → IsStable P → IsStable Q → IsStable (P × Q)
 stand_both p q h = (p (λ n. h (λ both. n both.0)), q (λ n. h (λ both. n both.1)))
 
-pub stand_under : {P Q : Type 0} → (P → Stands Q) → Stands (P → Q)
+pub stand_under : {P Q : Type 0} → (P → IsStable Q) → IsStable (P → Q)
 stand_under q h = λ p. q p (λ n. h (λ f. n (f p)))
 
 -- what it is made of

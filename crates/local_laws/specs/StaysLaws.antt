@@ -29,7 +29,7 @@ use Rattle.fresh_bridging.specs.TheRules.{Setting, rules_by}
 use Rattle.fresh_bridging.specs.Touched.{ChoosesAlike, IsTouched, choice_of_item, chosen, differs, item_at, named}
 use Rattle.local_laws.specs.AgreeingLaws.{fits_agreeing, put_in_agreeing}
 use Rattle.local_laws.specs.Held.{held_at_each, held_at_in, held_of, is_there}
-use Rattle.local_laws.specs.HeldLaws.{IsHeld, IsHeldIn, held_each_at, held_in_at, keeps_own_each, keeps_own_in, none_at_each, none_at_in, stand_at_each, stand_at_in}
+use Rattle.local_laws.specs.HeldLaws.{IsHeldIn, IsHeldTree, held_each_at, held_in_at, keeps_own_each, keeps_own_in, none_at_each, none_at_in, stand_at_each, stand_at_in}
 use Rattle.local_laws.specs.SettledLaws.{settled_expression, settled_item, settled_option}
 use Rattle.local_laws.specs.Stays.{AgreeOn, StaysAt}
 
@@ -107,8 +107,8 @@ module _ {rules : Rules Item Entry} where
 
 module _ (choice next : _) where
   module _ (item : Item) (found behind : Option (Held Item Entry)) where
-    each_same : IsHeld (rules_by choice) (choice_of_item next) item found
-        → IsHeld (rules_by next) (choice_of_item next) item behind → found ≡ behind
+    each_same : IsHeldTree (rules_by choice) (choice_of_item next) item found
+        → IsHeldTree (rules_by next) (choice_of_item next) item behind → found ≡ behind
     each_same h k =
         let again = rebridged (choice_of_item next) h.tree h.keeps in
         h.is ∙ ap Some (sym again.1 ∙ held_once_at {rules = rules_by next} item item refl again.0

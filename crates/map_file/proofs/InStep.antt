@@ -11,8 +11,8 @@ use Rattle.map_file.specs.declared.map_text.MapText.{MapText}
 use Rattle.map_file.specs.declared.reader.Reader.{Reader}
 use Rattle.map_file.specs.declared.use_text.UseText.{UseText}
 use Rattle.map_file.specs.Lines.{Progress, kept_with, numbers_in, numbers_read, place_of}
-use Rattle.map_file.specs.Progress.{IsInStep, IsNext}
-use Rattle.map_file.specs.Shaped.{HasShape, IsBegun, IsWhole, NamesMap}
+use Rattle.map_file.specs.Progress.{IsNext, IsReaderInStep}
+use Rattle.map_file.specs.Shaped.{HasShape, IsBegun, IsMapWhole, NamesMap}
 use Rattle.map_file.proofs.PlaceSteps.{place_more}
 
 none_some : {X : Type 0} (o : Option X) (x : X) → o ≡ None → o ≡ Some x → ⊥
@@ -43,13 +43,13 @@ module _ (m new : MapText) (numbers : List Rational) (h : IsBegun m)
       subst (λ (n : MapText). length n.lines < 2 * n.size) is lt in
       subst IsBegun (sym is) (record { shape = shape; lines = fewer })
 
-  pub now_whole : 2 * new.size ≤ length new.lines → IsWhole new
+  pub now_whole : 2 * new.size ≤ length new.lines → IsMapWhole new
   now_whole ge =
       let more : length (with_line m numbers).lines ≡ length m.lines + 1 = lines in
       let fewer : length m.lines < 2 * m.size = h.lines in
       let all : 2 * m.size ≤ length (with_line m numbers).lines =
       subst (λ (n : MapText). 2 * n.size ≤ length n.lines) is ge in
-      subst IsWhole (sym is) (record { shape = shape; lines = omega (arith, more, fewer, all) })
+      subst IsMapWhole (sym is) (record { shape = shape; lines = omega (arith, more, fewer, all) })
 
   -- a line that isn't the last
   pub line_more : (so_far : Progress) (line : List ℕ) → numbers_in line ≡ Some numbers
@@ -67,9 +67,9 @@ module _ (m new : MapText) (numbers : List Rational) (h : IsBegun m)
       ∙ ap (λ (n : MapText). Some (record so_far { lacking = Some n })) (sym is)
 
 -- a map whose lines are to come
-pub with_lacking : (old new : Reader) (m : MapText) → IsInStep old → IsNext old.maps m
-    → new ≡ record old { lacking = Some m } → IsInStep new
-with_lacking old new m h next e = subst IsInStep (sym e) (record {
+pub with_lacking : (old new : Reader) (m : MapText) → IsReaderInStep old → IsNext old.maps m
+    → new ≡ record old { lacking = Some m } → IsReaderInStep new
+with_lacking old new m h next e = subst IsReaderInStep (sym e) (record {
   places = h.places;
   whole = h.whole;
   begun = λ x k. subst (IsNext old.maps) (same m x k) next;
@@ -80,18 +80,19 @@ with_lacking old new m h next e = subst IsInStep (sym e) (record {
     same m x k = cc
 
 -- a map more
-pub with_map : (old new : Reader) (m : MapText) → IsInStep old → old.lacking ≡ None → IsWhole m
+pub with_map : (old new : Reader) (m : MapText) → IsReaderInStep old → old.lacking ≡ None
+    → IsMapWhole m
     → place_of old.maps m.name ≡ None → new.maps ≡ old.maps ++ m ∷ [] → new.uses ≡ old.uses
     → new.lacking ≡ old.lacking
     → ((name : List ℕ) → get_by_text new.places name
     ≡ cond (bytes_eq m.name name) (Some (length old.maps)) (get_by_text old.places name))
-    → IsInStep new
+    → IsReaderInStep new
 with_map old new m h alone whole free maps uses lacking places = record {
   places = λ name.
       places name
       ∙ ap (cond (bytes_eq m.name name) (Some (length old.maps))) (h.places name)
       ∙ sym (place_more old.maps m name free) ∙ ap (λ (ms : List MapText). place_of ms name) (sym maps);
-  whole = subst (All IsWhole) (sym maps) (All-push IsWhole old.maps m h.whole whole);
+  whole = subst (All IsMapWhole) (sym maps) (All-push IsMapWhole old.maps m h.whole whole);
   begun = λ x k. absurd (none_some new.lacking x (lacking ∙ alone) k);
   uses = subst (λ (ms : List MapText). All (NamesMap ms) new.uses) (sym maps)
       (subst (All (NamesMap (old.maps ++ m ∷ []))) (sym uses)
@@ -105,9 +106,9 @@ with_map old new m h alone whole free maps uses lacking places = record {
         omega (arith, lt, more)
 
 -- a use more
-pub with_use : (old new : Reader) (u : UseText) → IsInStep old → u.map < length old.maps
-    → new ≡ record old { uses = old.uses ++ u ∷ [] } → IsInStep new
-with_use old new u h within e = subst IsInStep (sym e) (record {
+pub with_use : (old new : Reader) (u : UseText) → IsReaderInStep old → u.map < length old.maps
+    → new ≡ record old { uses = old.uses ++ u ∷ [] } → IsReaderInStep new
+with_use old new u h within e = subst IsReaderInStep (sym e) (record {
   places = h.places;
   whole = h.whole;
   begun = h.begun;

@@ -9,7 +9,7 @@ use Rattle.map_file.specs.declared.map_text.MapText.{MapText}
 use Rattle.map_file.specs.declared.reader.Reader.{Reader}
 use Rattle.map_file.specs.declared.use_text.UseText.{UseText}
 use Rattle.map_file.specs.Lines.{Progress, ended, line_read, read_from, stopped}
-use Rattle.map_file.specs.Progress.{Moves, progress_of}
+use Rattle.map_file.specs.Progress.{MovesReader, progress_of}
 use Rattle.script_tokens.specs.PieceLaws.{none_passes}
 
 -- a text has a first piece
@@ -67,7 +67,7 @@ module _ (number : ℕ) (so_far : Progress) (line : List ℕ) (pieces rest : Lis
 module _ (number : ℕ) (old new : Reader) (line : List ℕ) (text after : List ℕ)
     (split : slice_split (λ b. b == 10) text ≡ line ∷ slice_split (λ b. b == 10) after) where
   -- a right line leads on
-  pub right_line : Moves true old new (line_read number (progress_of old) line)
+  pub right_line : MovesReader true old new (line_read number (progress_of old) line)
       → read_from (number + 1) (progress_of new) (slice_split (λ b. b == 10) after)
       ≡ read_from number (progress_of old) (slice_split (λ b. b == 10) text)
   right_line moves =
@@ -76,7 +76,7 @@ module _ (number : ℕ) (old new : Reader) (line : List ℕ) (text after : List 
       (progress_of new) moves.1)
 
   -- a wrong line ends what is read
-  pub wrong_line : Moves false old new (line_read number (progress_of old) line)
+  pub wrong_line : MovesReader false old new (line_read number (progress_of old) line)
       → stopped (progress_of new) (Some number)
       ≡ read_from number (progress_of old) (slice_split (λ b. b == 10) text)
   wrong_line moves =

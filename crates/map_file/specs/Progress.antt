@@ -6,7 +6,7 @@ use Rattle.std.specs.Str.{IsUtf8}
 use Rattle.map_file.specs.declared.map_text.MapText.{MapText}
 use Rattle.map_file.specs.declared.reader.Reader.{Reader}
 use Rattle.map_file.specs.Lines.{Progress, place_of}
-use Rattle.map_file.specs.Shaped.{IsBegun, IsWhole, NamesMap}
+use Rattle.map_file.specs.Shaped.{IsBegun, IsMapWhole, NamesMap}
 
 abbrev pub progress_of : Reader → Progress
 progress_of r = record { maps = r.maps; uses = r.uses; lacking = r.lacking }
@@ -18,13 +18,13 @@ pub record IsNext (maps : List MapText) (m : MapText) : Type 0 where
   pub name : IsUtf8 m.name
 
 -- the places of the maps are found by their names, each map has its lines, and each use its map
-pub record IsInStep (r : Reader) : Type 0 where
+pub record IsReaderInStep (r : Reader) : Type 0 where
   pub places : (name : List ℕ) → get_by_text r.places name ≡ place_of r.maps name
-  pub whole : All IsWhole r.maps
+  pub whole : All IsMapWhole r.maps
   pub begun : ForSome r.lacking (IsNext r.maps)
   pub uses : All (NamesMap r.maps) r.uses
 
 -- a line is right, and leads on; or it is wrong, and what was read is kept
-abbrev pub Moves : Bool → Reader → Reader → Option Progress → Type 0
-Moves true old new after = IsInStep new × (after ≡ Some (progress_of new))
-Moves false old new after = (new.maps ≡ old.maps) × (new.uses ≡ old.uses) × (after ≡ None)
+abbrev pub MovesReader : Bool → Reader → Reader → Option Progress → Type 0
+MovesReader true old new after = IsReaderInStep new × (after ≡ Some (progress_of new))
+MovesReader false old new after = (new.maps ≡ old.maps) × (new.uses ≡ old.uses) × (after ≡ None)

@@ -11,7 +11,7 @@ pub record HasShape (m : MapText) : Type 0 where
   pub numbers : All (λ row. length row ≡ m.size) m.lines
 
 -- all lines of the matrix and of its inverse
-pub record IsWhole (m : MapText) : Type 0 where
+pub record IsMapWhole (m : MapText) : Type 0 where
   pub shape : HasShape m
   pub lines : length m.lines ≡ 2 * m.size
 
@@ -25,5 +25,5 @@ NamesMap maps u = u.map < length maps
 
 -- each map has its lines, and each use its map
 pub record IsShaped (file : MapFile) : Type 0 where
-  pub maps : All IsWhole file.maps
+  pub maps : All IsMapWhole file.maps
   pub uses : All (NamesMap file.maps) file.uses

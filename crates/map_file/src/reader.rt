@@ -2,8 +2,8 @@
 ghost use Rattle.std.specs.Prelude.{◌≡◌, ◌<◌, ◌++◌, ◌∷◌, [], None, IfOk, IfSome, OnOk, ◌&&◌, ◌==◌, is_none, length, option_and_then};
 ghost use Rattle.std.specs.Str.{IsUtf8};
 ghost use Rattle.map_file.specs.Lines.{line_read, map_name_of, map_read, no_progress, numbers_read, place_of, size_at, statement_read, stopped, use_read, whole_of, words_of, wrong_end};
-ghost use Rattle.map_file.specs.Progress.{IsInStep, Moves, progress_of};
-ghost use Rattle.map_file.specs.Shaped.{IsBegun, IsWhole};
+ghost use Rattle.map_file.specs.Progress.{IsReaderInStep, MovesReader, progress_of};
+ghost use Rattle.map_file.specs.Shaped.{IsBegun, IsMapWhole};
 
 use crate::file::MapFile;
 use crate::map_text::MapText;
@@ -33,7 +33,7 @@ pub(crate) struct Reader {
 impl Reader {
     pub(crate) fn new(alloc: Global) -> Reader
         ensures empty { progress_of result ≡ no_progress }
-        ensures in_step { IsInStep result }
+        ensures in_step { IsReaderInStep result }
     {
         Reader {
             alloc,
@@ -78,8 +78,8 @@ impl Reader {
 
     /// Reads a line, and says whether it is right.
     pub(crate) fn line(&mut self, line: &[u8], number: u32) -> Result<bool, Memory>
-        requires { IsInStep self.old }
-        ensures { IfOk result (λ right. Moves right self.old self.new
+        requires { IsReaderInStep self.old }
+        ensures { IfOk result (λ right. MovesReader right self.old self.new
             (line_read number (progress_of self.old) line.now)) }
     {
         match self.lacking.take() {
@@ -91,12 +91,12 @@ impl Reader {
     // A line of numbers of a map.
     #[tactic(auto, unfolding(crate::specs::Lines::numbers_read))]
     fn map_line(&mut self, map: MapText, line: &[u8]) -> Result<bool, Memory>
-        requires in_step { IsInStep self.old }
+        requires in_step { IsReaderInStep self.old }
         requires alone { self.old.lacking ≡ None }
         requires begun { IsBegun map }
         requires new_name { place_of self.old.maps map.name ≡ None }
         requires name { IsUtf8 map.name }
-        ensures { IfOk result (λ right. Moves right self.old self.new
+        ensures { IfOk result (λ right. MovesReader right self.old self.new
             (numbers_read (whole_of (progress_of self.old)) map line.now)) }
     {
         let Some(numbers) = read_numbers(self.alloc, line)? else {
@@ -116,12 +116,12 @@ impl Reader {
 
     // Keeps a map that has all its lines.
     fn keep(&mut self, map: MapText) -> Result<(), Memory>
-        requires in_step { IsInStep self.old }
+        requires in_step { IsReaderInStep self.old }
         requires alone { self.old.lacking ≡ None }
-        requires whole { IsWhole map }
+        requires whole { IsMapWhole map }
         requires new_name { place_of self.old.maps map.name ≡ None }
         requires name { IsUtf8 map.name }
-        ensures { OnOk result (IsInStep self.new × (progress_of self.new
+        ensures { OnOk result (IsReaderInStep self.new × (progress_of self.new
             ≡ record { maps = self.old.maps ++ map ∷ []; uses = self.old.uses; lacking = None })) }
     {
         let place = self.maps.len();
@@ -139,9 +139,9 @@ impl Reader {
     // A line that begins a map, or uses one.
     #[tactic(auto, unfolding(crate::specs::Lines::statement_read))]
     fn statement(&mut self, line: &[u8], number: u32) -> Result<bool, Memory>
-        requires in_step { IsInStep self.old }
+        requires in_step { IsReaderInStep self.old }
         requires alone { self.old.lacking ≡ None }
-        ensures { IfOk result (λ right. Moves right self.old self.new
+        ensures { IfOk result (λ right. MovesReader right self.old self.new
             (statement_read number (whole_of (progress_of self.old)) (words_of line.now))) }
     {
         let mut words = Pieces::new(line, b' ');
@@ -161,9 +161,9 @@ impl Reader {
     // NAME D
     #[tactic(auto, unfolding(crate::specs::Lines::map_read))]
     fn begin(&mut self, name: &[u8], size: &[u8]) -> Result<bool, Memory>
-        requires in_step { IsInStep self.old }
+        requires in_step { IsReaderInStep self.old }
         requires alone { self.old.lacking ≡ None }
-        ensures { IfOk result (λ right. Moves right self.old self.new
+        ensures { IfOk result (λ right. MovesReader right self.old self.new
             (map_read (whole_of (progress_of self.old)) name.now size.now)) }
     {
         let (Some(name), Some(size)) = (map_name(name), read_size(size)) else {
@@ -181,9 +181,9 @@ impl Reader {
     // NAME ROW SET
     #[tactic(auto, unfolding(crate::specs::Lines::use_read))]
     fn use_of(&mut self, name: &[u8], row: &[u8], set: &[u8], line: u32) -> Result<bool, Memory>
-        requires in_step { IsInStep self.old }
+        requires in_step { IsReaderInStep self.old }
         requires alone { self.old.lacking ≡ None }
-        ensures { IfOk result (λ right. Moves right self.old self.new
+        ensures { IfOk result (λ right. MovesReader right self.old self.new
             (use_read line (whole_of (progress_of self.old)) name.now row.now set.now)) }
     {
         let Some(map) = self.place(name) else {
@@ -205,10 +205,10 @@ impl Reader {
     }
 
     fn keep_use(&mut self, used: UseText) -> Result<(), Memory>
-        requires in_step { IsInStep self.old }
+        requires in_step { IsReaderInStep self.old }
         requires alone { self.old.lacking ≡ None }
         requires within { used.map < length self.old.maps }
-        ensures { OnOk result (IsInStep self.new × (progress_of self.new
+        ensures { OnOk result (IsReaderInStep self.new × (progress_of self.new
             ≡ record { maps = self.old.maps; uses = self.old.uses ++ used ∷ []; lacking = None })) }
     {
         match self.uses.push(used) {
@@ -219,7 +219,7 @@ impl Reader {
 
     // The place of the map with a name.
     fn place(&self, name: &[u8]) -> Option<usize>
-        requires { IsInStep self.now }
+        requires { IsReaderInStep self.now }
         ensures value { result ≡ option_and_then (place_of self.now.maps) (map_name_of name.now) }
         ensures within { IfSome result (λ place. place < length self.now.maps) }
     {
@@ -228,7 +228,7 @@ impl Reader {
     }
 
     fn size_at(&self, place: usize) -> u32
-        requires in_step { IsInStep self.now }
+        requires in_step { IsReaderInStep self.now }
         requires within { place < length self.now.maps }
         ensures { result ≡ size_at self.now.maps place }
     {

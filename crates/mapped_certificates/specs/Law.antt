@@ -7,20 +7,20 @@ use Rattle.user_model.specs.Valid.{IsValid}
 use Rattle.mapped_certificates.specs.GoodSeen.{GoodMapped, GoodSeen}
 use Rattle.mapped_certificates.specs.SeenRow.{SeenRow}
 use Rattle.mapped_certificates.specs.ShowsSeen.{ShowsSeen}
-use Rattle.mapped_certificates.specs.TakenBack.{StandFor, taken_back}
+use Rattle.mapped_certificates.specs.TakenBack.{StandForSeen, taken_back}
 
 -- where the rows of a model stand for rows as they are seen, its good certificates are good for these
 -- with the duals taken back
 abbrev pub GoodTakenBack : Type 0
 GoodTakenBack =
-    (model : ModelValue) (rows : List SeenRow) → StandFor model.rows rows → (c : Certificate)
+    (model : ModelValue) (rows : List SeenRow) → StandForSeen model.rows rows → (c : Certificate)
     → Good model c → GoodSeen model.groups rows model.objective (taken_back rows c)
 
 -- where the rows of a valid model stand for rows as they are seen, a certificate that is good for these
 -- shows what it says
 abbrev pub GoodSeenShow : Type 0
 GoodSeenShow =
-    (model : ModelValue) (rows : List SeenRow) → StandFor model.rows rows → IsValid model
+    (model : ModelValue) (rows : List SeenRow) → StandForSeen model.rows rows → IsValid model
     → (c : Certificate) → GoodSeen model.groups rows model.objective c
     → ShowsSeen model.groups rows model.objective c
 

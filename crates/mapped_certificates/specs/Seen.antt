@@ -7,10 +7,10 @@ use Rattle.rational_laws.specs.Sums.{sum_by_ℚ}
 use Rattle.aff_core.specs.Address.{Address}
 use Rattle.aff_core.specs.FunctionLists.{coefficients, constants, slopes, values}
 use Rattle.aff_core.specs.Points.{spread}
-use Rattle.dual_laws.specs.Held.{gap}
+use Rattle.dual_laws.specs.Held.{HasDuals, gap}
 use Rattle.set_core.specs.Membership.{In, recession}
 use Rattle.user_model.specs.declared.group.Group.{Group}
-use Rattle.certificates.specs.Duals.{HasDuals, groups_with}
+use Rattle.certificates.specs.Duals.{groups_with}
 use Rattle.certificates.specs.Points.{all_addresses, functions_of, functions_of_group, variables_of}
 use Rattle.mapped_certificates.specs.SeenRow.{DualSeen, InSeen, RecSeen, SeenRow, low_seen}
 

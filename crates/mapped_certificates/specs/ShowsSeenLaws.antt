@@ -17,7 +17,8 @@ use Rattle.user_model.specs.Model.{ModelValue}
 use Rattle.user_model.specs.Valid.{IsValid}
 use Rattle.certificates.specs.declared.certificate.Certificate.{Certificate}
 use Rattle.certificates.specs.declared.certificate.Certificate.TheVariants.{Optimal, Infeasible, Unbounded}
-use Rattle.certificates.specs.Duals.{AreDuals, HasDuals, adjoint_of_rows, dual_gap, dual_value, groups_with, reduced_cost, row_with, rows_with}
+use Rattle.certificates.specs.Duals.{AreDuals, adjoint_of_rows, dual_gap, dual_value, groups_with, reduced_cost, row_with, rows_with}
+use Rattle.dual_laws.specs.Held.{HasDuals}
 use Rattle.certificates.specs.Good.{Cancels, Good, HasReducedCost}
 use Rattle.certificates.specs.GoodLaws.{BetterPoint, none_is_better, none_is_feasible, some_is_better}
 use Rattle.certificates.specs.Points.{all_addresses, at_point, functions_of, objective_coefficient, objective_constant, sense_of}
@@ -26,7 +27,7 @@ use Rattle.mapped_certificates.specs.Seen.{AreDualsSeen, HasSeenDuals, adjoint_s
 use Rattle.mapped_certificates.specs.SeenRow.{DualBy, SeenRow}
 use Rattle.mapped_certificates.specs.ShowsSeen.{HasBetterSeen, ShowsSeen}
 use Rattle.mapped_certificates.specs.StandLaws.{feasible_own, feasible_seen, ray_own}
-use Rattle.mapped_certificates.specs.TakenBack.{StandFor, StandsBy, all_taken, taken_by}
+use Rattle.mapped_certificates.specs.TakenBack.{StandForSeen, StandsForSeen, all_taken, taken_by}
 use Rattle.mapped_certificates.specs.TakenBackLaws.{adjoints_agree, gaps_agree}
 
 -- ---- duals brought forward
@@ -51,7 +52,7 @@ record BringsForward (own : Row) (seen : Option MappedSet) (w : List Rational) :
   dual : Dual own.set (brought_by seen w)
   same : taken_by seen (brought_by seen w) ≡ w
 
-brings_forward : (own row : Row) (seen : Option MappedSet) → StandsBy seen own row
+brings_forward : (own row : Row) (seen : Option MappedSet) → StandsForSeen seen own row
     → (w : List Rational) → length w ≡ length (functions_of row.func) → DualBy row.set seen w
     → BringsForward own seen w
 brings_forward own row None same w e d = record {
@@ -73,7 +74,7 @@ record AllBrought (owns : List Row) (rows : List SeenRow) (ws : List (List Ratio
   same : all_taken rows (all_brought rows ws) ≡ ws
 
 all_brought_forward : (owns : List Row) (rows : List SeenRow) (ws : List (List Rational))
-    → StandFor owns rows → length ws ≡ length rows → All HasSeenDuals (with_seen ws rows)
+    → StandForSeen owns rows → length ws ≡ length rows → All HasSeenDuals (with_seen ws rows)
     → AllBrought owns rows ws
 all_brought_forward [] [] [] stand e h = record {
   each = refl;
@@ -101,7 +102,7 @@ all_brought_forward (own ∷ owns) (r ∷ rows) (w ∷ ws) stand e h =
 
 -- ---- the three kinds
 
-module _ (model : ModelValue) (rows : List SeenRow) (stand : StandFor model.rows rows) where
+module _ (model : ModelValue) (rows : List SeenRow) (stand : StandForSeen model.rows rows) where
   module _ (ws : List (List Rational)) (vars : List Rational)
       (duals : AreDualsSeen model.groups rows ws vars) where
     forward : AllBrought model.rows rows ws

@@ -17,7 +17,7 @@ use Rattle.certificates.specs.Feasible.{IsFeasible, IsRay}
 use Rattle.certificates.specs.Points.{at_point, functions_of}
 use Rattle.mapped_certificates.specs.Seen.{IsFeasibleSeen, IsRaySeen}
 use Rattle.mapped_certificates.specs.SeenRow.{InBy, InSeen, RecBy, RecSeen, SeenRow}
-use Rattle.mapped_certificates.specs.TakenBack.{IsMappedRow, StandFor, StandsBy}
+use Rattle.mapped_certificates.specs.TakenBack.{IsMappedRow, StandForSeen, StandsForSeen}
 
 -- ---- one row
 
@@ -48,23 +48,23 @@ module _ (x : Address → Rational) where
     slopes_are s is =
         ap (λ hs. slopes hs x) is.functions ∙ slopes-mapped s.matrix (functions_of row.func) x
 
-    in_seen : (seen : Option MappedSet) → StandsBy seen own row → OwnIn own
+    in_seen : (seen : Option MappedSet) → StandsForSeen seen own row → OwnIn own
         → InBy row.set seen (values (functions_of row.func) x)
     in_seen None same h = subst OwnIn same h
     in_seen (Some s) is h = same_in own.set s.cone _ _ is.set (values_are s is) h
 
-    in_own : (seen : Option MappedSet) → StandsBy seen own row
+    in_own : (seen : Option MappedSet) → StandsForSeen seen own row
         → InBy row.set seen (values (functions_of row.func) x) → OwnIn own
     in_own None same h = subst OwnIn (sym same) h
     in_own (Some s) is h = same_in s.cone own.set _ _ (sym is.set) (sym (values_are s is)) h
 
-    stays_seen : (seen : Option MappedSet) → StandsBy seen own row → OwnStays own
+    stays_seen : (seen : Option MappedSet) → StandsForSeen seen own row → OwnStays own
         → RecBy row.set seen (slopes (functions_of row.func) x)
     stays_seen None same h = subst OwnStays same h
     stays_seen (Some s) is h =
         same_in (recession own.set) (recession s.cone) _ _ (ap recession is.set) (slopes_are s is) h
 
-    stays_own : (seen : Option MappedSet) → StandsBy seen own row
+    stays_own : (seen : Option MappedSet) → StandsForSeen seen own row
         → RecBy row.set seen (slopes (functions_of row.func) x) → OwnStays own
     stays_own None same h = subst OwnStays (sym same) h
     stays_own (Some s) is h =
@@ -74,8 +74,8 @@ module _ (x : Address → Rational) where
 -- ---- all rows
 
 module _ (P : Row → Type 0) (Q : SeenRow → Type 0) where
-  each_seen : ((own : Row) (r : SeenRow) → StandsBy r.seen own r.row → P own → Q r)
-      → (owns : List Row) (rows : List SeenRow) → StandFor owns rows → All P owns → All Q rows
+  each_seen : ((own : Row) (r : SeenRow) → StandsForSeen r.seen own r.row → P own → Q r)
+      → (owns : List Row) (rows : List SeenRow) → StandForSeen owns rows → All P owns → All Q rows
   each_seen step [] [] stand h = All-nil Q
   each_seen step [] (r ∷ rows) stand h = absurd stand
   each_seen step (own ∷ owns) [] stand h = absurd stand
@@ -83,8 +83,8 @@ module _ (P : Row → Type 0) (Q : SeenRow → Type 0) where
       All-cons Q r rows (step own r stand.0 (All-head P own owns h))
       (each_seen step owns rows stand.1 (All-tail P own owns h))
 
-  each_own : ((own : Row) (r : SeenRow) → StandsBy r.seen own r.row → Q r → P own)
-      → (owns : List Row) (rows : List SeenRow) → StandFor owns rows → All Q rows → All P owns
+  each_own : ((own : Row) (r : SeenRow) → StandsForSeen r.seen own r.row → Q r → P own)
+      → (owns : List Row) (rows : List SeenRow) → StandForSeen owns rows → All Q rows → All P owns
   each_own step [] [] stand h = All-nil P
   each_own step [] (r ∷ rows) stand h = absurd stand
   each_own step (own ∷ owns) [] stand h = absurd stand
@@ -94,7 +94,7 @@ module _ (P : Row → Type 0) (Q : SeenRow → Type 0) where
 
 -- ---- points and rays
 
-module _ (model : ModelValue) (rows : List SeenRow) (stand : StandFor model.rows rows)
+module _ (model : ModelValue) (rows : List SeenRow) (stand : StandForSeen model.rows rows)
     (x : List Rational) where
   abbrev at : Address → Rational
   at = at_point model x

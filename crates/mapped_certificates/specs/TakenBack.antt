@@ -26,16 +26,16 @@ pub record IsMappedRow (s : MappedSet) (own row : Row) : Type 0 where
   pub size : length (functions_of row.func) ≡ length s.matrix
 
 -- the row itself, where it isn't mapped
-abbrev pub StandsBy : Option MappedSet → Row → Row → Type 0
-StandsBy None own row = own ≡ row
-StandsBy (Some s) own row = IsMappedRow s own row
+abbrev pub StandsForSeen : Option MappedSet → Row → Row → Type 0
+StandsForSeen None own row = own ≡ row
+StandsForSeen (Some s) own row = IsMappedRow s own row
 
 -- the rows of a model, each of which stands for one that is seen so
-abbrev pub StandFor : List Row → List SeenRow → Type 0
-StandFor [] [] = Unit {0}
-StandFor [] (r ∷ rows) = ⊥
-StandFor (own ∷ owns) [] = ⊥
-StandFor (own ∷ owns) (r ∷ rows) = StandsBy r.seen own r.row × StandFor owns rows
+abbrev pub StandForSeen : List Row → List SeenRow → Type 0
+StandForSeen [] [] = Unit {0}
+StandForSeen [] (r ∷ rows) = ⊥
+StandForSeen (own ∷ owns) [] = ⊥
+StandForSeen (own ∷ owns) (r ∷ rows) = StandsForSeen r.seen own r.row × StandForSeen owns rows
 
 -- ---- duals taken back
 

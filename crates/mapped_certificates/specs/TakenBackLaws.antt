@@ -9,7 +9,7 @@ use Rattle.rational_laws.specs.Sums.{sum_by_ℚ, sum_by_ℚ-append}
 use Rattle.aff_core.specs.Address.{Address}
 use Rattle.aff_core.specs.Function.{Function}
 use Rattle.aff_core.specs.FunctionLists.{coefficients, constants}
-use Rattle.dual_laws.specs.Held.{adjoint, gap, gap_of}
+use Rattle.dual_laws.specs.Held.{HasDuals, adjoint, gap, gap_of}
 use Rattle.set_core.specs.declared.set.Set.{Set}
 use Rattle.set_core.specs.declared.set.Set.TheVariants.{LessThan, GreaterThan, EqualTo, Interval}
 use Rattle.set_core.specs.Membership.{Dual, low_of}
@@ -22,14 +22,14 @@ use Rattle.user_model.specs.declared.row.Row.{Row}
 use Rattle.user_model.specs.Model.{ModelValue}
 use Rattle.certificates.specs.declared.certificate.Certificate.{Certificate}
 use Rattle.certificates.specs.declared.certificate.Certificate.TheVariants.{Optimal, Infeasible, Unbounded}
-use Rattle.certificates.specs.Duals.{AreDuals, HasDuals, adjoint_of_rows, dual_gap, dual_value, groups_with, reduced_cost, row_with, rows_with}
+use Rattle.certificates.specs.Duals.{AreDuals, adjoint_of_rows, dual_gap, dual_value, groups_with, reduced_cost, row_with, rows_with}
 use Rattle.certificates.specs.Good.{Cancels, Good, HasReducedCost}
 use Rattle.certificates.specs.Points.{all_addresses, at_point, functions_of, objective_coefficient, objective_constant, sense_of}
 use Rattle.mapped_certificates.specs.GoodSeen.{CancelsSeen, GoodSeen, HasSeenCost}
 use Rattle.mapped_certificates.specs.Seen.{AreDualsSeen, HasSeenDuals, adjoint_of_seen, adjoint_seen, gap_of_seen, gap_seen, with_seen}
 use Rattle.mapped_certificates.specs.SeenRow.{DualBy, SeenRow, low_by}
 use Rattle.mapped_certificates.specs.StandLaws.{feasible_seen, ray_seen}
-use Rattle.mapped_certificates.specs.TakenBack.{StandFor, StandsBy, all_taken, taken_back, taken_by}
+use Rattle.mapped_certificates.specs.TakenBack.{StandForSeen, StandsForSeen, all_taken, taken_back, taken_by}
 
 cone_low : (set : Set) (w : List Rational) → is_scalar set ≡ false → low_of set w ≡ zero_ℚ
 cone_low (LessThan u) w c = absurd (true≢false c)
@@ -57,7 +57,7 @@ module _ (own row : Row) where
         low_by row.set seen (taken_by seen y) -ℚ dot (taken_by seen y) (constants fs)
         ≡ low_of own.set y -ℚ dot y (constants gs)
 
-  takes_back : (seen : Option MappedSet) → StandsBy seen own row → (y : List Rational)
+  takes_back : (seen : Option MappedSet) → StandsForSeen seen own row → (y : List Rational)
       → length y ≡ length gs → Dual own.set y → TakesBack seen y
   takes_back None same y e d = record {
     size = e ∙ ap (λ (r : Row). length (functions_of r.func)) same;
@@ -96,7 +96,7 @@ record AllTakeBack (owns : List Row) (rows : List SeenRow) (ys : List (List Rati
   gap : sum_by_ℚ gap_of_seen (with_seen (all_taken rows ys) rows) ≡ gap (rows_with ys owns)
 
 all_take_back : (owns : List Row) (rows : List SeenRow) (ys : List (List Rational))
-    → StandFor owns rows → length ys ≡ length owns → All HasDuals (rows_with ys owns)
+    → StandForSeen owns rows → length ys ≡ length owns → All HasDuals (rows_with ys owns)
     → AllTakeBack owns rows ys
 all_take_back [] [] [] stand e h = record {
   each = refl;
@@ -126,7 +126,7 @@ all_take_back (own ∷ owns) (r ∷ rows) (y ∷ ys) stand e h =
 
 -- ---- the three kinds
 
-module _ (model : ModelValue) (rows : List SeenRow) (stand : StandFor model.rows rows) where
+module _ (model : ModelValue) (rows : List SeenRow) (stand : StandForSeen model.rows rows) where
   module _ (ys : List (List Rational)) (vars : List Rational) (duals : AreDuals model ys vars) where
     abbrev of_model : List Rational → Address → Rational
     of_model = at_point model

@@ -12,13 +12,13 @@ use Rattle.certificates.specs.Good.{Good}
 use Rattle.mapped_certificates.specs.GoodSeen.{GoodMapped, GoodSeen, is_used, rows_seen}
 use Rattle.mapped_certificates.specs.SeenRow.{SeenRow}
 use Rattle.mapped_certificates.specs.ShowsSeenLaws.{all_brought, brought_forward, good_own}
-use Rattle.mapped_certificates.specs.TakenBack.{StandFor, all_taken, taken_back}
+use Rattle.mapped_certificates.specs.TakenBack.{StandForSeen, all_taken, taken_back}
 use Rattle.mapped_certificates.specs.TakenBackLaws.{good_seen}
 
 abbrev themselves : List Row → List SeenRow
 themselves rows = map (λ r. record { row = r; seen = None }) rows
 
-stand_themselves : (rows : List Row) → StandFor rows (themselves rows)
+stand_themselves : (rows : List Row) → StandForSeen rows (themselves rows)
 stand_themselves [] = tt
 stand_themselves (r ∷ rows) = (refl, stand_themselves rows)
 
@@ -52,7 +52,7 @@ taken_same rows (Infeasible gap ys vars) = ap (λ us. Infeasible gap us vars) (s
 taken_same rows (Unbounded x d) = refl
 
 module _ (model : ModelValue) (c : Certificate) where
-  abbrev stand : StandFor model.rows (themselves model.rows)
+  abbrev stand : StandForSeen model.rows (themselves model.rows)
   stand = stand_themselves model.rows
 
   abbrev GoodBy : List SeenRow → Certificate → Type 0

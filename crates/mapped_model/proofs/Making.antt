@@ -14,16 +14,16 @@ use Rattle.mapped_certificates.specs.GoodSeen.{Use}
 use Rattle.mapped_model.proofs.Pairs.{map_here, matrix_at}
 use Rattle.mapped_model.proofs.Standing.{IsGoodUse, all_good, stands}
 use Rattle.mapped_model.specs.Answers.{MapsRows}
-use Rattle.mapped_model.specs.Edits.{IsPlan, MakesEdits, Plans, Pushes, TellsUnmade}
-use Rattle.mapped_model.specs.Mapping.{AreBefore, AreEditsFor, Exceeds, Fits, FitsMap, IsRefused, Made, Mapped, Maps, MapsBy, edits_by, edits_for, edits_of, is_lone, mapped_by}
+use Rattle.mapped_model.specs.Edits.{IsMappingPlan, MakesEdits, PlansMapping, Pushes, TellsUnmade}
+use Rattle.mapped_model.specs.Mapping.{AreBefore, AreEditsFor, Exceeds, FitsMap, IsRefused, Made, Mapped, Maps, MapsBy, UseFits, edits_by, edits_for, edits_of, is_lone, mapped_by}
 use Rattle.mapped_model.specs.Stands.{StandsFor}
-use Rattle.mapped_model.specs.Tells.{AreRight, TellsMaps, TellsUses}
+use Rattle.mapped_model.specs.Tells.{AreMapsRight, TellsMaps, TellsUses}
 use Rattle.mapped_model.specs.Uses.{map_at, matrix_of, used, uses_in, wrong_line, wrong_use}
 use Rattle.mapped_model.specs.declared.fault.MappingFault.{MappingFault}
 use Rattle.mapped_model.specs.declared.fault.MappingFault.TheVariants as fault
 use Rattle.mapped_model.specs.declared.mapping.MappingPlan.{MappingPlan}
 use Rattle.model_load.specs.Loads.{after_edits}
-use Rattle.model_store.specs.Store.{Stored}
+use Rattle.model_store.specs.Store.{StoredModel}
 use Rattle.mof_write.specs.Written.{naming}
 use Rattle.set_map.specs.Matrices.{Matrix}
 use Rattle.user_model.specs.declared.edit.Edit.{Edit}
@@ -43,7 +43,7 @@ joined f (y ∷ xs) x =
 module _ (model : ModelValue) (uses : List Use) where
   -- those before a place fit, and their edits are made
   pub record AreSoFar (i : ℕ) (edits : List Edit) : Type 0 where
-    pub fit : All Fits (take i uses)
+    pub fit : All UseFits (take i uses)
     pub same : edits ≡ edits_for model (take i uses)
 
   pub none_so_far : AreSoFar 0 []
@@ -51,18 +51,18 @@ module _ (model : ModelValue) (uses : List Use) where
 
   module _ (i : ℕ) (edits : List Edit) (h : AreSoFar i edits) (u : Use) (here : u ≡ get_or uses i u)
       (within : i < length uses) where
-    pub one_so_far : (next : List Edit) → Fits u → next ≡ edits ++ edits_of (naming model) u
+    pub one_so_far : (next : List Edit) → UseFits u → next ≡ edits ++ edits_of (naming model) u
         → AreSoFar (i + 1) next
     one_so_far next fits pushed = record {
-      fit = subst (All Fits) (sym (take_more uses i u within))
-          (All-push Fits (take i uses) (get_or uses i u) h.fit (subst Fits here fits));
+      fit = subst (All UseFits) (sym (take_more uses i u within))
+          (All-push UseFits (take i uses) (get_or uses i u) h.fit (subst UseFits here fits));
       same = pushed ∙ ap (λ es. es ++ edits_of (naming model) u) h.same
           ∙ sym (joined (edits_of (naming model)) (take i uses) u)
           ∙ ap (λ v. edits_for model (take i uses ++ v ∷ [])) here
           ∙ ap (edits_for model) (sym (take_more uses i u within));
     }
 
-    pub first_unfit : (name : List ℕ) → ¬ (Fits u) → name ≡ u.row.name
+    pub first_unfit : (name : List ℕ) → ¬ (UseFits u) → name ≡ u.row.name
         → AreEditsFor model uses edits (Some name)
     first_unfit name unfit named = record {
       fitting = take i uses;
@@ -84,7 +84,7 @@ module _ (model : ModelValue) (uses : List Use) where
   all_so_far i edits h le = record {
     fitting = uses;
     before = refl;
-    fit = subst (All Fits) (take_all i uses le) h.fit;
+    fit = subst (All UseFits) (take_all i uses le) h.fit;
     same = h.same ∙ ap (edits_for model) (take_all i uses le);
   }
 
@@ -171,7 +171,7 @@ no_use_wrong model file e =
 
 -- the rows of the uses, and their maps
 module _ (model : ModelValue) (valid : IsValid model) (file : MapFile) (shaped : IsShaped file)
-    (right : AreRight model file) (rows : List (Bor Row))
+    (right : AreMapsRight model file) (rows : List (Bor Row))
     (same : map (λ (r : Bor Row). r.now) rows ≡ map (λ u. u.row) (uses_in model file))
     (matrices : List Matrix) (are : matrices ≡ map matrix_of file.maps) (i : ℕ) (u : UseText)
     (here : u ≡ get_or file.uses i u) (lt : i < length file.uses) where
@@ -216,13 +216,13 @@ any_lone f same [] = refl
 any_lone f same (u ∷ uses) =
     ap₂ ◌||◌ (ap is_lone (sym (same u))) (any_lone f same uses)
 
-module _ (old : Stored) (file : MapFile) where
+module _ (old : StoredModel) (file : MapFile) where
   lone_is : list_any (λ u. is_lone u.set) file.uses
       ≡ list_any (λ u. is_lone u.set.cone) (uses_in old.model file)
   lone_is = any_lone (used old.model file.maps) (λ u. refl) file.uses
 
   pub unused_failed : (reason : MappingFault) → TellsUses old.model file (Err reason)
-      → Plans old.model file (Err reason)
+      → PlansMapping old.model file (Err reason)
   unused_failed (fault.BadMaps line) h = h
   unused_failed (fault.BadMap name) h = absurd h
   unused_failed (fault.Refused refusal) h = absurd h
@@ -230,14 +230,15 @@ module _ (old : Stored) (file : MapFile) where
   unused_failed fault.Memory h = tt
 
   pub maps_failed : (reason : MappingFault) → wrong_line old.model file ≡ None
-      → TellsMaps file.maps (Err reason) → Plans old.model file (Err reason)
+      → TellsMaps file.maps (Err reason) → PlansMapping old.model file (Err reason)
   maps_failed (fault.BadMaps line) none h = absurd h
   maps_failed (fault.BadMap name) none h = (none, h)
   maps_failed (fault.Refused refusal) none h = absurd h
   maps_failed (fault.Overflow row) none h = absurd h
   maps_failed fault.Memory none h = tt
 
-  pub unplanned : (reason : MappingFault) (new : Stored) → Plans old.model file (Err reason)
+  pub unplanned : (reason : MappingFault) (new : StoredModel)
+      → PlansMapping old.model file (Err reason)
       → MapsRows old file (Err reason) new
   unplanned (fault.BadMaps line) new h = h
   unplanned (fault.BadMap name) new h = h
@@ -249,7 +250,7 @@ module _ (old : Stored) (file : MapFile) where
   unplanned (fault.Overflow row) new h = absurd h
   unplanned fault.Memory new h = tt
 
-  module _ (plan : MappingPlan) (is : IsPlan old.model file plan) where
+  module _ (plan : MappingPlan) (is : IsMappingPlan old.model file plan) where
     maps_each : (what : Mapped)
         → what ≡ mapped_by plan.edits.exceeds (after_edits old.model plan.edits.edits.items)
         → Maps old.model (uses_in old.model file) what
@@ -262,7 +263,7 @@ module _ (old : Stored) (file : MapFile) where
     refused_by None refusal = refl
     refused_by (Some row) refusal = refl
 
-    pub unmade : (reason : MappingFault) (between new : Stored)
+    pub unmade : (reason : MappingFault) (between new : StoredModel)
         → MakesEdits old plan.edits.edits.items (Err reason) between
         → MapsRows old file (Err reason) new
     unmade (fault.BadMaps line) between new h = absurd h
@@ -275,7 +276,7 @@ module _ (old : Stored) (file : MapFile) where
     unmade (fault.Overflow row) between new h = absurd h
     unmade fault.Memory between new h = tt
 
-    pub exceeded : (row : List ℕ) (reason : MappingFault) (new : Stored)
+    pub exceeded : (row : List ℕ) (reason : MappingFault) (new : StoredModel)
         → TellsUnmade old.model plan.edits.edits.items row reason → plan.edits.exceeds ≡ Some row
         → MapsRows old file (Err reason) new
     exceeded row (fault.BadMaps line) new h some = absurd h
@@ -291,7 +292,7 @@ module _ (old : Stored) (file : MapFile) where
     )
     exceeded row fault.Memory new h some = tt
 
-    pub made : (mapped : MapFile) (new : Stored)
+    pub made : (mapped : MapFile) (new : StoredModel)
         → MakesEdits old plan.edits.edits.items (Ok tt) new → plan.edits.exceeds ≡ None
         → mapped ≡ file → MapsRows old file (Ok mapped) new
     made mapped new h none same = (
@@ -301,7 +302,7 @@ module _ (old : Stored) (file : MapFile) where
       h.1,
     )
 
-    pub made_stands : (new : Stored) → IsShaped file
+    pub made_stands : (new : StoredModel) → IsShaped file
         → MakesEdits old plan.edits.edits.items (Ok tt) new → plan.edits.exceeds ≡ None
         → StandsFor old.model (uses_in old.model file) new.model
     made_stands new shaped h none =

@@ -7,21 +7,21 @@ use Rattle.std.proofs.lemmas.Option.{slice_get-get_or}
 use Rattle.map_laws.specs.LoopLaws.{map-take_more}
 use Rattle.map_file.specs.declared.map_text.MapText.{MapText}
 use Rattle.map_file.specs.declared.use_text.UseText.{UseText}
-use Rattle.map_file.specs.Shaped.{IsWhole, NamesMap}
+use Rattle.map_file.specs.Shaped.{IsMapWhole, NamesMap}
 use Rattle.mapped_model.specs.Tells.{TellsBad, TellsMap, TellsMaps}
 use Rattle.mapped_model.specs.Uses.{IsMap, inverse_of, map_at, matrix_of}
 use Rattle.mapped_model.specs.declared.fault.MappingFault.{MappingFault}
 use Rattle.mapped_model.specs.declared.fault.MappingFault.TheVariants as fault
-use Rattle.set_map.specs.Fitting.{ProductsFit}
+use Rattle.set_map.specs.Fitting.{BothProductsFit}
 use Rattle.set_map.specs.Matrices.{AreInverse, ArePair, Matrix}
 
-pub matrix_size : (m : MapText) → IsWhole m → length (matrix_of m) ≡ m.size
+pub matrix_size : (m : MapText) → IsMapWhole m → length (matrix_of m) ≡ m.size
 matrix_size m w = omega (arith, length-take m.size m.lines, w.lines)
 
-inverse_size : (m : MapText) → IsWhole m → length (inverse_of m) ≡ m.size
+inverse_size : (m : MapText) → IsMapWhole m → length (inverse_of m) ≡ m.size
 inverse_size m w = omega (arith, length-drop m.size m.lines, w.lines)
 
-pub pair_of : (m : MapText) → IsWhole m → ArePair (matrix_of m) (inverse_of m)
+pub pair_of : (m : MapText) → IsMapWhole m → ArePair (matrix_of m) (inverse_of m)
 pair_of m w = record {
   first = record {
     rows = refl;
@@ -35,7 +35,7 @@ pair_of m w = record {
   };
 }
 
-pub lines_enough : (m : MapText) → IsWhole m → m.size ≤ length m.lines
+pub lines_enough : (m : MapText) → IsMapWhole m → m.size ≤ length m.lines
 lines_enough m w = omega (arith, w.lines)
 
 -- ---- maps read one after the other
@@ -94,21 +94,22 @@ matrix_at (m ∷ maps) (suc place) d lt = matrix_at maps place d (omega (arith, 
 
 -- ---- a map at a place
 
-pub whole_at : (maps items : List MapText) (i : ℕ) (m : MapText) → All IsWhole maps → items ≡ maps
-    → m ≡ get_or items i m → i < length maps → IsWhole m
+pub whole_at : (maps items : List MapText) (i : ℕ) (m : MapText) → All IsMapWhole maps
+    → items ≡ maps
+    → m ≡ get_or items i m → i < length maps → IsMapWhole m
 whole_at maps items i m whole same at lt =
-    subst IsWhole (sym (at ∙ ap (λ xs. get_or xs i m) same)) (whole i m lt)
+    subst IsMapWhole (sym (at ∙ ap (λ xs. get_or xs i m) same)) (whole i m lt)
 
-pub pair_as : (m : MapText) (a b : Matrix) → IsWhole m → a ≡ matrix_of m → b ≡ inverse_of m
+pub pair_as : (m : MapText) (a b : Matrix) → IsMapWhole m → a ≡ matrix_of m → b ≡ inverse_of m
     → ArePair a b
 pair_as m a b whole is inverse =
     subst (λ c. ArePair c b) (sym is) (subst (ArePair (matrix_of m)) (sym inverse) (pair_of m whole))
 
 module _ (m : MapText) (a b : Matrix) (is : a ≡ matrix_of m) (inverse : b ≡ inverse_of m) where
-  pub read_right : ProductsFit a b → AreInverse a b → IsMap m
+  pub read_right : BothProductsFit a b → AreInverse a b → IsMap m
   read_right fits are = record {
     inverse = subst (AreInverse (matrix_of m)) inverse (subst (λ c. AreInverse c b) is are);
-    fits = subst (ProductsFit (matrix_of m)) inverse (subst (λ c. ProductsFit c b) is fits);
+    fits = subst (BothProductsFit (matrix_of m)) inverse (subst (λ c. BothProductsFit c b) is fits);
   }
 
   pub not_inverse : ¬ (AreInverse a b) → ¬ (IsMap m)
@@ -116,10 +117,10 @@ module _ (m : MapText) (a b : Matrix) (is : a ≡ matrix_of m) (inverse : b ≡ 
       not (subst (λ c. AreInverse c b) (sym is)
       (subst (AreInverse (matrix_of m)) (sym inverse) map.inverse))
 
-  pub not_fit : ¬ (ProductsFit a b) → ¬ (IsMap m)
+  pub not_fit : ¬ (BothProductsFit a b) → ¬ (IsMap m)
   not_fit not map =
-      not (subst (λ c. ProductsFit c b) (sym is)
-      (subst (ProductsFit (matrix_of m)) (sym inverse) map.fits))
+      not (subst (λ c. BothProductsFit c b) (sym is)
+      (subst (BothProductsFit (matrix_of m)) (sym inverse) map.fits))
 
 -- a map that isn't one is reported
 pub told_bad : (m : MapText) (reason : MappingFault) → ¬ (IsMap m) → TellsBad m reason

@@ -11,9 +11,9 @@ use Rattle.map_laws.specs.PlaceLaws.{filter_all}
 use Rattle.certificates.specs.Points.{functions_of}
 use Rattle.map_file.specs.declared.map_text.MapText.{MapText}
 use Rattle.map_file.specs.declared.use_text.UseText.{UseText}
-use Rattle.map_file.specs.Shaped.{IsWhole, NamesMap}
+use Rattle.map_file.specs.Shaped.{IsMapWhole, NamesMap}
 use Rattle.mapped_certificates.specs.GoodSeen.{Use, is_used, rows_seen}
-use Rattle.mapped_certificates.specs.TakenBack.{IsMappedRow, StandFor}
+use Rattle.mapped_certificates.specs.TakenBack.{IsMappedRow, StandForSeen}
 use Rattle.mapped_model.proofs.Again.{located_again}
 use Rattle.mapped_model.proofs.Deleting.{deleted, with_rows}
 use Rattle.mapped_model.proofs.Names.{found_before, none_behind}
@@ -143,8 +143,8 @@ unused_more u uses rows =
 -- ---- rows that stand for others
 
 stand_beside : (rows : List Row) (owns : List Row) (uses : List Use)
-    → StandFor owns (map (λ u. record { row = u.row; seen = Some u.set }) uses)
-    → StandFor (rows ++ owns)
+    → StandForSeen owns (map (λ u. record { row = u.row; seen = Some u.set }) uses)
+    → StandForSeen (rows ++ owns)
     (map (λ r. record { row = r; seen = None }) rows
     ++ map (λ u. record { row = u.row; seen = Some u.set }) uses)
 stand_beside [] owns uses h = h
@@ -154,7 +154,7 @@ stand_beside (r ∷ rows) owns uses h =
 -- ---- one use
 
 module _ (model : ModelValue) (valid : IsValid model) (maps : List MapText)
-    (whole : All IsWhole maps) (right : All IsMap maps) where
+    (whole : All IsMapWhole maps) (right : All IsMap maps) where
   -- what no use named so far is found as it is in the model
   abbrev AreLeft : List Row → Type 0
   AreLeft left = (name : List ℕ) (r : Row) → named_in left name ≡ Some r
@@ -317,7 +317,7 @@ module _ (model : ModelValue) (valid : IsValid model) (maps : List MapText)
     objective : new.objective ≡ m.objective
     more : List Row
     rows : new.rows ≡ unused (map (used model maps) uses) left ++ (added ++ more)
-    mapped : StandFor more
+    mapped : StandForSeen more
         (map (λ u. record { row = u.row; seen = Some u.set }) (map (used model maps) uses))
 
   becomes : (uses : List UseText) (left added : List Row) (m new : ModelValue)
@@ -367,7 +367,7 @@ module _ (model : ModelValue) (valid : IsValid model) (maps : List MapText)
       } h in record {
         groups = b.groups;
         objective = b.objective;
-        rows = subst (λ rs. StandFor rs (rows_seen model.rows (map (used model maps) uses)))
+        rows = subst (λ rs. StandForSeen rs (rows_seen model.rows (map (used model maps) uses)))
             (sym b.rows)
             (stand_beside (unused (map (used model maps) uses) model.rows) b.more
             (map (used model maps) uses) b.mapped);

@@ -3,13 +3,13 @@ use Rattle.std.specs.Prelude.{◌≡◌, ◌++◌, ℕ, Bool, true, false, List,
 use Rattle.std.specs.List.{list_any}
 use Rattle.map_file.specs.declared.file.MapFile.{MapFile}
 use Rattle.mapped_model.specs.Mapping.{AreEditsFor, FitsMap, is_lone, mapped_functions}
-use Rattle.mapped_model.specs.Tells.{AreRight}
+use Rattle.mapped_model.specs.Tells.{AreMapsRight}
 use Rattle.mapped_model.specs.Uses.{NamesBad, matrix_of, uses_in, wrong_line}
 use Rattle.mapped_model.specs.declared.fault.MappingFault.{MappingFault}
 use Rattle.mapped_model.specs.declared.fault.MappingFault.TheVariants as fault
 use Rattle.mapped_model.specs.declared.mapping.MappingPlan.{MappingPlan}
 use Rattle.model_load.specs.Loads.{after_edits}
-use Rattle.model_store.specs.Store.{Stored}
+use Rattle.model_store.specs.Store.{StoredModel}
 use Rattle.set_map.specs.Matrices.{Matrix}
 use Rattle.user_model.specs.declared.edit.Edit.{Edit}
 use Rattle.user_model.specs.declared.function.UserFunc.{UserFunc}
@@ -31,26 +31,26 @@ Pushes true matrix row before more after = FitsMap matrix row × (after ≡ befo
 Pushes false matrix row before more after = (¬ (FitsMap matrix row)) × (after ≡ before)
 
 -- what is to be done to the model with its maps
-pub record IsPlan (model : ModelValue) (file : MapFile) (plan : MappingPlan) : Type 0 where
+pub record IsMappingPlan (model : ModelValue) (file : MapFile) (plan : MappingPlan) : Type 0 where
   pub valid : IsValid model
-  pub right : AreRight model file
+  pub right : AreMapsRight model file
   pub many : list_any (λ u. is_lone u.set) file.uses ≡ false
   pub maps : plan.maps.items ≡ map matrix_of file.maps
   pub edits : AreEditsFor model (uses_in model file) plan.edits.edits.items plan.edits.exceeds
 
-abbrev pub Plans : ModelValue → MapFile → Result MappingPlan MappingFault → Type 0
-Plans model file (Ok plan) = IsPlan model file plan
-Plans model file (Err (fault.BadMaps line)) = wrong_line model file ≡ Some line
-Plans model file (Err (fault.BadMap name)) =
+abbrev pub PlansMapping : ModelValue → MapFile → Result MappingPlan MappingFault → Type 0
+PlansMapping model file (Ok plan) = IsMappingPlan model file plan
+PlansMapping model file (Err (fault.BadMaps line)) = wrong_line model file ≡ Some line
+PlansMapping model file (Err (fault.BadMap name)) =
     (wrong_line model file ≡ None) × NamesBad file.maps name
-Plans model file (Err (fault.Refused refusal)) =
-    AreRight model file × (list_any (λ u. is_lone u.set) file.uses ≡ true)
+PlansMapping model file (Err (fault.Refused refusal)) =
+    AreMapsRight model file × (list_any (λ u. is_lone u.set) file.uses ≡ true)
     × (refusal ≡ BadDimension)
-Plans model file (Err (fault.Overflow row)) = ⊥
-Plans model file (Err fault.Memory) = Unit {0}
+PlansMapping model file (Err (fault.Overflow row)) = ⊥
+PlansMapping model file (Err fault.Memory) = Unit {0}
 
 -- edits are made on a model, or one is refused
-abbrev pub MakesEdits : Stored → List Edit → Result Unit MappingFault → Stored → Type 0
+abbrev pub MakesEdits : StoredModel → List Edit → Result Unit MappingFault → StoredModel → Type 0
 MakesEdits old edits (Ok done) new =
     (after_edits old.model edits ≡ Ok new.model) × (new.parked ≡ old.parked)
 MakesEdits old edits (Err (fault.Refused refusal)) new = after_edits old.model edits ≡ Err refusal

@@ -41,28 +41,28 @@ edits_of name u = edits_by name u.row u.set.matrix u.set.cone
 abbrev pub edits_for : ModelValue → List Use → List Edit
 edits_for model uses = flat_map (edits_of (naming model)) uses
 
-abbrev pub Fits : Use → Type 0
-Fits u = FitsMap u.set.matrix u.row
+abbrev pub UseFits : Use → Type 0
+UseFits u = FitsMap u.set.matrix u.row
 
 -- the uses before the first whose M f exceeds 128 bits, which is one of this row
-pub record IsFirstUnfit (uses fitting : List Use) (name : List ℕ) : Type 0 where
+pub record IsFirstUnfitUse (uses fitting : List Use) (name : List ℕ) : Type 0 where
   pub this : Use
   pub rest : List Use
   pub parts : uses ≡ fitting ++ this ∷ rest
-  pub unfit : ¬ (Fits this)
+  pub unfit : ¬ (UseFits this)
   pub row : name ≡ this.row.name
 
 -- the uses before it, or all
 abbrev pub AreBefore : List Use → List Use → Option (List ℕ) → Type 0
 AreBefore uses fitting None = fitting ≡ uses
-AreBefore uses fitting (Some name) = IsFirstUnfit uses fitting name
+AreBefore uses fitting (Some name) = IsFirstUnfitUse uses fitting name
 
 -- the edits of the uses whose M f fits, up to the first whose doesn't
 pub record AreEditsFor (model : ModelValue) (uses : List Use) (edits : List Edit)
     (exceeds : Option (List ℕ)) : Type 0 where
   pub fitting : List Use
   pub before : AreBefore uses fitting exceeds
-  pub fit : All Fits fitting
+  pub fit : All UseFits fitting
   pub same : edits ≡ edits_for model fitting
 
 -- ---- what comes of it

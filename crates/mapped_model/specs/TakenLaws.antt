@@ -7,7 +7,8 @@ use Rattle.std.proofs.lemmas.List.Elements.{All-head, All-tail}
 use Rattle.map_laws.specs.EachLaws.{all_first}
 use Rattle.certificates.specs.declared.certificate.Certificate.{Certificate}
 use Rattle.certificates.specs.declared.certificate.Certificate.TheVariants.{Infeasible, Optimal, Unbounded}
-use Rattle.certificates.specs.Duals.{AreDuals, HasDuals, groups_with, row_with, rows_with}
+use Rattle.certificates.specs.Duals.{AreDuals, groups_with, row_with, rows_with}
+use Rattle.dual_laws.specs.Held.{HasDuals}
 use Rattle.certificates.specs.Good.{Good}
 use Rattle.certificates.specs.Points.{at_point}
 use Rattle.map_file.specs.declared.file.MapFile.{MapFile}
@@ -17,7 +18,7 @@ use Rattle.mapped_certificates.specs.GoodSeen.{GoodMapped, GoodSeen, Use, is_use
 use Rattle.mapped_certificates.specs.SeenRow.{SeenRow}
 use Rattle.mapped_certificates.specs.ShowsSeen.{ShowsMapped, ShowsSeen}
 use Rattle.mapped_certificates.specs.ShowsSeenLaws.{good_shows_seen}
-use Rattle.mapped_certificates.specs.TakenBack.{StandFor, all_taken, taken_back}
+use Rattle.mapped_certificates.specs.TakenBack.{StandForSeen, all_taken, taken_back}
 use Rattle.mapped_certificates.specs.TakenBackLaws.{good_seen}
 use Rattle.mapped_model.specs.Stands.{StandsFor}
 use Rattle.mapped_model.specs.Tells.{AreDualsFor, HasDualsFor, matrix_in, taken_each, taken_from, taken_in}
@@ -33,7 +34,7 @@ by_themselves rows = map (λ r. record { row = r; seen = None }) rows
 abbrev as_used : List Use → List SeenRow
 as_used uses = map (λ u. record { row = u.row; seen = Some u.set }) uses
 
-stand_length : (owns : List Row) (rows : List SeenRow) → StandFor owns rows
+stand_length : (owns : List Row) (rows : List SeenRow) → StandForSeen owns rows
     → length owns ≡ length rows
 stand_length [] [] h = refl
 stand_length [] (r ∷ rows) h = absurd h
@@ -63,7 +64,7 @@ module _ (model : ModelValue) (maps : List MapText) where
       ap (λ zs. y ∷ zs) (taken_behind rows uses ys (omega (arith, e)))
 
   sizes_used : (uses : List UseText) (owns : List Row) (ys : List (List Rational))
-      → StandFor owns (as_used (uses_of uses)) → length ys ≡ length owns
+      → StandForSeen owns (as_used (uses_of uses)) → length ys ≡ length owns
       → All HasDuals (rows_with ys owns)
       → map (λ y. length y) ys ≡ map (λ u. length (matrix_in maps u)) uses
   sizes_used [] [] [] h e all = refl
@@ -79,7 +80,7 @@ module _ (model : ModelValue) (maps : List MapText) where
       (All-tail HasDuals (row_with y own) (rows_with ys owns) all))
 
   sizes_behind : (rows : List Row) (uses : List UseText) (owns : List Row)
-      (ys : List (List Rational)) → StandFor owns (by_themselves rows ++ as_used (uses_of uses))
+      (ys : List (List Rational)) → StandForSeen owns (by_themselves rows ++ as_used (uses_of uses))
       → length ys ≡ length owns → All HasDuals (rows_with ys owns)
       → map (λ y. length y) (drop (length rows) ys)
       ≡ map (λ u. length (matrix_in maps u)) uses

@@ -42,7 +42,7 @@ TellsMaps maps (Err fault.Memory) = Unit {0}
 TellsMaps maps (Err other) = ⊥
 
 -- no line is wrong, and no map is bad
-pub record AreRight (model : ModelValue) (file : MapFile) : Type 0 where
+pub record AreMapsRight (model : ModelValue) (file : MapFile) : Type 0 where
   pub lines : wrong_line model file ≡ None
   pub maps : All IsMap file.maps
 

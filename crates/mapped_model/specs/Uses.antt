@@ -11,7 +11,7 @@ use Rattle.map_file.specs.declared.use_text.UseText.{UseText}
 use Rattle.mapped_certificates.specs.GoodSeen.{Use}
 use Rattle.set_core.specs.declared.set.Set.{Set}
 use Rattle.set_core.specs.declared.set.Set.TheVariants.{Reals}
-use Rattle.set_map.specs.Fitting.{ProductsFit}
+use Rattle.set_map.specs.Fitting.{BothProductsFit}
 use Rattle.set_map.specs.MappedSet.{seen_through}
 use Rattle.set_map.specs.Matrices.{AreInverse, Matrix}
 use Rattle.user_model.specs.declared.function.UserFunc.{UserFunc}
@@ -36,7 +36,7 @@ inverse_of m = drop m.size m.lines
 -- its matrices are inverse to each other, and their products fit
 pub record IsMap (m : MapText) : Type 0 where
   pub inverse : AreInverse (matrix_of m) (inverse_of m)
-  pub fits : ProductsFit (matrix_of m) (inverse_of m)
+  pub fits : BothProductsFit (matrix_of m) (inverse_of m)
 
 -- the first map whose matrices aren't inverse to each other, or whose products exceed 128 bits
 pub record IsFirstBad (maps : List MapText) (bad : MapText) : Type 0 where

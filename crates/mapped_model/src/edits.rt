@@ -4,7 +4,7 @@ ghost use Rattle.certificates.specs.Points.{functions_of};
 ghost use Rattle.map_file.specs.Shaped.{IsShaped};
 ghost use Rattle.mapped_model.specs.Edits.{IsMappedFunction, Pushes};
 ghost use Rattle.mapped_model.specs.Mapping.{AreEditsFor, edits_by};
-ghost use Rattle.mapped_model.specs.Tells.{AreRight};
+ghost use Rattle.mapped_model.specs.Tells.{AreMapsRight};
 ghost use Rattle.mapped_model.specs.Uses.{matrix_of, uses_in};
 ghost use Rattle.mof_laws.specs.ReadBack.{named_function};
 ghost use Rattle.mof_round_trip_laws.specs.Functions.{IsPlaced};
@@ -18,7 +18,7 @@ use map_file::MapFile;
 use model_store::UserModel;
 use name_index::Name;
 use ratio_core::NumberFault;
-use row_again_laws::named_function;
+use row_again::named_function;
 use set_core::Set;
 use set_map::SetMap;
 use std::alloc::Global;
@@ -41,7 +41,7 @@ pub(crate) fn row_edits(
     rows: &[&Row],
 ) -> Result<RowEdits, Memory>
     requires shaped { IsShaped file.now }
-    requires right { AreRight model.now.model file.now }
+    requires right { AreMapsRight model.now.model file.now }
     requires maps { maps.now ≡ map matrix_of file.now.maps }
     requires rows { map (λ r. r.now) rows.now ≡ map (λ u. u.row) (uses_in model.now.model file.now) }
     ensures { IfOk result (λ made. AreEditsFor model.now.model (uses_in model.now.model file.now)

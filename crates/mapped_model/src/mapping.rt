@@ -3,10 +3,10 @@ ghost use Rattle.std.specs.Prelude.{◌≡◌, IfOk, None, OnErr, map};
 ghost use Rattle.std.specs.List.{list_any};
 ghost use Rattle.map_file.specs.Shaped.{IsShaped};
 ghost use Rattle.mapped_model.specs.Answers.{MapsRows};
-ghost use Rattle.mapped_model.specs.Edits.{IsPlan, MakesEdits, Plans, TellsUnmade};
+ghost use Rattle.mapped_model.specs.Edits.{IsMappingPlan, MakesEdits, PlansMapping, TellsUnmade};
 ghost use Rattle.mapped_model.specs.Mapping.{is_lone};
 ghost use Rattle.mapped_model.specs.Stands.{StandsFor};
-ghost use Rattle.mapped_model.specs.Tells.{AreRight};
+ghost use Rattle.mapped_model.specs.Tells.{AreMapsRight};
 ghost use Rattle.mapped_model.specs.Uses.{matrix_of, uses_in, wrong_line};
 
 use crate::edits::{RowEdits, row_edits};
@@ -47,7 +47,7 @@ pub fn map_rows(
 // Does to a model what was planned, or nothing.
 fn made(model: &mut UserModel, plan: MappingPlan, file: MapFile) -> Result<MappedRows, MappingFault>
     requires shaped { IsShaped file }
-    requires planned { IsPlan model.old.model file plan }
+    requires planned { IsMappingPlan model.old.model file plan }
     ensures maps { MapsRows model.old file result model.new }
     ensures stands { IfOk result (λ _. StandsFor model.old.model (uses_in model.old.model file)
         model.new.model) }
@@ -90,7 +90,7 @@ struct MappingPlan {
 // What is to be done to a model, or why nothing is.
 fn planned(alloc: Global, model: &UserModel, file: &MapFile) -> Result<MappingPlan, MappingFault>
     requires { IsShaped file.now }
-    ensures { Plans model.now.model file.now result }
+    ensures { PlansMapping model.now.model file.now result }
 {
     match used_rows(alloc, model, file) {
         Ok(rows) => planned_with(alloc, model, file, &rows),
@@ -108,7 +108,7 @@ fn planned_with(
     requires shaped { IsShaped file.now }
     requires right { wrong_line model.now.model file.now ≡ None }
     requires rows { map (λ r. r.now) rows.now ≡ map (λ u. u.row) (uses_in model.now.model file.now) }
-    ensures { Plans model.now.model file.now result }
+    ensures { PlansMapping model.now.model file.now result }
 {
     match set_maps(alloc, file) {
         Ok(maps) => planned_by(alloc, model, file, rows, maps),
@@ -125,10 +125,10 @@ fn planned_by(
     maps: Vec<SetMap>,
 ) -> Result<MappingPlan, MappingFault>
     requires shaped { IsShaped file.now }
-    requires right { AreRight model.now.model file.now }
+    requires right { AreMapsRight model.now.model file.now }
     requires rows { map (λ r. r.now) rows.now ≡ map (λ u. u.row) (uses_in model.now.model file.now) }
     requires maps { maps.items ≡ map matrix_of file.now.maps }
-    ensures { Plans model.now.model file.now result }
+    ensures { PlansMapping model.now.model file.now result }
 {
     if has_lone(file) {
         return Err(MappingFault::Refused(Refusal::BadDimension));

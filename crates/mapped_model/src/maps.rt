@@ -1,7 +1,7 @@
 //! The maps of a file.
 ghost use Rattle.std.specs.Prelude.{◌≡◌, ◌++◌, ◌∷◌, [], OnOk};
 ghost use Rattle.std.specs.Result.{result_map_both};
-ghost use Rattle.map_file.specs.Shaped.{IsShaped, IsWhole};
+ghost use Rattle.map_file.specs.Shaped.{IsMapWhole, IsShaped};
 ghost use Rattle.mapped_model.specs.Tells.{TellsBad, TellsMap, TellsMaps};
 
 use crate::fault::MappingFault;
@@ -27,7 +27,7 @@ pub(crate) fn set_maps(alloc: Global, file: &MapFile) -> Result<Vec<SetMap>, Map
 }
 
 fn map_of(alloc: Global, text: &MapText) -> Result<SetMap, MappingFault>
-    requires { IsWhole text.now }
+    requires { IsMapWhole text.now }
     ensures { TellsMap text.now result }
 {
     match SetMap::read(alloc, text.matrix(), text.inverse()) {

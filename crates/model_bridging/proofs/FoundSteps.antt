@@ -4,7 +4,7 @@ use Rattle.std.proofs.Common.{ap, sym, subst, ◌∙◌}
 use Rattle.std.specs.Option.{option_map_or}
 use Rattle.bridge_graph.specs.declared.Choice.{Choice}
 use Rattle.aff_core.specs.Address.{Address}
-use Rattle.bridge_plan.specs.Adds.{Adds}
+use Rattle.bridge_plan.specs.AddsHeld.{AddsHeld}
 use Rattle.bridge_plan.specs.KeptGroups.{keeps}
 use Rattle.bridge_plan.specs.declared.plan.Plan.{Plan}
 use Rattle.fresh_bridging.specs.Entries.{Entry}
@@ -14,7 +14,7 @@ use Rattle.item_core.specs.declared.kind.Kind.{Kind}
 use Rattle.model_bridging.specs.Found.{found_others, kept_over}
 use Rattle.model_bridging.specs.Kinds.{first_missing, kind_by, told}
 use Rattle.model_bridging.specs.ModelHeld.{unfit_put}
-use Rattle.model_bridging.specs.Outcome.{KindsOutcome, Outcome}
+use Rattle.model_bridging.specs.PlanOutcome.{KindsOutcome, PlanOutcome}
 use Rattle.model_bridging.specs.Whole.{others_held}
 use Rattle.model_bridging.specs.declared.fault.PushFault.{PushFault}
 use Rattle.model_bridging.proofs.KindSteps.{answered_next, further_kinds, handed_first, row_kinds}
@@ -80,10 +80,10 @@ module _ (choice : ℕ → Choice) (kept : Address → Bool) (rows : List Row) (
 -- what is answered by one objective is by an equal one
 pub as_copied : {T : Type 0} (r : Result T PushFault) (choice : ℕ → Choice) (inner : List Entry)
     (plan after : Plan) (rows : List Row) (o p : Option Objective) → p ≡ o
-    → Outcome r (unfit_put choice kind_count inner (found_others rows o))
-    (λ _. Adds plan after [] [] (others_held choice inner (found_others rows o)))
-    → Outcome r (unfit_put choice kind_count inner (found_others rows p))
-    (λ _. Adds plan after [] [] (others_held choice inner (found_others rows p)))
+    → PlanOutcome r (unfit_put choice kind_count inner (found_others rows o))
+    (λ _. AddsHeld plan after [] [] (others_held choice inner (found_others rows o)))
+    → PlanOutcome r (unfit_put choice kind_count inner (found_others rows p))
+    (λ _. AddsHeld plan after [] [] (others_held choice inner (found_others rows p)))
 as_copied r choice inner plan after rows o p e h =
-    subst (λ q. Outcome r (unfit_put choice kind_count inner (found_others rows q))
-    (λ _. Adds plan after [] [] (others_held choice inner (found_others rows q)))) (sym e) h
+    subst (λ q. PlanOutcome r (unfit_put choice kind_count inner (found_others rows q))
+    (λ _. AddsHeld plan after [] [] (others_held choice inner (found_others rows q)))) (sym e) h

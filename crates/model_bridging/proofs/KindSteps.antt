@@ -11,7 +11,7 @@ use Rattle.user_model.specs.declared.group.Group.{Group}
 use Rattle.user_model.specs.declared.row.Row.{Row}
 use Rattle.fresh_bridging.specs.ModelImage.{group_item, row_item}
 use Rattle.model_bridging.specs.Kinds.{first_missing, kind_by, kinds_as_they_stand}
-use Rattle.model_bridging.specs.Outcome.{KindsOutcome}
+use Rattle.model_bridging.specs.PlanOutcome.{KindsOutcome}
 use Rattle.model_bridging.specs.Treeless.{missing_first, missing_past}
 use Rattle.model_bridging.specs.declared.fault.PushFault.{PushFault}
 use Rattle.model_bridging.specs.declared.fault.PushFault.TheVariants.{Memory, Overflow, Unsupported}

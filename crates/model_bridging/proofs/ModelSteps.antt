@@ -11,10 +11,10 @@ use Rattle.fresh_bridging.specs.ModelImage.{group_item, objective_items, row_ite
 use Rattle.bridge_plan.specs.Means.{AreSound, Means}
 use Rattle.model_bridging.specs.Assembly.{answered, ready_by_kinds}
 use Rattle.model_bridging.specs.Kinds.{first_missing, kinds_told}
-use Rattle.model_bridging.specs.Outcome.{KindsOutcome, Outcome}
+use Rattle.model_bridging.specs.PlanOutcome.{KindsOutcome, PlanOutcome}
 use Rattle.model_bridging.specs.Planned.{Planned}
 use Rattle.model_bridging.specs.Treeless.{unsupported}
-use Rattle.model_bridging.specs.Whole.{IsWithinLevels, IsWhole, unfit_item}
+use Rattle.model_bridging.specs.Whole.{IsWithinLevels, IsWholePlan, unfit_item}
 use Rattle.model_bridging.specs.declared.fault.PushFault.{PushFault}
 use Rattle.model_bridging.specs.declared.fault.PushFault.TheVariants.{Memory, Overflow, Unsupported}
 use Rattle.model_bridging.specs.declared.model_plan.ModelPlan.{ModelPlan}
@@ -34,8 +34,8 @@ module _ (means : Means) (sound : AreSound means) (model : ModelValue) (valid : 
 
     abbrev Ending : Result ModelPlan PushFault → List Group → List Row → Objective → Type 0
     Ending r groups rows objective =
-        Outcome r (unfit_item means.choice (map group_item groups)
-        (map row_item rows ++ objective_items objective)) (IsWhole means.choice groups
+        PlanOutcome r (unfit_item means.choice (map group_item groups)
+        (map row_item rows ++ objective_items objective)) (IsWholePlan means.choice groups
         (map row_item rows ++ objective_items objective))
 
     by_fault : (T : Type 0) (f : PushFault)

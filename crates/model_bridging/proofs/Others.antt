@@ -28,15 +28,15 @@ use Rattle.fresh_bridging.specs.Entries.{Entry, expression_in, is_kept, put_in, 
 use Rattle.fresh_bridging.specs.ModelImage.{group_item, objective_item, objective_items}
 use Rattle.fresh_bridging.specs.TableLaws.{and_first}
 use Rattle.fresh_bridging.specs.TheRules.{rules_by}
-use Rattle.bridge_plan.specs.Adds.{Adds, kept_of}
+use Rattle.bridge_plan.specs.AddsHeld.{AddsHeld, kept_of}
 use Rattle.bridge_plan.specs.Alike.{put_alike, put_fits_alike, worked_in_alike}
 use Rattle.bridge_plan.specs.Means.{Means}
 use Rattle.bridge_plan.specs.SoFar.{adds_both, joined_assoc}
-use Rattle.bridge_plan.specs.Worked.{IsWithin, worked, worked_in}
+use Rattle.bridge_plan.specs.Worked.{IsItemWithinLevels, worked, worked_in}
 use Rattle.bridge_plan.specs.declared.plan.Plan.{Plan}
 use Rattle.model_bridging.specs.ModelHeld.{child_fits, item_fits, unfit, unfit_put}
-use Rattle.model_bridging.specs.Outcome.{IsFirstAt, Outcome, refused_at}
-use Rattle.model_bridging.specs.Whole.{IsWithinLevels, IsWhole, groups_held, kept_among, others_held, unfit_item, with_function}
+use Rattle.model_bridging.specs.PlanOutcome.{IsFirstAt, PlanOutcome, refused_at}
+use Rattle.model_bridging.specs.Whole.{IsWithinLevels, IsWholePlan, groups_held, kept_among, others_held, unfit_item, with_function}
 use Rattle.model_bridging.specs.declared.fault.PushFault.{PushFault}
 use Rattle.model_bridging.specs.declared.fault.PushFault.TheVariants.{Memory, Overflow, Unsupported}
 use Rattle.model_bridging.specs.declared.model_plan.ModelPlan.{ModelPlan}
@@ -46,22 +46,22 @@ use Rattle.model_bridging.proofs.InOrder.{child_answered, from_start, one_answer
 
 -- a refusal among the first is one among all
 refused_among : (T U : Type 0) (Q : T → Type 0) (S : U → Type 0) (f : PushFault)
-    (a b : Option Item) → Outcome {T = U} (Err f) a S → Outcome {T = T} (Err f) (option_or a b) Q
+    (a b : Option Item) → PlanOutcome {T = U} (Err f) a S → PlanOutcome {T = T} (Err f) (option_or a b) Q
 refused_among T U Q S (Unsupported kind) a b h = absurd h
 refused_among T U Q S (Overflow at) None b h = cc
 refused_among T U Q S (Overflow at) (Some item) b h = h
 refused_among T U Q S Memory a b h = tt
 
 pub handed_first : (T U : Type 0) (Q : T → Type 0) (S : U → Type 0) (r : Result T PushFault)
-    (f : PushFault) (a b : Option Item) → IsErrAnd r (λ x. x ≡ f) → Outcome {T = U} (Err f) a S
-    → Outcome r (option_or a b) Q
+    (f : PushFault) (a b : Option Item) → IsErrAnd r (λ x. x ≡ f) → PlanOutcome {T = U} (Err f) a S
+    → PlanOutcome r (option_or a b) Q
 handed_first T U Q S (Ok x) f a b is h = absurd is
 handed_first T U Q S (Err x) f a b is h =
-    subst (λ y. Outcome {T = T} (Err y) (option_or a b) Q) (sym is) (refused_among T U Q S f a b h)
+    subst (λ y. PlanOutcome {T = T} (Err y) (option_or a b) Q) (sym is) (refused_among T U Q S f a b h)
 
 refused_past : (T U : Type 0) (Q : T → Type 0) (S : U → Type 0) (f : PushFault)
-    (a b c : Option Item) → a ≡ None → c ≡ b → Outcome {T = U} (Err f) c S
-    → Outcome {T = T} (Err f) (option_or a b) Q
+    (a b c : Option Item) → a ≡ None → c ≡ b → PlanOutcome {T = U} (Err f) c S
+    → PlanOutcome {T = T} (Err f) (option_or a b) Q
 refused_past T U Q S (Unsupported kind) a b c none same h = absurd h
 refused_past T U Q S (Overflow at) a b c none same h =
     ap (λ o. option_map (λ item. item.at) (option_or o b)) none
@@ -70,10 +70,10 @@ refused_past T U Q S Memory a b c none same h = tt
 
 pub handed_next : (T U : Type 0) (Q : T → Type 0) (S : U → Type 0) (r : Result T PushFault)
     (f : PushFault) (a b c : Option Item) → IsErrAnd r (λ x. x ≡ f) → a ≡ None → c ≡ b
-    → Outcome {T = U} (Err f) c S → Outcome r (option_or a b) Q
+    → PlanOutcome {T = U} (Err f) c S → PlanOutcome r (option_or a b) Q
 handed_next T U Q S (Ok x) f a b c is none same h = absurd is
 handed_next T U Q S (Err x) f a b c is none same h =
-    subst (λ y. Outcome {T = T} (Err y) (option_or a b) Q) (sym is)
+    subst (λ y. PlanOutcome {T = T} (Err y) (option_or a b) Q) (sym is)
     (refused_past T U Q S f a b c none same h)
 
 pub none_of_both : (a b c : Option Item) → a ≡ None → c ≡ b → c ≡ None → option_or a b ≡ None
@@ -100,18 +100,18 @@ module _ (choice : ℕ → Choice) (inner : List Entry) where
 
   pub rows_refused : (T U : Type 0) (Q : T → Type 0) (S : U → Type 0) (r : Result T PushFault)
       (f : PushFault) (xs ys : List Item) → IsErrAnd r (λ x. x ≡ f)
-      → Outcome {T = U} (Err f) (unfit_put choice kind_count inner xs) S
-      → Outcome r (unfit_put choice kind_count inner (xs ++ ys)) Q
+      → PlanOutcome {T = U} (Err f) (unfit_put choice kind_count inner xs) S
+      → PlanOutcome r (unfit_put choice kind_count inner (xs ++ ys)) Q
   rows_refused T U Q S r f xs ys is h =
-      subst (λ u. Outcome r u Q) (sym (unfit_append xs ys))
+      subst (λ u. PlanOutcome r u Q) (sym (unfit_append xs ys))
       (handed_first T U Q S r f (unfit_put choice kind_count inner xs) (unfit_put choice kind_count inner ys) is h)
 
   pub both_added : (xs ys : List Item) (plan mid after : Plan)
-      → Adds plan mid [] [] (others_held choice inner xs)
-      → Adds mid after [] [] (others_held choice inner ys)
-      → Adds plan after [] [] (others_held choice inner (xs ++ ys))
+      → AddsHeld plan mid [] [] (others_held choice inner xs)
+      → AddsHeld mid after [] [] (others_held choice inner ys)
+      → AddsHeld plan after [] [] (others_held choice inner (xs ++ ys))
   both_added xs ys plan mid after h k =
-      subst (Adds plan after [] []) (sym (held_append xs ys))
+      subst (AddsHeld plan after [] []) (sym (held_append xs ys))
       (adds_both plan mid after [] [] [] (others_held choice inner xs)
       (others_held choice inner ys) h k)
 
@@ -146,10 +146,10 @@ module _ (choice : ℕ → Choice) (es fs : List Entry) (same : expression_in es
     held_alike items = worked_in_alike es fs same choice (worked choice kind_count) items
 
     pub within_alike : (items : List Item)
-        → All (λ item. IsWithin choice kind_count (put_in fs item)) items
-        → All (λ item. IsWithin choice kind_count (put_in es item)) items
+        → All (λ item. IsItemWithinLevels choice kind_count (put_in fs item)) items
+        → All (λ item. IsItemWithinLevels choice kind_count (put_in es item)) items
     within_alike items h =
-        subst (λ p. All (λ item. IsWithin choice kind_count (p item)) items) (sym (put_alike es fs same)) h
+        subst (λ p. All (λ item. IsItemWithinLevels choice kind_count (p item)) items) (sym (put_alike es fs same)) h
 
 -- ---- the rows, and then the objective
 
@@ -176,28 +176,28 @@ module _ (first : Means) (inner : List Entry) (rows : List Item) (o : Objective)
     (plan mid : Plan) (means : Means) (standing : List Entry) (same : means ≡ first)
     (stays : standing ≡ inner)
     (said : (unfit_put first.choice kind_count inner rows ≡ None)
-    × Adds plan mid [] [] (others_held first.choice inner rows)) where
+    × AddsHeld plan mid [] [] (others_held first.choice inner rows)) where
   pub objective_within :
-      All (λ item. IsWithin first.choice kind_count (put_in inner item)) (rows ++ objective_items o)
-      → All (λ item. IsWithin means.choice kind_count (put_in standing item)) (objective_items o)
+      All (λ item. IsItemWithinLevels first.choice kind_count (put_in inner item)) (rows ++ objective_items o)
+      → All (λ item. IsItemWithinLevels means.choice kind_count (put_in standing item)) (objective_items o)
   objective_within all =
-      subst (λ (m : Means). All (λ item. IsWithin m.choice kind_count (put_in standing item))
+      subst (λ (m : Means). All (λ item. IsItemWithinLevels m.choice kind_count (put_in standing item))
       (objective_items o)) (sym same)
-      (subst (λ es. All (λ item. IsWithin first.choice kind_count (put_in es item)) (objective_items o))
+      (subst (λ es. All (λ item. IsItemWithinLevels first.choice kind_count (put_in es item)) (objective_items o))
       (sym stays)
-      (all_second (λ item. IsWithin first.choice kind_count (put_in inner item)) rows (objective_items o)
+      (all_second (λ item. IsItemWithinLevels first.choice kind_count (put_in inner item)) rows (objective_items o)
       all))
 
   pub others_done : (after : Plan)
       → IsTrue (others_held means.choice standing (objective_items o)).fits
-      × Adds mid after [] [] (others_held means.choice standing (objective_items o))
+      × AddsHeld mid after [] [] (others_held means.choice standing (objective_items o))
       → (unfit_put first.choice kind_count inner (rows ++ objective_items o) ≡ None)
-      × Adds plan after [] [] (others_held first.choice inner (rows ++ objective_items o))
+      × AddsHeld plan after [] [] (others_held first.choice inner (rows ++ objective_items o))
   others_done after last =
       let here : IsTrue (others_held first.choice inner (objective_items o)).fits
-      × Adds mid after [] [] (others_held first.choice inner (objective_items o)) =
+      × AddsHeld mid after [] [] (others_held first.choice inner (objective_items o)) =
       from_start same stays (λ choice es. IsTrue (others_held choice es (objective_items o)).fits
-      × Adds mid after [] [] (others_held choice es (objective_items o))) last in (
+      × AddsHeld mid after [] [] (others_held choice es (objective_items o))) last in (
         unfit_append first.choice inner rows (objective_items o)
             ∙ none_of_both (unfit_put first.choice kind_count inner rows)
             (unfit_put first.choice kind_count inner (objective_items o))
@@ -210,7 +210,7 @@ module _ (first : Means) (inner : List Entry) (rows : List Item) (o : Objective)
       (at : Address) → at ≡ root_address root.Objective 0
       → ExactWhere {T = T} (Err f)
       (IsTrue (others_held means.choice standing (objective_items o)).fits) Q
-      → Outcome {T = U} (Err (refused_at f at))
+      → PlanOutcome {T = U} (Err (refused_at f at))
       (unfit_put first.choice kind_count inner (rows ++ objective_items o)) S
   objective_told T U Q S fault.Overflow at is misses =
       ap (option_map (λ (i : Item). i.at)) (unfit_append first.choice inner rows (objective_items o)
@@ -226,9 +226,9 @@ module _ (first : Means) (inner : List Entry) (rows : List Item) (o : Objective)
       → at ≡ root_address root.Objective 0
       → ExactWhere {T = T} (Err f)
       (IsTrue (others_held means.choice standing (objective_items o)).fits) Q
-      → Outcome {T = U} (Err told) (unfit_put first.choice kind_count inner (rows ++ objective_items o)) S
+      → PlanOutcome {T = U} (Err told) (unfit_put first.choice kind_count inner (rows ++ objective_items o)) S
   objective_refused T U Q S f at told told_is at_is misses =
-      subst (λ e. Outcome {T = U} (Err e) (unfit_put first.choice kind_count inner
+      subst (λ e. PlanOutcome {T = U} (Err e) (unfit_put first.choice kind_count inner
       (rows ++ objective_items o)) S) (sym told_is) (objective_told T U Q S f at at_is misses)
 
 -- ---- the objective alone
@@ -236,11 +236,11 @@ module _ (first : Means) (inner : List Entry) (rows : List Item) (o : Objective)
 module _ (choice : ℕ → Choice) (inner : List Entry) (o : Objective) (plan : Plan) where
   pub objective_none : objective_items o ≡ []
       → IsTrue (others_held choice inner (objective_items o)).fits
-      × Adds plan plan [] [] (others_held choice inner (objective_items o))
+      × AddsHeld plan plan [] [] (others_held choice inner (objective_items o))
   unfolding worked_in
   objective_none none =
       subst (λ items. IsTrue (others_held choice inner items).fits
-      × Adds plan plan [] [] (others_held choice inner items)) (sym none) (
+      × AddsHeld plan plan [] [] (others_held choice inner items)) (sym none) (
         refl,
         record {
           leaves = sym (append-nil plan.leaves.items);
@@ -251,11 +251,11 @@ module _ (choice : ℕ → Choice) (inner : List Entry) (o : Objective) (plan : 
 
   module _ (item : Item) (one : objective_items o ≡ item ∷ []) where
     pub objective_ready : (made : Item) → made ≡ put_in inner item
-        → All (λ i. IsWithin choice kind_count (put_in inner i)) (objective_items o)
-        → IsWithin choice kind_count made
+        → All (λ i. IsItemWithinLevels choice kind_count (put_in inner i)) (objective_items o)
+        → IsItemWithinLevels choice kind_count made
     objective_ready made is all =
-        let Within : Item → Type 0 = λ i. IsWithin choice kind_count (put_in inner i) in
-        subst (IsWithin choice kind_count) (sym is) (All-head Within item [] (subst (All Within) one all))
+        let Within : Item → Type 0 = λ i. IsItemWithinLevels choice kind_count (put_in inner i) in
+        subst (IsItemWithinLevels choice kind_count) (sym is) (All-head Within item [] (subst (All Within) one all))
 
     pub objective_needs : IsTrue (others_held choice inner (objective_items o)).fits
         → IsTrue (put_in_fits inner item)
@@ -269,12 +269,12 @@ module _ (choice : ℕ → Choice) (inner : List Entry) (o : Objective) (plan : 
     pub objective_answered : (after : Plan) {T : Type 0} (r : Result T NumberFault) (made : Item)
         → IsTrue (put_in_fits inner item) → made ≡ put_in inner item
         → ExactWhere r (IsTrue (worked choice kind_count made).fits)
-        (λ _. Adds plan after [] [] (record (worked choice kind_count made) { entries = [] }))
+        (λ _. AddsHeld plan after [] [] (record (worked choice kind_count made) { entries = [] }))
         → ExactWhere r (IsTrue (others_held choice inner (objective_items o)).fits)
-        (λ _. Adds plan after [] [] (others_held choice inner (objective_items o)))
+        (λ _. AddsHeld plan after [] [] (others_held choice inner (objective_items o)))
     objective_answered after r made fit is said =
         subst (λ items. ExactWhere r (IsTrue (others_held choice inner items).fits)
-        (λ _. Adds plan after [] [] (others_held choice inner items))) (sym one)
+        (λ _. AddsHeld plan after [] [] (others_held choice inner items))) (sym one)
         (one_answered choice inner item plan after r
         (child_answered choice inner item plan after r made fit is said))
 
@@ -283,7 +283,7 @@ module _ (choice : ℕ → Choice) (inner : List Entry) (o : Objective) (plan : 
 module _ (first : Means) (groups : List Group) (others : List Item) (start one : Plan)
     (entries standing : List Entry) (means : Means) (same : means ≡ first)
     (said : (unfit first.choice kind_count (map group_item groups) ≡ None)
-    × Adds start one [] entries (groups_held first.choice (map group_item groups)))
+    × AddsHeld start one [] entries (groups_held first.choice (map group_item groups)))
     (stands : expression_in standing ≡ expression_in entries) where
   abbrev held_here : Held Item Entry
   held_here = groups_held first.choice (map group_item groups)
@@ -299,9 +299,9 @@ module _ (first : Means) (groups : List Group) (others : List Item) (start one :
   kept_where e vars = filter (λ v. is_kept (e v)) (map (λ v. variable_address v.number) vars)
 
   pub others_ready : IsWithinLevels first.choice (map group_item groups) others
-      → All (λ item. IsWithin means.choice kind_count (put_in standing item)) others
+      → All (λ item. IsItemWithinLevels means.choice kind_count (put_in standing item)) others
   others_ready ready =
-      subst (λ (m : Means). All (λ item. IsWithin m.choice kind_count (put_in standing item)) others)
+      subst (λ (m : Means). All (λ item. IsItemWithinLevels m.choice kind_count (put_in standing item)) others)
       (sym same)
       (within_alike first.choice standing held_here.entries alike others ready.others)
 
@@ -319,8 +319,8 @@ module _ (first : Means) (groups : List Group) (others : List Item) (start one :
 
   pub whole_refused : (T U : Type 0) (Q : T → Type 0) (S : U → Type 0) (r : Result T PushFault)
       (f : PushFault) → IsErrAnd r (λ x. x ≡ f)
-      → Outcome {T = U} (Err f) (unfit_put means.choice kind_count standing others) S
-      → Outcome r (unfit_item first.choice (map group_item groups) others) Q
+      → PlanOutcome {T = U} (Err f) (unfit_put means.choice kind_count standing others) S
+      → PlanOutcome r (unfit_item first.choice (map group_item groups) others) Q
   whole_refused T U Q S r f is h =
       handed_next T U Q S r f (unfit first.choice kind_count (map group_item groups))
       (unfit_put first.choice kind_count held_here.entries others)
@@ -328,14 +328,14 @@ module _ (first : Means) (groups : List Group) (others : List Item) (start one :
 
   pub whole_done : (planned : ModelPlan) → start.leaves.items ≡ [] → start.nodes.items ≡ []
       → (unfit_put means.choice kind_count standing others ≡ None)
-      × Adds one planned.plan [] [] (others_held means.choice standing others)
+      × AddsHeld one planned.plan [] [] (others_held means.choice standing others)
       → planned.exprs.items ≡ map (with_function standing) (flat_map (λ g. g.vars) groups)
       → planned.kept.items ≡ kept_among standing (flat_map (λ g. g.vars) groups)
       → (unfit_item first.choice (map group_item groups) others ≡ None)
-      × IsWhole first.choice groups others planned
+      × IsWholePlan first.choice groups others planned
   whole_done planned no_leaves no_nodes last exprs kept =
-      let adds : Adds one planned.plan [] [] (others_held first.choice held_here.entries others) =
-      subst (Adds one planned.plan [] []) others_same last.1 in
+      let adds : AddsHeld one planned.plan [] [] (others_held first.choice held_here.entries others) =
+      subst (AddsHeld one planned.plan [] []) others_same last.1 in
       let further = others_held first.choice held_here.entries others in (
         none_of_both (unfit first.choice kind_count (map group_item groups))
             (unfit_put first.choice kind_count held_here.entries others)

@@ -20,17 +20,17 @@ use Rattle.fresh_bridging.specs.Entries.{Entry, expression_in, put_in}
 use Rattle.fresh_bridging.specs.FreshBridging.{FreshBridging}
 use Rattle.fresh_bridging.specs.ModelImage.{model_image}
 use Rattle.fresh_bridging.specs.TheRules.{AreChoices, Setting, rules_by}
-use Rattle.bridge_plan.specs.Adds.{kept_of}
+use Rattle.bridge_plan.specs.AddsHeld.{kept_of}
 use Rattle.bridge_plan.specs.Means.{AreSound, Means}
 use Rattle.bridge_plan.specs.Trees.{each_bridged, in_bridged, within_bridged}
-use Rattle.bridge_plan.specs.Worked.{IsWithin, worked, worked_each, worked_in}
+use Rattle.bridge_plan.specs.Worked.{IsItemWithinLevels, worked, worked_each, worked_in}
 use Rattle.model_bridging.specs.Kinds.{first_missing, kinds_told}
 use Rattle.model_bridging.specs.Levels.{groups_within, others_within}
 use Rattle.model_bridging.specs.ModelHeld.{child_fits, item_fits, unfit, unfit_each_is, unfit_in_is, unfit_put}
-use Rattle.model_bridging.specs.Outcome.{Outcome}
+use Rattle.model_bridging.specs.PlanOutcome.{PlanOutcome}
 use Rattle.model_bridging.specs.Planned.{IsPlanOf, Planned, variables_of_the_model}
 use Rattle.model_bridging.specs.Treeless.{groups_found, others_have_trees, trees_there}
-use Rattle.model_bridging.specs.Whole.{IsWithinLevels, IsWhole, groups_held, kept_among, others_held, unfit_item, with_function}
+use Rattle.model_bridging.specs.Whole.{IsWithinLevels, IsWholePlan, groups_held, kept_among, others_held, unfit_item, with_function}
 use Rattle.model_bridging.specs.declared.fault.PushFault.{PushFault}
 use Rattle.model_bridging.specs.declared.fault.PushFault.TheVariants.{Memory, Overflow, Unsupported}
 use Rattle.model_bridging.specs.declared.model_plan.ModelPlan.{ModelPlan}
@@ -82,12 +82,13 @@ module _ (choice : ℕ → Choice) (model : ModelValue) where
     pub unfit_other : unfit_in fresh.others ≡ unfit_put choice kind_count groups.entries further_here
 
   abbrev Within : List Entry → Type 0
-  Within inner = All (λ item. IsWithin choice kind_count (put_in inner item)) further_here
+  Within inner = All (λ item. IsItemWithinLevels choice kind_count (put_in inner item)) further_here
 
   made_of : (inner : List Entry) (trees : EachBridged (rules_by choice) items_here inner)
-      → All (IsWithin choice kind_count) items_here → Within inner → HasFresh (held_each trees)
+      → All (IsItemWithinLevels choice kind_count) items_here → Within inner
+      → HasFresh (held_each trees)
   made_of inner trees groups others =
-      let made = in_bridged choice (worked choice kind_count) (IsWithin choice kind_count)
+      let made = in_bridged choice (worked choice kind_count) (IsItemWithinLevels choice kind_count)
       (within_bridged choice kind_count) inner further_here others in
       record {
         fresh = record { entries = inner; groups = trees; others = made.trees };
@@ -100,7 +101,7 @@ module _ (choice : ℕ → Choice) (model : ModelValue) where
   pub has_fresh : IsWithinLevels choice items_here further_here
       → HasFresh (groups_held choice items_here)
   has_fresh ready =
-      let made = each_bridged choice (worked choice kind_count) (IsWithin choice kind_count)
+      let made = each_bridged choice (worked choice kind_count) (IsItemWithinLevels choice kind_count)
       (within_bridged choice kind_count) items_here ready.groups in
       subst (λ (h : Held Item Entry). Within h.entries → HasFresh h) made.hold
       (made_of made.entries made.trees ready.groups) ready.others
@@ -129,7 +130,7 @@ module _ (setting : Setting) (choice : ℕ → Choice) (chosen : AreChoices sett
 
   whole_plan : (planned : ModelPlan)
       → unfit_item choice (model_image model).groups (model_image model).others ≡ None
-      → IsWhole choice model.groups (model_image model).others planned
+      → IsWholePlan choice model.groups (model_image model).others planned
       → IsPlanOf setting model planned
   unfolding model_leaves model_nodes
   whole_plan planned none whole =
@@ -158,8 +159,8 @@ module _ (setting : Setting) (choice : ℕ → Choice) (chosen : AreChoices sett
       }
 
   pub answered : (r : Result ModelPlan PushFault)
-      → Outcome r (unfit_item choice (model_image model).groups (model_image model).others)
-      (IsWhole choice model.groups (model_image model).others)
+      → PlanOutcome r (unfit_item choice (model_image model).groups (model_image model).others)
+      (IsWholePlan choice model.groups (model_image model).others)
       → Planned setting model r
   answered (Ok planned) h = whole_plan planned h.0 h.1
   answered (Err (Unsupported kind)) h = absurd h
@@ -185,12 +186,12 @@ ready_by_kinds means sound model valid none =
     let trees = trees_there setting choice sound.chosen items first in
     let groups = groups_within setting sound.costly choice sound.chosen sound.lawful model valid
     trees in
-    let made = each_bridged choice (worked choice kind_count) (IsWithin choice kind_count)
+    let made = each_bridged choice (worked choice kind_count) (IsItemWithinLevels choice kind_count)
     (within_bridged choice kind_count) items groups in
     record {
       groups = groups;
       others = subst
-          (λ (h : Held Item Entry). All (λ item. IsWithin choice kind_count (put_in h.entries item))
+          (λ (h : Held Item Entry). All (λ item. IsItemWithinLevels choice kind_count (put_in h.entries item))
           (model_image model).others)
           made.hold
           (others_within setting sound.costly choice sound.chosen sound.lawful model valid

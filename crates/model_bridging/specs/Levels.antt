@@ -23,7 +23,7 @@ use Rattle.fresh_bridging.specs.OmitLaws.{IsGroup}
 use Rattle.fresh_bridging.specs.RankingLaws.{at_most_34, fewer_below, ranked_below}
 use Rattle.fresh_bridging.specs.TheRules.{AreChoices, Setting, edge_at, graph_of, rules_by}
 use Rattle.bridge_plan.specs.Trees.{ranked_within}
-use Rattle.bridge_plan.specs.Worked.{IsWithin}
+use Rattle.bridge_plan.specs.Worked.{IsItemWithinLevels}
 
 module _ (setting : Setting) (costly : IsCostly (graph_of setting)) (choice : ℕ → Choice)
     (chosen : AreChoices setting choice) (lawful : AreLawful setting) where
@@ -56,7 +56,7 @@ module _ (setting : Setting) (costly : IsCostly (graph_of setting)) (choice : �
             b.below,
       )
 
-  pub can_within : (item : Item) → CanHere item → IsWithin choice kind_count item
+  pub can_within : (item : Item) → CanHere item → IsItemWithinLevels choice kind_count item
   can_within item can =
       ranked_within choice CanHere rank_here level
       (ranked setting costly choice chosen lawful) suits lower kind_count item can
@@ -66,18 +66,18 @@ module _ (setting : Setting) (costly : IsCostly (graph_of setting)) (choice : �
 
   module _ (model : ModelValue) (valid : IsValid model) where
     pub groups_within : All (HasTree (graph_of setting)) (model_image model).groups
-        → All (IsWithin choice kind_count) (model_image model).groups
+        → All (IsItemWithinLevels choice kind_count) (model_image model).groups
     groups_within trees =
-        All-weaker (IsGroup setting costly choice chosen lawful) (IsWithin choice kind_count)
+        All-weaker (IsGroup setting costly choice chosen lawful) (IsItemWithinLevels choice kind_count)
         (λ g h. can_within g h.can) (model_image model).groups
         (groups_can_all setting costly choice chosen lawful model valid trees)
 
     pub others_within : (inner : List Entry)
         → EachBridged (rules_by choice) (model_image model).groups inner
         → All (λ item. HasTree (graph_of setting) (put_in inner item)) (model_image model).others
-        → All (λ item. IsWithin choice kind_count (put_in inner item)) (model_image model).others
+        → All (λ item. IsItemWithinLevels choice kind_count (put_in inner item)) (model_image model).others
     others_within inner groups trees =
         All-weaker (λ item. CanHere (put_in inner item))
-        (λ item. IsWithin choice kind_count (put_in inner item))
+        (λ item. IsItemWithinLevels choice kind_count (put_in inner item))
         (λ item can. can_within (put_in inner item) can) (model_image model).others
         (others_can_all setting costly choice chosen lawful model valid inner groups trees)

@@ -4,7 +4,7 @@ pub mod Found
 pub mod Kinds
 pub mod Levels
 pub mod ModelHeld
-pub mod Outcome
+pub mod PlanOutcome
 pub mod Planned
 pub mod Treeless
 pub mod Whole

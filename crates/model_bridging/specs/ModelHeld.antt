@@ -11,7 +11,7 @@ use Rattle.item_core.specs.declared.item.Item.{Item}
 use Rattle.fresh_bridging.specs.Entries.{Entry, put_in, put_in_fits}
 use Rattle.fresh_bridging.specs.TheRules.{rules_by}
 use Rattle.bridge_plan.specs.Trees.{within_bridged}
-use Rattle.bridge_plan.specs.Worked.{IsWithin, worked}
+use Rattle.bridge_plan.specs.Worked.{IsItemWithinLevels, worked}
 
 module _ (choice : ℕ → Choice) (n : ℕ) where
   abbrev pub item_fits : Item → Bool
@@ -37,24 +37,24 @@ module _ (choice : ℕ → Choice) (n : ℕ) where
 
   -- so of any bridgings of them
   pub unfit_each_is : {items : List Item} {entries : List Entry}
-      (trees : EachBridged (rules_by choice) items entries) → All (IsWithin choice n) items
+      (trees : EachBridged (rules_by choice) items entries) → All (IsItemWithinLevels choice n) items
       → unfit_each trees ≡ unfit items
   unfolding unfit_each
   unfit_each_is none all = refl
   unfit_each_is (each {item} {items} first rest) all =
-      let made = within_bridged choice n item (All-head (IsWithin choice n) item items all) in
+      let made = within_bridged choice n item (All-head (IsItemWithinLevels choice n) item items all) in
       either (fits first) (item_fits item) item (unfit_each rest) (unfit items)
       (ap (λ (h : Held Item Entry). h.fits) (held_once first made.tree ∙ made.holds))
-      (unfit_each_is rest (All-tail (IsWithin choice n) item items all))
+      (unfit_each_is rest (All-tail (IsItemWithinLevels choice n) item items all))
 
   pub unfit_in_is : {inner : List Entry} {items : List Item}
       (trees : EachBridgedIn (rules_by choice) inner items)
-      → All (λ item. IsWithin choice n (put_in inner item)) items
+      → All (λ item. IsItemWithinLevels choice n (put_in inner item)) items
       → unfit_in trees ≡ unfit_put inner items
   unfolding unfit_in
   unfit_in_is {inner} none_in all = refl
   unfit_in_is {inner} (each_in {item = item} {items = items} first rest) all =
-      let Within : Item → Type 0 = λ i. IsWithin choice n (put_in inner i) in
+      let Within : Item → Type 0 = λ i. IsItemWithinLevels choice n (put_in inner i) in
       let made = within_bridged choice n (put_in inner item) (All-head Within item items all) in
       either (put_in_fits inner item && fits first) (child_fits inner item) item (unfit_in rest)
       (unfit_put inner items)

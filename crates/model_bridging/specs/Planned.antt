@@ -2,7 +2,7 @@
 use Rattle.std.specs.Prelude.{◌≡◌, true, List, Some, Result, Ok, Err, filter, map}
 use Rattle.aff_core.specs.Address.{Address}
 use Rattle.bridge_face.specs.Law.{expressed}
-use Rattle.bridge_plan.specs.Adds.{kept_of}
+use Rattle.bridge_plan.specs.AddsHeld.{kept_of}
 use Rattle.expansion.specs.Read.{model_leaves, model_nodes}
 use Rattle.fresh_bridging.specs.Entries.{is_kept}
 use Rattle.fresh_bridging.specs.FreshBridging.{FreshBridging, IsUnsupported, expression_of, is_made, unfit_at}

@@ -13,8 +13,8 @@ use Rattle.user_model.specs.declared.group.GroupVar.{GroupVar}
 use Rattle.item_core.specs.Kind.{kind_count}
 use Rattle.fresh_bridging.specs.Entries.{Entry, expression_in, function_in, is_kept, put_in}
 use Rattle.fresh_bridging.specs.ModelImage.{group_item}
-use Rattle.bridge_plan.specs.Adds.{kept_of}
-use Rattle.bridge_plan.specs.Worked.{IsWithin, worked, worked_each, worked_in}
+use Rattle.bridge_plan.specs.AddsHeld.{kept_of}
+use Rattle.bridge_plan.specs.Worked.{IsItemWithinLevels, worked, worked_each, worked_in}
 use Rattle.model_bridging.specs.declared.model_plan.ModelPlan.{ModelPlan}
 use Rattle.model_bridging.specs.ModelHeld.{unfit, unfit_put}
 
@@ -37,8 +37,8 @@ module _ (choice : ℕ → Choice) where
 
   -- these groups and the other items are within the levels that there are
   pub record IsWithinLevels (items further : List Item) : Type 0 where
-    pub groups : All (IsWithin choice kind_count) items
-    pub others : All (λ item. IsWithin choice kind_count (put_in (groups_held items).entries item)) further
+    pub groups : All (IsItemWithinLevels choice kind_count) items
+    pub others : All (λ item. IsItemWithinLevels choice kind_count (put_in (groups_held items).entries item)) further
 
   -- the first of them that doesn't fit
   abbrev pub unfit_item : List Item → List Item → Option Item
@@ -47,7 +47,7 @@ module _ (choice : ℕ → Choice) where
 
   -- the plan has what they hold, each variable with its expression as a function, and those that are
   -- kept
-  pub record IsWhole (groups : List Group) (further : List Item)
+  pub record IsWholePlan (groups : List Group) (further : List Item)
       (planned : ModelPlan) : Type 0 where
     pub leaves :
         let held = groups_held (map group_item groups) in

@@ -5,12 +5,12 @@ ghost use Rattle.aff_core.specs.Address.{Address};
 ghost use Rattle.item_core.specs.Kind.{kind_count};
 ghost use Rattle.fresh_bridging.specs.Entries.{put_in};
 ghost use Rattle.fresh_bridging.specs.ModelImage.{group_item, row_item};
-ghost use Rattle.bridge_plan.specs.Adds.{Adds};
-ghost use Rattle.bridge_plan.specs.Worked.{IsWithin, worked, worked_each, worked_in};
+ghost use Rattle.bridge_plan.specs.AddsHeld.{AddsHeld};
+ghost use Rattle.bridge_plan.specs.Worked.{IsItemWithinLevels, worked, worked_each, worked_in};
 ghost use Rattle.model_bridging.specs.Found.{found_others, kept_over};
 ghost use Rattle.model_bridging.specs.Kinds.{first_missing, kind_by, kinds_as_they_stand, told};
 ghost use Rattle.model_bridging.specs.ModelHeld.{unfit, unfit_put};
-ghost use Rattle.model_bridging.specs.Outcome.{KindsOutcome, Outcome};
+ghost use Rattle.model_bridging.specs.PlanOutcome.{KindsOutcome, PlanOutcome};
 
 use crate::PushFault;
 use crate::kinds::{check_kind, check_objective, keeps, row_kind, tell};
@@ -59,11 +59,11 @@ pub fn plan_found_groups<R: Rewriter>(
     plan: &mut Plan,
     groups: &[&Group],
 ) -> Result<Vec<Entry>, PushFault>
-    requires { All (IsWithin (R.means rewriter.old).choice kind_count)
+    requires { All (IsItemWithinLevels (R.means rewriter.old).choice kind_count)
         (map group_item (map (λ g. g.now) groups.now)) }
     ensures answer { let choice = (R.means rewriter.old).choice in
         let items = map group_item (map (λ g. g.now) groups.now) in
-        Outcome result (unfit choice kind_count items) (λ entries. Adds plan.old plan.new [] entries.items
+        PlanOutcome result (unfit choice kind_count items) (λ entries. AddsHeld plan.old plan.new [] entries.items
         (worked_each choice (worked choice kind_count) items)) }
     ensures means { R.means rewriter.new ≡ R.means rewriter.old }
     ensures turns { OnOk result (R.turns rewriter.new + length plan.old.nodes.items
@@ -124,11 +124,11 @@ pub fn plan_found_others<R: Rewriter>(
     rows: &[&Row],
     objective: Option<&Objective>,
 ) -> Result<(), PushFault>
-    requires { All (λ item. IsWithin (R.means rewriter.old).choice kind_count (put_in standing.old item))
+    requires { All (λ item. IsItemWithinLevels (R.means rewriter.old).choice kind_count (put_in standing.old item))
         (found_others (map (λ r. r.now) rows.now) (option_copied objective)) }
     ensures answer { let choice = (R.means rewriter.old).choice in
         let others = found_others (map (λ r. r.now) rows.now) (option_copied objective.entry) in
-        Outcome result (unfit_put choice kind_count standing.old others) (λ _. Adds plan.old plan.new [] []
+        PlanOutcome result (unfit_put choice kind_count standing.old others) (λ _. AddsHeld plan.old plan.new [] []
         (worked_in choice (worked choice kind_count) standing.old others)) }
     ensures means { R.means rewriter.new ≡ R.means rewriter.old }
     ensures turns { OnOk result (R.turns rewriter.new + length plan.old.nodes.items
@@ -151,11 +151,11 @@ fn plan_found_rows<R: Rewriter>(
     standing: &mut Standing,
     rows: &[&Row],
 ) -> Result<(), PushFault>
-    requires { All (λ item. IsWithin (R.means rewriter.old).choice kind_count (put_in standing.old item))
+    requires { All (λ item. IsItemWithinLevels (R.means rewriter.old).choice kind_count (put_in standing.old item))
         (map row_item (map (λ r. r.now) rows.now)) }
     ensures answer { let choice = (R.means rewriter.old).choice in
         let items = map row_item (map (λ r. r.now) rows.now) in
-        Outcome result (unfit_put choice kind_count standing.old items) (λ _. Adds plan.old plan.new [] []
+        PlanOutcome result (unfit_put choice kind_count standing.old items) (λ _. AddsHeld plan.old plan.new [] []
         (worked_in choice (worked choice kind_count) standing.old items)) }
     ensures means { R.means rewriter.new ≡ R.means rewriter.old }
     ensures turns { OnOk result (R.turns rewriter.new + length plan.old.nodes.items

@@ -13,7 +13,7 @@ ghost use Rattle.fresh_bridging.specs.ModelImage.{group_item, objective_items, r
 ghost use Rattle.user_model.specs.Model.{variable_address};
 ghost use Rattle.bridge_plan.specs.KeptGroups.{is_native_choice, keeps};
 ghost use Rattle.model_bridging.specs.Kinds.{first_missing, is_kept_by, is_plain_by, kind_by, kinds_told, objective_kind_by, told};
-ghost use Rattle.model_bridging.specs.Outcome.{KindsOutcome};
+ghost use Rattle.model_bridging.specs.PlanOutcome.{KindsOutcome};
 
 use crate::PushFault;
 use aff_core::{Address, ByAddress, Root, Sense};

@@ -7,13 +7,13 @@ ghost use Rattle.item_core.specs.Kind.{kind_count};
 ghost use Rattle.fresh_bridging.specs.Entries.{put_in};
 ghost use Rattle.fresh_bridging.specs.ModelImage.{group_item, objective_items, row_item};
 ghost use Rattle.fresh_bridging.specs.TheRules.{rules_by};
-ghost use Rattle.bridge_plan.specs.Adds.{Adds};
+ghost use Rattle.bridge_plan.specs.AddsHeld.{AddsHeld};
 ghost use Rattle.bridge_plan.specs.Means.{AreSound};
-ghost use Rattle.bridge_plan.specs.Worked.{IsWithin, worked, worked_each, worked_in};
+ghost use Rattle.bridge_plan.specs.Worked.{IsItemWithinLevels, worked, worked_each, worked_in};
 ghost use Rattle.model_bridging.specs.ModelHeld.{child_fits, unfit, unfit_put};
-ghost use Rattle.model_bridging.specs.Outcome.{Outcome, refused_at};
+ghost use Rattle.model_bridging.specs.PlanOutcome.{PlanOutcome, refused_at};
 ghost use Rattle.model_bridging.specs.Planned.{Planned};
-ghost use Rattle.model_bridging.specs.Whole.{IsWithinLevels, IsWhole, kept_among, unfit_item, with_function};
+ghost use Rattle.model_bridging.specs.Whole.{IsWithinLevels, IsWholePlan, kept_among, unfit_item, with_function};
 
 use crate::PushFault;
 use crate::kinds::check_kinds;
@@ -71,7 +71,7 @@ fn plan_items<R: Rewriter>(
     ensures answer { let choice = (R.means rewriter.old).choice in
         let items = map group_item groups.now.items in
         let others = map row_item rows.now.items ++ objective_items objective.now in
-        Outcome result (unfit_item choice items others) (IsWhole choice groups.now.items others) }
+        PlanOutcome result (unfit_item choice items others) (IsWholePlan choice groups.now.items others) }
     ensures means { R.means rewriter.new ≡ R.means rewriter.old }
 {
     let mut plan = Plan::new(alloc);
@@ -90,10 +90,10 @@ fn plan_groups<R: Rewriter>(
     plan: &mut Plan,
     groups: &Groups,
 ) -> Result<Vec<Entry>, PushFault>
-    requires { All (IsWithin (R.means rewriter.old).choice kind_count) (map group_item groups.now.items) }
+    requires { All (IsItemWithinLevels (R.means rewriter.old).choice kind_count) (map group_item groups.now.items) }
     ensures answer { let choice = (R.means rewriter.old).choice in
         let items = map group_item groups.now.items in
-        Outcome result (unfit choice kind_count items) (λ entries. Adds plan.old plan.new [] entries.items
+        PlanOutcome result (unfit choice kind_count items) (λ entries. AddsHeld plan.old plan.new [] entries.items
         (worked_each choice (worked choice kind_count) items)) }
     ensures means { R.means rewriter.new ≡ R.means rewriter.old }
 {
@@ -118,11 +118,11 @@ fn plan_others<R: Rewriter>(
     rows: &Rows,
     objective: &Objective,
 ) -> Result<(), PushFault>
-    requires { All (λ item. IsWithin (R.means rewriter.old).choice kind_count (put_in standing.old item))
+    requires { All (λ item. IsItemWithinLevels (R.means rewriter.old).choice kind_count (put_in standing.old item))
         (map row_item rows.now.items ++ objective_items objective.now) }
     ensures answer { let choice = (R.means rewriter.old).choice in
         let others = map row_item rows.now.items ++ objective_items objective.now in
-        Outcome result (unfit_put choice kind_count standing.old others) (λ _. Adds plan.old plan.new [] []
+        PlanOutcome result (unfit_put choice kind_count standing.old others) (λ _. AddsHeld plan.old plan.new [] []
         (worked_in choice (worked choice kind_count) standing.old others)) }
     ensures means { R.means rewriter.new ≡ R.means rewriter.old }
 {
@@ -141,11 +141,11 @@ fn plan_rows<R: Rewriter>(
     standing: &mut Standing,
     rows: &Rows,
 ) -> Result<(), PushFault>
-    requires { All (λ item. IsWithin (R.means rewriter.old).choice kind_count (put_in standing.old item))
+    requires { All (λ item. IsItemWithinLevels (R.means rewriter.old).choice kind_count (put_in standing.old item))
         (map row_item rows.now.items) }
     ensures answer { let choice = (R.means rewriter.old).choice in
         let items = map row_item rows.now.items in
-        Outcome result (unfit_put choice kind_count standing.old items) (λ _. Adds plan.old plan.new [] []
+        PlanOutcome result (unfit_put choice kind_count standing.old items) (λ _. AddsHeld plan.old plan.new [] []
         (worked_in choice (worked choice kind_count) standing.old items)) }
     ensures means { R.means rewriter.new ≡ R.means rewriter.old }
     ensures same { standing.new ≡ standing.old }
@@ -167,11 +167,11 @@ pub(crate) fn plan_row<R: Rewriter>(
     standing: &mut Standing,
     row: &Row,
 ) -> Result<(), NumberFault>
-    requires { IsWithin (R.means rewriter.old).choice kind_count (put_in standing.old (row_item row.now)) }
+    requires { IsItemWithinLevels (R.means rewriter.old).choice kind_count (put_in standing.old (row_item row.now)) }
     ensures answer { let choice = (R.means rewriter.old).choice in
         let item = row_item row.now in
         ExactWhere result (IsTrue (child_fits choice kind_count standing.old item))
-        (λ _. Adds plan.old plan.new [] [] (put_held (rules_by choice) standing.old item
+        (λ _. AddsHeld plan.old plan.new [] [] (put_held (rules_by choice) standing.old item
         (worked choice kind_count (put_in standing.old item)))) }
     ensures means { R.means rewriter.new ≡ R.means rewriter.old }
     ensures turns { OnOk result (R.turns rewriter.new + length plan.old.nodes.items
@@ -191,12 +191,12 @@ pub(crate) fn plan_objective<R: Rewriter>(
     standing: &mut Standing,
     objective: &Objective,
 ) -> Result<(), NumberFault>
-    requires { All (λ item. IsWithin (R.means rewriter.old).choice kind_count (put_in standing.old item))
+    requires { All (λ item. IsItemWithinLevels (R.means rewriter.old).choice kind_count (put_in standing.old item))
         (objective_items objective.now) }
     ensures answer { let choice = (R.means rewriter.old).choice in
         let items = objective_items objective.now in
         let held = worked_in choice (worked choice kind_count) standing.old items in
-        ExactWhere result (IsTrue held.fits) (λ _. Adds plan.old plan.new [] [] held) }
+        ExactWhere result (IsTrue held.fits) (λ _. AddsHeld plan.old plan.new [] [] held) }
     ensures means { R.means rewriter.new ≡ R.means rewriter.old }
     ensures turns { OnOk result (R.turns rewriter.new + length plan.old.nodes.items
         ≤ R.turns rewriter.old + length plan.new.nodes.items) }
@@ -222,10 +222,10 @@ fn plan_further<R: Rewriter>(
     plan: &mut Plan,
     item: Item,
 ) -> Result<(), NumberFault>
-    requires { IsWithin (R.means rewriter.old).choice kind_count item }
+    requires { IsItemWithinLevels (R.means rewriter.old).choice kind_count item }
     ensures answer { let held = worked (R.means rewriter.old).choice kind_count item in
         ExactWhere result (IsTrue held.fits)
-        (λ _. Adds plan.old plan.new [] [] (record held { entries = [] })) }
+        (λ _. AddsHeld plan.old plan.new [] [] (record held { entries = [] })) }
     ensures means { R.means rewriter.new ≡ R.means rewriter.old }
     ensures turns { OnOk result (R.turns rewriter.new + length plan.old.nodes.items
         ≤ R.turns rewriter.old + length plan.new.nodes.items) }

@@ -16,7 +16,7 @@ use Rattle.user_model.specs.Sets.{sets_lower, sets_upper}
 use Rattle.set_core.specs.declared.set.Set.{Set}
 use Rattle.model_catalog.specs.declared.variable.Variable.{Variable}
 use Rattle.model_catalog.specs.declared.index.Bounds.{Bounds}
-use Rattle.model_catalog.specs.Index.{CountsBounds, IsCounted, SetsBounds, bound_count, counted, is_number, recounted, variable_number}
+use Rattle.model_catalog.specs.Index.{AreBoundsCounted, CountsBounds, SetsBounds, bound_count, counted, is_number, recounted, variable_number}
 use Rattle.model_catalog.proofs.Weights.{sum_set_at}
 
 -- ---- the variable of an address
@@ -197,11 +197,11 @@ module _ {row : Option Row} {kept : List Variable} {bounds : Bounds}
         ]
 
   -- where every variable has the row among its counts, the bounds can be taken from them
-  module _ (all : (n : ℕ) → IfSome (find variable_number n kept) (λ v. IsCounted row v)) where
+  module _ (all : (n : ℕ) → IfSome (find variable_number n kept) (λ v. AreBoundsCounted row v)) where
     pub bounds_fit : (bounds.lower ≤ its.lower) × (bounds.upper ≤ its.upper)
     bounds_fit =
-        let has : IsCounted row its =
-        subst (λ o. IfSome o (λ v. IsCounted row v)) its_found (all its.number) in (
+        let has : AreBoundsCounted row its =
+        subst (λ o. IfSome o (λ v. AreBoundsCounted row v)) its_found (all its.number) in (
           subst (λ k. k ≤ its.lower) (below its refl) has.0,
           subst (λ k. k ≤ its.upper) (above its refl) has.1,
         )
@@ -246,13 +246,13 @@ module _ {rows after : List Row} (k : ℕ) {new old seen : Option Row} (rise : R
   pub still_counted : (kept more : List Variable) → CountsBounds rows kept
       → ((n : ℕ) → find variable_number n more ≡ option_map (counted seen)
       (find variable_number n kept)) → (n : ℕ) → IfSome (find variable_number n more)
-      (λ v. IsCounted old v)
+      (λ v. AreBoundsCounted old v)
   still_counted kept more counts entries n =
-      subst (λ o. IfSome o (λ v. IsCounted old v)) (sym (entries n))
+      subst (λ o. IfSome o (λ v. AreBoundsCounted old v)) (sym (entries n))
       (by_place (find variable_number n kept) (counts n))
     where
       by_place : (o : Option Variable) → o ≡ option_map (recounted rows) o
-          → IfSome (option_map (counted seen) o) (λ v. IsCounted old v)
+          → IfSome (option_map (counted seen) o) (λ v. AreBoundsCounted old v)
       by_place None e = tt
       by_place (Some v) e =
           let same = same_Some v (recounted rows v) e in (

@@ -5,7 +5,7 @@ use Rattle.std.specs.FinMap.{get-empty}
 use Rattle.std.specs.Cmp.Lexicographic.{slice_cmp}
 use Rattle.std.specs.Ordering.{nat_cmp}
 use Rattle.std.proofs.lemmas.Option.{none-some}
-use Rattle.name_index.specs.NameTable.{Numbers}
+use Rattle.name_index.specs.NameTable.{NumbersByName}
 use Rattle.numbered_list.specs.Laws.{Rise-nil}
 use Rattle.user_model.specs.Consistent as consistent
 use Rattle.user_model.specs.Edited.{group_number, row_number}
@@ -15,7 +15,7 @@ use Rattle.model_catalog.specs.Index.{variable_number}
 use Rattle.model_catalog.specs.Kept.{HasNames, Keeps}
 use Rattle.model_catalog.proofs.TableNames.{get-name_of}
 
-nothing_at : (name : List ℕ) → map.get (let none : Numbers = map.empty in none) name ≡ None
+nothing_at : (name : List ℕ) → map.get (let none : NumbersByName = map.empty in none) name ≡ None
 nothing_at name = get-empty (slice_cmp nat_cmp) name
 
 no_names : HasNames (λ n. None) map.empty

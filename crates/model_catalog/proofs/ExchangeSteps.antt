@@ -2,7 +2,7 @@
 use Rattle.std.proofs.Common.{◌≡◌, ℕ, ◌+◌, ◌-◌, ◌<◌, ◌≤◌, ◌^◌, List, [], ◌∷◌, length, Option, None, refl, sym, ap, ap₂, subst, ◌∙◌, arith}
 use Rattle.std.specs.Prelude.{unwrap_or}
 use Rattle.std.specs.Option.{option_map}
-use Rattle.name_index.specs.NameTable.{Numbers, IsOneToOne}
+use Rattle.name_index.specs.NameTable.{NumbersByName, IsOneToOne}
 use Rattle.numbered_list.specs.declared.change.Change.{Change}
 use Rattle.numbered_list.specs.Numbered.{Rise, find}
 use Rattle.numbered_list.specs.Changes.{olds, set_all}
@@ -23,7 +23,7 @@ use Rattle.model_catalog.specs.Names.{AreDistinct, standing_names, name_of, put_
 use Rattle.model_catalog.specs.Index.{CountsBounds, kept_count, listed_in, recounted, variable_number}
 use Rattle.model_catalog.specs.Terms.{changed_terms}
 use Rattle.model_catalog.specs.Named.{AreNameChanges, HasStandingNames, variable_name}
-use Rattle.model_catalog.specs.Kept.{HasNames, IsKept, Keeps, catalog_of}
+use Rattle.model_catalog.specs.Kept.{HasNames, IsCatalogKept, Keeps, catalog_of}
 use Rattle.model_catalog.specs.Exchange.{IsExchange, contents, exchanged, standing}
 use Rattle.model_catalog.proofs.Models.{kept_length}
 use Rattle.model_catalog.proofs.Exchanges.{TermsMoved, back_again, counts_listed, distinct_given, distinct_rows, distinct_variables, has_names_given, index_after, kept_count_is, lists_back, terms_moved}
@@ -39,7 +39,8 @@ pub record Ready (a : Inside) (value : Catalog) (with : Exchange)
   pub lists : AreNameChanges names value.model (exchanged with value.model)
 
 pub ready : {a : Inside} {value : Catalog} {with : Exchange} {names : NameChanges}
-    → catalog_of a ≡ value → IsKept a → IsExchange with → IsConsistent (exchanged with value.model)
+    → catalog_of a ≡ value → IsCatalogKept a → IsExchange with
+    → IsConsistent (exchanged with value.model)
     → IsWithinLimits (exchanged with value.model)
     → AreNameChanges names value.model (exchanged with value.model) → Ready a value with names
 ready {a} view kept changes consistent within lists = record {
@@ -59,7 +60,7 @@ listing_same a b same (x ∷ xs) =
     λ i. record { number = x.number; name = same x.number i; aside = None } ∷ listing_same
     a b same xs i
 
-stood_as : {naming : ℕ → Option (List ℕ)} {table : Numbers} {listed all : List NameChange}
+stood_as : {naming : ℕ → Option (List ℕ)} {table : NumbersByName} {listed all : List NameChange}
     → HasNames naming table → listed ≡ all
     → standing_names (name_of table) listed ≡ standing_names naming all
 stood_as {naming} {table} {listed} {all} has e =
@@ -222,7 +223,7 @@ module _ {a : Inside} {value : Catalog} {with : Exchange} {names : NameChanges}
       (all_listed kept f are)))
 
   pub keeps_after : {after : ModelValue} {kept start kept_now kept_after : List Variable}
-      {listed variables rows : List NameChange} {t r : Numbers} {terms : ℕ}
+      {listed variables rows : List NameChange} {t r : NumbersByName} {terms : ℕ}
       → after ≡ exchanged with value.model → start ≡ kept → listed ≡ names.variables.items
       → AreListed kept listed → Rise variable_number kept_now
       → ((n : ℕ) → find variable_number n kept_now ≡ option_map (recounted after.rows)
@@ -252,7 +253,7 @@ module _ {a : Inside} {value : Catalog} {with : Exchange} {names : NameChanges}
       (λ i. (sym model_is i, sym kept_is i)) keeps
 
   -- as many variables and names as were to be put in are there, or stood there
-  pub room_back : {after : ModelValue} {kept : List Variable} {t r : Numbers} {terms count : ℕ}
+  pub room_back : {after : ModelValue} {kept : List Variable} {t r : NumbersByName} {terms count : ℕ}
       {listed standing : List NameChange} → Keeps after kept t r terms
       → listed ≡ names.variables.items
       → standing ≡ standing_names (variable_name value.model) names.variables.items

@@ -3,7 +3,7 @@ use Rattle.std.proofs.Common.{◌≡◌, ℕ, ◌+◌, ◌≤◌, Bool, true, fa
 use Rattle.std.specs.Prelude.{IsSome, IfSome, is_some, unwrap_or, sum_by}
 use Rattle.std.specs.Option.{option_map, option_map_or}
 use Rattle.std.proofs.lemmas.List.Sums.{sum_by-cons}
-use Rattle.name_index.specs.NameTable.{Numbers, IsOneToOne}
+use Rattle.name_index.specs.NameTable.{NumbersByName, IsOneToOne}
 use Rattle.numbered_list.specs.declared.change.Change.{Change}
 use Rattle.numbered_list.specs.Numbered.{Rise, find, set_at}
 use Rattle.numbered_list.specs.Changes.{AreChanges, changed_number, old, olds, set_all}
@@ -41,7 +41,7 @@ abbrev Naming : Type 0
 Naming = ℕ → Option (List ℕ)
 
 -- the names that a table is given by a list that is that of all changes
-module _ {all listed : List NameChange} {old new : Naming} {table : Numbers}
+module _ {all listed : List NameChange} {old new : Naming} {table : NumbersByName}
     (lists : ChangesNames all old new) (has : HasNames old table) (same : listed ≡ all) where
   names_given : (n : ℕ) → renamed_by listed (name_of table) n ≡ new n
   names_given n =
@@ -53,7 +53,7 @@ module _ {all listed : List NameChange} {old new : Naming} {table : Numbers}
   distinct_given distinct n m name here there =
       distinct n m name (sym (names_given n) ∙ here) (sym (names_given m) ∙ there)
 
-  pub has_names_given : {after : Numbers}
+  pub has_names_given : {after : NumbersByName}
       → ((n : ℕ) → name_of after n ≡ renamed_by listed (name_of table) n) → IsOneToOne after
       → HasNames new after
   has_names_given is one = record { one_to_one = one; names = λ n. is n ∙ names_given n }
@@ -287,9 +287,9 @@ back_again model undo groups rows group_rise row_rise = λ i. record {
     objective_back (Some x) = refl
 
 -- the same model kept alike
-pub kept_alike : (model other : ModelValue) (kept others : List Variable) (t u r s : Numbers)
+pub kept_alike : (model other : ModelValue) (kept others : List Variable) (t u r s : NumbersByName)
     (count : ℕ) → other ≡ model → others ≡ kept → u ≡ t → s ≡ r → Keeps model kept t r count
     → Keeps other others u s count
 kept_alike model other kept others t u r s count a b c d h =
-    subst (λ (x : ModelValue × (List Variable × (Numbers × Numbers))). Keeps x.0 x.1.0 x.1.1.0
+    subst (λ (x : ModelValue × (List Variable × (NumbersByName × NumbersByName))). Keeps x.0 x.1.0 x.1.1.0
     x.1.1.1 count) (λ i. (sym a i, (sym b i, (sym c i, sym d i)))) h

@@ -8,7 +8,7 @@ use Rattle.std.proofs.lemmas.Bool.Decides.{nat_tests}
 use Rattle.std.proofs.lemmas.List.{length-map}
 use Rattle.std.proofs.lemmas.List.Folds.{list_any_none}
 use Rattle.std.proofs.lemmas.Option.{none-some, same_Some}
-use Rattle.name_index.specs.NameTable.{Numbers}
+use Rattle.name_index.specs.NameTable.{NumbersByName}
 use Rattle.numbered_list.specs.Numbered.{find}
 use Rattle.numbered_list.specs.Laws.{find-at}
 use Rattle.user_model.specs.declared.group.Group.{Group}
@@ -135,7 +135,7 @@ module _ {model : ModelValue} {kept : List Variable} (ok : IsConsistent model)
 -- ---- names
 
 -- what a table answers at a name is the number of the item that has it
-is_number_of : {X : Type 0} (number : X → ℕ) (name : X → List ℕ) (xs : List X) (table : Numbers)
+is_number_of : {X : Type 0} (number : X → ℕ) (name : X → List ℕ) (xs : List X) (table : NumbersByName)
     → HasNames (λ n. option_map name (find number n xs)) table → (q : List ℕ)
     → IsNumberOf number name xs q (get table q)
 is_number_of number name xs table h q = record {
@@ -143,7 +143,7 @@ is_number_of number name xs table h q = record {
   all = λ n e. get-name_of table n q (h.names n ∙ e);
 }
 
-pub variable_looked_up : {model : ModelValue} {table : Numbers} → IsConsistent model
+pub variable_looked_up : {model : ModelValue} {table : NumbersByName} → IsConsistent model
     → HasNames (variable_name model) table → (name : List ℕ)
     → get table name ≡ variable_named model name
 variable_looked_up {model} {table} ok h name =
@@ -151,7 +151,7 @@ variable_looked_up {model} {table} ok h name =
     (get table name) ok.variables_rise (is_number_of consistent.variable_number
     (λ (v : GroupVar). v.name) (variables model) table h name)).0
 
-pub row_looked_up : {model : ModelValue} {table : Numbers} → IsConsistent model
+pub row_looked_up : {model : ModelValue} {table : NumbersByName} → IsConsistent model
     → HasNames (row_name model) table → (name : List ℕ) (o : Option ℕ) → o ≡ get table name
     → option_and_then (λ n. find row_number n model.rows) o ≡ row_named model name
 row_looked_up {model} {table} ok h name o e =

@@ -12,7 +12,7 @@ use Rattle.map_laws.specs.LoopLaws.{IsPast, as_it_was, past_more}
 use Rattle.map_laws.specs.OptionLaws.{not_some, some_is}
 use Rattle.numbered_list.specs.Numbered.{Rise, find}
 use Rattle.numbered_list.specs.Laws.{find-at}
-use Rattle.name_index.specs.NameTable.{Numbers, IsOneToOne}
+use Rattle.name_index.specs.NameTable.{NumbersByName, IsOneToOne}
 use Rattle.model_catalog.specs.declared.names.NameChange.{NameChange}
 use Rattle.model_catalog.specs.Names.{AreDistinct, listed_number, standing_names, name_of, put_aside, put_count, renamed_by, settled, without_names}
 use Rattle.model_catalog.proofs.Found.{find-map}
@@ -24,14 +24,14 @@ Naming = ℕ → Option (List ℕ)
 
 -- ---- the names taken out
 
-pub record TakenSoFar (start now : Numbers) (listed left : List NameChange)
+pub record TakenSoFar (start now : NumbersByName) (listed left : List NameChange)
     (i first spare_now : ℕ) : Type 0 where
   pub names : GivenSoFar (λ l _. None) (name_of start) (name_of now) listed (drop i listed)
   pub past : IsPast (put_aside (name_of start)) listed left i
   pub one_to_one : IsOneToOne now
   pub spare : first ≤ spare_now
 
-pub taken_more : (start now after : Numbers) (listed left : List NameChange)
+pub taken_more : (start now after : NumbersByName) (listed left : List NameChange)
     (i spare spare_now spare_after : ℕ) (d : NameChange) (was : Option (List ℕ))
     → TakenSoFar start now listed left i spare spare_now → i < length listed
     → was ≡ name_of now (slice_index_or left i d).number
@@ -56,7 +56,7 @@ taken_more start now after listed left i spare spare_now spare_after d was h lt 
 
 -- ---- the names put in
 
-pub record PutSoFar (start now : Numbers) (listed left : List NameChange)
+pub record PutSoFar (start now : NumbersByName) (listed left : List NameChange)
     (i first spare_now : ℕ) : Type 0 where
   pub names : GivenSoFar (λ l _. l.name) (name_of start) (name_of now) listed (drop i listed)
   pub past : IsPast settled listed left i
@@ -64,14 +64,14 @@ pub record PutSoFar (start now : Numbers) (listed left : List NameChange)
   pub spare : first + put_count (drop i listed) ≤ spare_now + put_count listed
 
 -- the names that stand before the listed ones are put in, and those that are to stand afterwards
-pub record ArePut (start : Numbers) (listed : List NameChange) (spare : ℕ) : Type 0 where
+pub record ArePut (start : NumbersByName) (listed : List NameChange) (spare : ℕ) : Type 0 where
   pub rising : Rise listed_number listed
   pub free : (n : ℕ) → IsSome (find listed_number n listed) → name_of start n ≡ None
   pub distinct : AreDistinct (renamed_by listed (name_of start))
   pub room : put_count listed ≤ spare
 
 -- what the next may rest on
-pub record NextPut (now : Numbers) (x : NameChange) (spare : ℕ) : Type 0 where
+pub record NextPut (now : NumbersByName) (x : NameChange) (spare : ℕ) : Type 0 where
   pub free : name_of now x.number ≡ None
   pub new : IfSome x.name (λ name. get now name ≡ None)
   pub room : IsSome x.name → 0 < spare
@@ -86,7 +86,7 @@ one_of_some None some = absurd (let both : false ≡ true = some in cc)
 one_of_some (Some x) some = omega arith
 
 -- a name that is put in next is no other's yet
-new_name : (start now : Numbers) (listed : List NameChange) (i spare : ℕ) (x : NameChange)
+new_name : (start now : NumbersByName) (listed : List NameChange) (i spare : ℕ) (x : NameChange)
     → ArePut start listed spare → GivenSoFar (λ l _. l.name) (name_of start) (name_of now) listed
     (drop i listed) → IsOneToOne now → find listed_number x.number listed ≡ Some x
     → IsSome (find listed_number x.number (drop i listed)) → (o : Option (List ℕ)) → x.name ≡ o
@@ -111,7 +111,7 @@ new_name start now listed i spare x put h one there some (Some name) is =
         not_some (find listed_number x.number (drop i listed))
         (ap (λ m. find listed_number m (drop i listed)) (sym same) ∙ e) some
 
-pub next_put : (start now : Numbers) (listed left : List NameChange) (i spare spare_now : ℕ)
+pub next_put : (start now : NumbersByName) (listed left : List NameChange) (i spare spare_now : ℕ)
     (d : NameChange) → ArePut start listed spare → PutSoFar start now listed left i spare spare_now
     → i < length listed → NextPut now (slice_index_or left i d) spare_now
 next_put start now listed left i spare spare_now d put h lt =
@@ -133,7 +133,7 @@ next_put start now listed left i spare spare_now d put h lt =
 one_if : {o p : Option (List ℕ)} → o ≡ p → cond {A = ℕ} (is_some o) 1 0 ≡ cond (is_some p) 1 0
 one_if e = ap (λ x. cond (is_some x) 1 0) e
 
-pub put_more : (start now after : Numbers) (listed left : List NameChange)
+pub put_more : (start now after : NumbersByName) (listed left : List NameChange)
     (i spare spare_now spare_after : ℕ) (d : NameChange) (was nothing new : Option (List ℕ))
     → PutSoFar start now listed left i spare spare_now → i < length listed
     → was ≡ (slice_index_or left i d).aside → nothing ≡ None → new ≡ (slice_index_or left i d).name

@@ -4,7 +4,7 @@ use Rattle.std.proofs.Common.{◌≡◌, ℕ, List, length, Option, Some, None, 
 use Rattle.std.specs.Option.{option_map}
 use Rattle.numbered_list.specs.declared.change.Change.{Change}
 use Rattle.numbered_list.specs.Numbered.{Rise, find}
-use Rattle.numbered_list.specs.ExchangeLaws.{SoFar}
+use Rattle.numbered_list.specs.ExchangeLaws.{ExchangedSoFar}
 use Rattle.user_model.specs.declared.row.Row.{Row}
 use Rattle.user_model.specs.Edited.{row_number}
 use Rattle.model_catalog.specs.declared.variable.Variable.{Variable}
@@ -12,7 +12,7 @@ use Rattle.model_catalog.specs.Index.{CountsBounds, recounted, variable_number}
 
 pub record RowsSoFar (start now : List Row) (changes left : List (Change Row))
     (i capacity least : ℕ) (kept_start kept : List Variable) : Type 0 where
-  pub rows : SoFar row_number start now changes left i capacity least
+  pub rows : ExchangedSoFar row_number start now changes left i capacity least
   pub rising : Rise variable_number kept
   pub entries : (n : ℕ) → find variable_number n kept ≡ option_map (recounted now)
       (find variable_number n kept_start)

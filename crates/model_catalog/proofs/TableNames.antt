@@ -10,7 +10,7 @@ use Rattle.std.specs.Cmp.Lexicographic.{slice_cmp, texts_ties, nat_list_cmp_tota
 use Rattle.std.proofs.lemmas.Bool.{cases_Bool, cases_eq, eq-eqb, ne_eqb}
 use Rattle.std.proofs.lemmas.Option.{none-some, same_Some, slice_get_within, get_or_from_slice_get}
 use Rattle.map_laws.specs.EntryLaws.{find_at}
-use Rattle.name_index.specs.NameTable.{Numbers, IsFree, IsOneToOne, IsNameAt}
+use Rattle.name_index.specs.NameTable.{NumbersByName, IsNumberFree, IsOneToOne, IsNameAt}
 use Rattle.model_catalog.specs.Names.{name_of}
 
 abbrev Entries : Type 0
@@ -73,7 +73,7 @@ place_of_found (x ∷ es) name n e =
       | false ↦ λ tied is. let rest = place_of_found es name n is in (suc rest.0, rest.1)
     ] refl e
 
-found_at : (m : Numbers) (i n : ℕ) (name : List ℕ) → slice_get (entries m) i ≡ Some (name, n)
+found_at : (m : NumbersByName) (i n : ℕ) (name : List ℕ) → slice_get (entries m) i ≡ Some (name, n)
     → map.get m name ≡ Some n
 found_at m i n name at =
     let d : List ℕ × ℕ = (name, n) in
@@ -85,33 +85,34 @@ found_at m i n name at =
     get-entries m name ∙ (found ∙ ap (λ (e : List ℕ × ℕ). Some e.1) read)
 
 -- the name that stands at a number has it
-pub get-name_of : (m : Numbers) (n : ℕ) (name : List ℕ) → name_of m n ≡ Some name
+pub get-name_of : (m : NumbersByName) (n : ℕ) (name : List ℕ) → name_of m n ≡ Some name
     → map.get m name ≡ Some n
 unfolding name_of
 get-name_of m n name e =
     let place = place_of_name (entries m) n name e in found_at m place.0 n name place.1
 
 -- where a name has a number, some name stands at it
-pub some_name_of : (m : Numbers) (n : ℕ) (name : List ℕ) → map.get m name ≡ Some n
+pub some_name_of : (m : NumbersByName) (n : ℕ) (name : List ℕ) → map.get m name ≡ Some n
     → (other : List ℕ) × (name_of m n ≡ Some other)
 unfolding name_of
 some_name_of m n name e =
     let place = place_of_found (entries m) name n (sym (get-entries m name) ∙ e) in
     some_name (entries m) place.0 n name place.1
 
-pub name_of-get : (m : Numbers) → IsOneToOne m → (n : ℕ) (name : List ℕ) → map.get m name ≡ Some n
+pub name_of-get : (m : NumbersByName) → IsOneToOne m → (n : ℕ) (name : List ℕ)
+    → map.get m name ≡ Some n
     → name_of m n ≡ Some name
 name_of-get m one n name e =
     let some = some_name_of m n name e in
     some.1 ∙ ap Some (one some.0 name n (get-name_of m n some.0 some.1) e)
 
 -- a number at which no name stands is no name's
-pub free_of_none : (m : Numbers) (n : ℕ) → name_of m n ≡ None → IsFree m n
+pub free_of_none : (m : NumbersByName) (n : ℕ) → name_of m n ≡ None → IsNumberFree m n
 free_of_none m n none name e =
     let some = some_name_of m n name e in none-some some.0 (sym none ∙ some.1)
 
 -- a name that stands at no number has none
-pub none_of_free : (m : Numbers) → IsOneToOne m → (name : List ℕ)
+pub none_of_free : (m : NumbersByName) → IsOneToOne m → (name : List ℕ)
     → ((n : ℕ) → name_of m n ≢ Some name) → map.get m name ≡ None
 none_of_free m one name free = by_answer (map.get m name) refl
   where
@@ -127,14 +128,14 @@ same_answers None (Some y) to from = from y refl
 same_answers (Some x) p to from = sym (to x refl)
 
 -- what a look-up of a number answers
-pub name_of_is : (m : Numbers) → IsOneToOne m → (n : ℕ) (o : Option (List ℕ)) → IsNameAt m n o
+pub name_of_is : (m : NumbersByName) → IsOneToOne m → (n : ℕ) (o : Option (List ℕ)) → IsNameAt m n o
     → o ≡ name_of m n
 name_of_is m one n o at =
     same_answers o (name_of m n) (λ name e. name_of-get m one n name ((at name).0 e))
     (λ name e. (at name).1 (get-name_of m n name e))
 
 -- after a new name and its number
-pub name_of-insert : (m more : Numbers) (name : List ℕ) (k : ℕ) → IsOneToOne more
+pub name_of-insert : (m more : NumbersByName) (name : List ℕ) (k : ℕ) → IsOneToOne more
     → more ≡ map.insert m name k → map.get m name ≡ None → name_of m k ≡ None → IsOneToOne m
     → (n : ℕ) → name_of more n ≡ cond (k == n) (Some name) (name_of m n)
 name_of-insert m more name k one is free none old_one n =
@@ -170,7 +171,7 @@ name_of-insert m more name k one is free none old_one n =
         ]
 
 -- after a name is taken out
-pub name_of-remove : (m fewer : Numbers) (name : List ℕ) (k : ℕ) → IsOneToOne fewer
+pub name_of-remove : (m fewer : NumbersByName) (name : List ℕ) (k : ℕ) → IsOneToOne fewer
     → fewer ≡ map.remove m name → map.get m name ≡ Some k → IsOneToOne m → (n : ℕ)
     → name_of fewer n ≡ cond (k == n) None (name_of m n)
 name_of-remove m fewer name k one is got old_one n =
@@ -218,7 +219,7 @@ name_of-remove m fewer name k one is got old_one n =
         ]
 
 -- after what stood at a number, a name or none, is taken out
-pub taken_names : (m fewer : Numbers) (k : ℕ) (o : Option (List ℕ)) → IsOneToOne fewer
+pub taken_names : (m fewer : NumbersByName) (k : ℕ) (o : Option (List ℕ)) → IsOneToOne fewer
     → IsOneToOne m → o ≡ name_of m k → IfSome o (λ name. fewer ≡ map.remove m name)
     → IfNone o (fewer ≡ m) → (n : ℕ) → name_of fewer n ≡ cond (k == n) None (name_of m n)
 taken_names m fewer k (Some name) one old_one at removed absent n =

@@ -14,7 +14,7 @@ use Rattle.user_model.specs.Model.{ModelValue}
 
 -- the lengths that the lists of groups, rows and variables can have, and how many names of
 -- variables and of rows can be added
-pub record Room : Type 0 where
+pub record CatalogRoom : Type 0 where
   pub groups : ℕ
   pub rows : ℕ
   pub variables : ℕ
@@ -23,9 +23,9 @@ pub record Room : Type 0 where
 
 pub record Catalog : Type 0 where
   pub model : ModelValue
-  pub room : Room
+  pub room : CatalogRoom
 
-abbrev pub room_code : Coded Room
+abbrev pub room_code : Coded CatalogRoom
 room_code =
     code_by (ℕ × (ℕ × (ℕ × (ℕ × ℕ)))) (coded× coded_ℕ
     (coded× coded_ℕ (coded× coded_ℕ (coded× coded_ℕ coded_ℕ))))
@@ -49,5 +49,5 @@ model_code =
 
 abbrev pub catalog_code : Coded Catalog
 catalog_code =
-    code_by (ModelValue × Room) (coded× model_code room_code) (λ c. (c.model, c.room))
+    code_by (ModelValue × CatalogRoom) (coded× model_code room_code) (λ c. (c.model, c.room))
     (λ p. record { model = p.0; room = p.1 }) (λ _. refl)

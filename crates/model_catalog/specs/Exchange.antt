@@ -9,7 +9,7 @@ use Rattle.user_model.specs.Undone.{before}
 use Rattle.model_catalog.specs.declared.exchange.Exchange.{Exchange}
 use Rattle.model_catalog.specs.declared.names.NameChanges.{NameChanges}
 use Rattle.model_catalog.specs.declared.room.More.{More}
-use Rattle.model_catalog.specs.Catalog.{Catalog, Room}
+use Rattle.model_catalog.specs.Catalog.{Catalog, CatalogRoom}
 use Rattle.model_catalog.specs.Names.{put_count}
 
 -- the contents of an exchange as an undo has them
@@ -49,12 +49,12 @@ pub record HasRoomFor (with : Exchange) (names : NameChanges) (catalog : Catalog
       ≤ catalog.room.variables
 
 -- there is room for the names
-pub record HasSpare (names : NameChanges) (room : Room) : Type 0 where
+pub record HasSpare (names : NameChanges) (room : CatalogRoom) : Type 0 where
   pub variable_names : put_count names.variables.items ≤ room.variable_names
   pub row_names : put_count names.rows.items ≤ room.row_names
 
 -- no more room is gone than that for the names which were put in
-pub record KeepsRoom (names : NameChanges) (old new : Room) : Type 0 where
+pub record KeepsRoom (names : NameChanges) (old new : CatalogRoom) : Type 0 where
   pub groups : old.groups ≤ new.groups
   pub rows : old.rows ≤ new.rows
   pub variables : old.variables ≤ new.variables
@@ -62,7 +62,7 @@ pub record KeepsRoom (names : NameChanges) (old new : Room) : Type 0 where
   pub row_names : old.row_names ≤ new.row_names + put_count names.rows.items
 
 -- no room is gone
-pub record IsNoLess (old new : Room) : Type 0 where
+pub record IsNoLess (old new : CatalogRoom) : Type 0 where
   pub groups : old.groups ≤ new.groups
   pub rows : old.rows ≤ new.rows
   pub variables : old.variables ≤ new.variables

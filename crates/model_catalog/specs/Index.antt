@@ -87,8 +87,8 @@ counted row variable = record variable {
 }
 
 -- the counts are those with the row
-abbrev pub IsCounted : Option Row → Variable → Type 0
-IsCounted row variable =
+abbrev pub AreBoundsCounted : Option Row → Variable → Type 0
+AreBoundsCounted row variable =
     (bound_count (bounds_below variable.number) row ≤ variable.lower)
     × (bound_count (bounds_above variable.number) row ≤ variable.upper)
 

@@ -1,6 +1,6 @@
 -- What is kept of a model, and the model that it is.
 use Rattle.std.specs.Prelude.{◌≡◌, ℕ, List, Option}
-use Rattle.name_index.specs.NameTable.{Numbers, IsOneToOne}
+use Rattle.name_index.specs.NameTable.{NumbersByName, IsOneToOne}
 use Rattle.user_model.specs.Model.{ModelValue, total_terms}
 use Rattle.user_model.specs.Consistent.{IsConsistent, IsWithinLimits}
 use Rattle.model_catalog.specs.declared.catalog.Catalog.TheInside.{Inside}
@@ -31,13 +31,13 @@ catalog_of a = record {
 }
 
 -- the table has the names, and each has one number
-pub record HasNames (naming : ℕ → Option (List ℕ)) (table : Numbers) : Type 0 where
+pub record HasNames (naming : ℕ → Option (List ℕ)) (table : NumbersByName) : Type 0 where
   pub one_to_one : IsOneToOne table
   pub names : (n : ℕ) → name_of table n ≡ naming n
 
 -- the model is kept with its variables, the names of variables and of rows, and the number of its
 -- terms
-pub record Keeps (model : ModelValue) (kept : List Variable) (variable_table row_table : Numbers)
+pub record Keeps (model : ModelValue) (kept : List Variable) (variable_table row_table : NumbersByName)
     (count : ℕ) : Type 0 where
   pub consistent : IsConsistent model
   pub within : IsWithinLimits model
@@ -46,5 +46,5 @@ pub record Keeps (model : ModelValue) (kept : List Variable) (variable_table row
   pub row_names : HasNames (row_name model) row_table
   pub terms : count ≡ total_terms model
 
-abbrev pub IsKept : Inside → Type 0
-IsKept a = Keeps (model_of a) a.kept.items a.variable_names.numbers a.row_names.numbers a.terms
+abbrev pub IsCatalogKept : Inside → Type 0
+IsCatalogKept a = Keeps (model_of a) a.kept.items a.variable_names.numbers a.row_names.numbers a.terms

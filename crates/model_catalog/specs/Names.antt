@@ -2,7 +2,7 @@
 use Rattle.std.specs.Prelude.{◌≡◌, ℕ, ◌==◌, List, map, Option, Some, None, find, count_by, is_some}
 use Rattle.std.specs.FinMap.{entries}
 use Rattle.std.specs.Option.{option_map, option_map_or}
-use Rattle.name_index.specs.NameTable.{Numbers}
+use Rattle.name_index.specs.NameTable.{NumbersByName}
 use Rattle.numbered_list.specs.Numbered as numbered
 use Rattle.model_catalog.specs.declared.names.NameChange.{NameChange}
 
@@ -14,7 +14,7 @@ abbrev pub listed_as : ℕ → Option (List ℕ) → NameChange
 listed_as number name = record { number = number; name = name; aside = None }
 
 -- the name with a number in a table
-unfoldable pub name_of : Numbers → ℕ → Option (List ℕ)
+unfoldable pub name_of : NumbersByName → ℕ → Option (List ℕ)
 name_of numbers n = option_map (λ e. e.0) (find (λ e. e.1 == n) (entries numbers))
 
 -- the names where each number that is listed has what is given for it

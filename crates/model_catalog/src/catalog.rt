@@ -42,11 +42,11 @@ impl Model for Catalog {
 
     ghost coded = { catalog_code };
 
-    ghost use Rattle.model_catalog.specs.Kept.{IsKept, catalog_of};
+    ghost use Rattle.model_catalog.specs.Kept.{IsCatalogKept, catalog_of};
 
     ghost view = { catalog_of };
 
-    ghost invariant = { IsKept };
+    ghost invariant = { IsCatalogKept };
 }
 
 impl Catalog {

@@ -8,7 +8,7 @@ ghost use Rattle.user_model.specs.Model.{is_variable, variable_address};
 ghost use Rattle.aff_core.specs.Address.{address_eq};
 ghost use Rattle.user_model.specs.Sets as sets;
 ghost use Rattle.model_catalog.specs.Names.{listed_number, put_count};
-ghost use Rattle.model_catalog.specs.Index.{CountsBounds, IsCounted, SetsBounds, counted, given_variable, is_number, kept_count, listed_in, recounted, variable_number};
+ghost use Rattle.model_catalog.specs.Index.{AreBoundsCounted, CountsBounds, SetsBounds, counted, given_variable, is_number, kept_count, listed_in, recounted, variable_number};
 
 use crate::names::NameChange;
 use crate::variable::Variable;
@@ -148,7 +148,7 @@ fn count_bounds(kept: &mut Numbered<Variable>, row: Option<&Row>)
 fn discount_bounds(kept: &mut Numbered<Variable>, row: Option<&Row>)
     requires rising { Rise variable_number kept.old.items }
     requires counted { (n : ℕ) → IfSome (find variable_number n kept.old.items)
-        (λ v. IsCounted (option_copied row) v) }
+        (λ v. AreBoundsCounted (option_copied row) v) }
     ensures rising { Rise variable_number kept.new.items }
     ensures entries { (n : ℕ) → option_map (counted (option_copied row.entry))
         (find variable_number n kept.new.items) ≡ find variable_number n kept.old.items }

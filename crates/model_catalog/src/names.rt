@@ -1,7 +1,7 @@
 //! Tables of names, and exchanges of the names at some numbers.
 ghost use Rattle.std.specs.Prelude.{◌≡◌, ◌+◌, ◌<◌, ◌≤◌, ◌==◌, ℕ, cond, map, None, IsSome, IfSome, is_some};
 ghost use Rattle.std.specs.FinMap.{get};
-ghost use Rattle.name_index.specs.NameTable.{IsFree, IsOneToOne};
+ghost use Rattle.name_index.specs.NameTable.{IsNumberFree, IsOneToOne};
 ghost use Rattle.numbered_list.specs.Numbered.{Rise, find};
 ghost use Rattle.model_catalog.specs.Names.{AreDistinct, listed_as, listed_number, standing_names, name_of, put_aside, put_count, renamed_by, settled, without_names};
 

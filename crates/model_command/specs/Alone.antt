@@ -1,8 +1,8 @@
 -- The state in which a model is, before a solver is attached.
 use Rattle.std.specs.Prelude.{false, List}
-use Rattle.bridge_face.specs.State.{State as Box}
+use Rattle.bridge_face.specs.BridgeState.{BridgeState as Box}
 use Rattle.bridge_set.specs.Bridges.{setting_by}
-use Rattle.cache_layer.specs.State.{State}
+use Rattle.cache_layer.specs.CacheState.{CacheState}
 use Rattle.fresh_bridging.specs.TheRules.{Setting}
 use Rattle.item_core.specs.Table.{target_table}
 use Rattle.item_core.specs.declared.table.Target.TheVariants.{Standard}
@@ -13,5 +13,5 @@ abbrev pub standard_by : List Box → Setting
 standard_by bridges = setting_by (target_table Standard) bridges
 
 -- the model by itself
-abbrev pub alone : Setting → ModelValue → State
+abbrev pub alone : Setting → ModelValue → CacheState
 alone setting model = record { model = model; setting = setting; attached = false }

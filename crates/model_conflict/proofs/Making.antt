@@ -2,9 +2,9 @@
 use Rattle.std.proofs.Common.{◌≡◌, ℕ, Option, Some, None, refl, sym, ◌∙◌, Ok, Err}
 use Rattle.std.proofs.lemmas.Option.{none-some}
 use Rattle.bridge_graph.specs.Hypergraph.{IsCostly}
-use Rattle.bridged_rows_laws.specs.BridgedRows.{IsBridged, never_overflowing, never_unsupported}
+use Rattle.bridged_rows_laws.specs.BridgedRows.{HasFittingBridging, never_overflowing, never_unsupported}
 use Rattle.cache_layer.specs.Answers.{IsEdited}
-use Rattle.cache_layer.specs.State.{Bridging, State, with_model}
+use Rattle.cache_layer.specs.CacheState.{Bridging, CacheState, with_model}
 use Rattle.cache_layer.specs.declared.fault.EditFault.{EditFault}
 use Rattle.cache_layer.specs.declared.fault.EditFault.TheVariants.{Memory, Overflow, Refused, Unsupported}
 use Rattle.fresh_bridging.specs.CanLaws.{AreLawful}
@@ -18,7 +18,7 @@ use Rattle.user_model.specs.Valid.{IsValid}
 use Rattle.user_model.specs.declared.edit.Edit.{Edit}
 use Rattle.user_model.specs.declared.refusal.Refusal.{Refusal}
 
-module _ (old : State) (e : Edit) (new : State) (accepted : first_refusal old.model e ≡ None) where
+module _ (old : CacheState) (e : Edit) (new : CacheState) (accepted : first_refusal old.model e ≡ None) where
   pub not_refused : (refusal : Refusal) → IsEdited old e (Err (Refused refusal)) new → ⊥
   not_refused refusal h = none-some refusal (sym accepted ∙ h.0)
 
@@ -30,7 +30,7 @@ module _ (old : State) (e : Edit) (new : State) (accepted : first_refusal old.mo
 
   module _ (costly : IsCostly (graph_of old.setting)) (lawful : AreLawful old.setting)
       (valid : IsValid old.model) (b : Bridging (with_model old (edited old.model e))) where
-    bridged : IsBridged old.setting (edited old.model e)
+    bridged : HasFittingBridging old.setting (edited old.model e)
     bridged = record { bridging = b.bridging; made = b.made }
 
     pub not_unsupported : (kind : Kind) → IsEdited old e (Err (Unsupported kind)) new → ⊥

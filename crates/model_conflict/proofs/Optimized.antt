@@ -2,15 +2,15 @@
 use Rattle.std.proofs.Common.{◌≡◌, ℕ, true, false, inl, inr, subst, sym, ◌∙◌, Ok, Err}
 use Rattle.std.specs.Prelude.{Result}
 use Rattle.cache_layer.specs.Outcome.{IsOptimized}
-use Rattle.cache_layer.specs.State.{State}
+use Rattle.cache_layer.specs.CacheState.{CacheState}
 use Rattle.cache_layer.specs.declared.fault.OptFault.{OptFault}
 use Rattle.cache_layer.specs.declared.fault.OptFault.TheVariants as fault
 use Rattle.certificates.specs.Good.{Good}
 use Rattle.certificates.specs.GoodLaws.{bounded_without_objective}
 use Rattle.certificates.specs.declared.certificate.Certificate.{Certificate}
 use Rattle.certificates.specs.declared.certificate.Certificate.TheVariants.{Infeasible, Optimal, Unbounded}
-use Rattle.model_conflict.specs.Optima.{IsBounded, IsOptimumOf, TellsOptimum}
-use Rattle.model_conflict.specs.Walk.{Finds, FindsFrom, Gives, found_as, infeasible_by}
+use Rattle.model_conflict.specs.Optima.{IsNotUnbounded, IsOptimumOf, TellsOptimum}
+use Rattle.model_conflict.specs.Walk.{Finds, FindsFrom, GivesGood, found_as, infeasible_by}
 use Rattle.model_conflict.specs.declared.found.Found.{Found}
 use Rattle.model_conflict.specs.declared.found.Found.TheVariants.{Conflict, Feasible}
 use Rattle.model_conflict.specs.declared.optimizing.Duals.{Duals}
@@ -21,12 +21,12 @@ use Rattle.user_model.specs.declared.objective.Objective.TheVariants.{Feasibilit
 
 -- a good certificate of a model without an objective has no ray
 pub bounded : (model : ModelValue) → model.objective ≡ Feasibility → (certificate : Certificate)
-    → Good model certificate → IsBounded certificate
+    → Good model certificate → IsNotUnbounded certificate
 bounded model bare (Optimal value x rows vars) good = tt
 bounded model bare (Infeasible gap rows vars) good = tt
 bounded model bare (Unbounded x d) good = bounded_without_objective model bare x d good
 
-module _ (s : State) (pivots : ℕ) where
+module _ (s : CacheState) (pivots : ℕ) where
   pub tells_given : (certificate : Certificate) (told : Optimum)
       → IsOptimized s pivots (Ok certificate) → Good s.model certificate
       → IsOptimumOf certificate told → TellsOptimum s pivots (Ok told)
@@ -65,7 +65,7 @@ module _ (s : State) (pivots : ℕ) where
   fault_found (fault.Limit n) h = inl h
   fault_found fault.Memory h = tt
 
-  pub walk_found : (duals : Duals) → Gives s pivots (infeasible_by duals)
+  pub walk_found : (duals : Duals) → GivesGood s pivots (infeasible_by duals)
       → (result : Result Found OptFault) → FindsFrom s pivots duals result
       → Finds s pivots result
   walk_found duals first (Ok (Feasible x)) h = absurd (never h.2)

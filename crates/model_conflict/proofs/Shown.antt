@@ -5,14 +5,14 @@ use Rattle.std.specs.Prelude.{All, IfOk, Result}
 use Rattle.std.proofs.lemmas.List.{map-append}
 use Rattle.std.proofs.lemmas.List.Elements.{All-append, All-cons, All-head, All-nil, All-tail}
 use Rattle.map_laws.specs.EachLaws.{all_first, all_second}
-use Rattle.cache_layer.specs.State.{State}
+use Rattle.cache_layer.specs.CacheState.{CacheState}
 use Rattle.cache_layer.specs.declared.fault.OptFault.{OptFault}
 use Rattle.certificates.specs.Feasible.{IsFeasible}
 use Rattle.certificates.specs.Good.{IsInfeasible}
 use Rattle.conflict_laws.specs.Contents.{AreSame, RowMeets, all_same, feasible_with, infeasible_with, plain}
 use Rattle.conflict_laws.specs.Rotated.{rotated_infeasible}
-use Rattle.model_conflict.specs.Conflict.{EachIsNeeded, IsSublist, NeededRow, Shows, left, none, rows_of, taken, with_rows_alone}
-use Rattle.model_conflict.specs.Walk.{End, Finds, Walks, WalksAll, ended, found_as, left_out, needed, stopped, with_kept, with_last, with_rows}
+use Rattle.model_conflict.specs.Conflict.{EachIsNeeded, IsSublist, NeededRow, ShowsFound, left, none, rows_of, taken, with_rows_alone}
+use Rattle.model_conflict.specs.Walk.{Finds, WalkEnd, Walks, WalksAll, ended, found_as, left_out, needed, stopped, with_kept, with_last, with_rows}
 use Rattle.model_conflict.specs.declared.optimizing.Duals.{Duals}
 use Rattle.model_conflict.specs.declared.found.Found.{Found}
 use Rattle.model_conflict.specs.declared.found.Found.TheVariants.{Conflict, Feasible}
@@ -35,7 +35,7 @@ others_same r l rs ls e = cc
 
 module _ (model : ModelValue) where
   -- the state's rows are those that are still to be tried, and then some again
-  record IsAt (s : State) (n : ℕ) (rows again : List Row) (duals : Duals) : Type 0 where
+  record IsAt (s : CacheState) (n : ℕ) (rows again : List Row) (duals : Duals) : Type 0 where
     groups : s.model.groups ≡ model.groups
     later : List Row
     rows_are : s.model.rows ≡ rows ++ later
@@ -49,19 +49,19 @@ module _ (model : ModelValue) where
         IsInfeasible (with_rows_alone model (again ++ rows_of kept)) last.gap last.rows last.vars
     without : EachIsNeeded model again kept
 
-  abbrev ShownEnd : List Row → List Row → End → Type 0
+  abbrev ShownEnd : List Row → List Row → WalkEnd → Type 0
   ShownEnd rows again (Ok all) = Shown rows again all.0 all.1
   ShownEnd rows again (Err why) = Unit {0}
 
   -- a row that is left out
-  one_left : (l : Row) (rows again : List Row) (end : End) → ShownEnd rows again end
+  one_left : (l : Row) (rows again : List Row) (end : WalkEnd) → ShownEnd rows again end
       → ShownEnd (l ∷ rows) again end
   one_left l rows again (Ok all) h =
       record { some = left h.some; infeasible = h.infeasible; without = h.without }
   one_left l rows again (Err why) h = tt
 
   -- a row that is needed
-  one_kept : (l : Row) (x : List Rational) (rows again : List Row) (end : End)
+  one_kept : (l : Row) (x : List Rational) (rows again : List Row) (end : WalkEnd)
       → All (RowMeets model.groups x) rows → All (RowMeets model.groups x) again
       → ((others : List Row) → All (RowMeets model.groups x) others
       → IsFeasible (with_rows_alone model others) x)
@@ -81,7 +81,7 @@ module _ (model : ModelValue) where
   }
   one_kept l x rows again (Err why) meets meet feasible h = tt
 
-  walk_shown : {pivots n : ℕ} {s : State} {duals : Duals} {end : End}
+  walk_shown : {pivots n : ℕ} {s : CacheState} {duals : Duals} {end : WalkEnd}
       → Walks pivots n s duals end → (rows again : List Row) → IsAt s n rows again duals
       → ShownEnd rows again end
   walk_shown (ended {s} {duals}) [] again at = record {
@@ -145,15 +145,16 @@ module _ (model : ModelValue) where
             at.infeasible;
       }))
     where
-      again_row : State → Row → Row
+      again_row : CacheState → Row → Row
       again_row s row =
           record { id = s.model.next.row; name = row.name; func = row.func; set = row.set }
   walk_shown (stopped whole outcome) rows again at = tt
 
 -- ---- from the first row on
 
-walk_shows : (s : State) (pivots : ℕ) (all : List NeededRow × Duals) → WalksAll s pivots (Ok all)
-    → Shows s.model (found_as all)
+walk_shows : (s : CacheState) (pivots : ℕ) (all : List NeededRow × Duals)
+    → WalksAll s pivots (Ok all)
+    → ShowsFound s.model (found_as all)
 walk_shows s pivots all h =
     let shown = walk_shown s.model h.walks s.model.rows [] record {
       groups = refl;
@@ -173,9 +174,9 @@ walk_shows s pivots all h =
       refl,
     )
 
-pub found_shows : (s : State) (pivots : ℕ) (result : Result Found OptFault)
-    → Finds s pivots result → IfOk result (Shows s.model)
+pub found_shows : (s : CacheState) (pivots : ℕ) (result : Result Found OptFault)
+    → Finds s pivots result → IfOk result (ShowsFound s.model)
 found_shows s pivots (Ok (Feasible x)) h = h.3.good.feasible
 found_shows s pivots (Ok (Conflict names certificate points)) h =
-    subst (Shows s.model) (sym h.2) (walk_shows s pivots h.0 h.1)
+    subst (ShowsFound s.model) (sym h.2) (walk_shows s pivots h.0 h.1)
 found_shows s pivots (Err why) h = tt

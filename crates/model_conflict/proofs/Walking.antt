@@ -1,12 +1,12 @@
 -- A walk that has come so far, and one row more.
 use Rattle.std.proofs.Common.{◌≡◌, ℕ, suc, ◌+◌, ◌≤◌, ◌<◌, List, [], ◌∷◌, ◌++◌, length, map, ap, append-nil, append_assoc, arith, refl, subst, sym, ◌∙◌, Ok, Err}
 use Rattle.std.proofs.lemmas.List.{map-append}
-use Rattle.cache_layer.specs.State.{State}
+use Rattle.cache_layer.specs.CacheState.{CacheState}
 use Rattle.cache_layer.specs.declared.fault.OptFault.{OptFault}
 use Rattle.cache_layer.specs.declared.fault.OptFault.TheVariants as fault
 use Rattle.model_conflict.specs.Conflict.{NeededRow, rows_of}
 use Rattle.model_conflict.specs.Steps.{CanWalk, IsFirstRow, Tries, TriesFirst, left_out as stays_out, needed as is_needed}
-use Rattle.model_conflict.specs.Walk.{End, FindsFrom, Walks, ended, infeasible_by, left_out, needed, stopped, with_kept, with_last, with_rows}
+use Rattle.model_conflict.specs.Walk.{FindsFrom, WalkEnd, Walks, ended, infeasible_by, left_out, needed, stopped, with_kept, with_last, with_rows}
 use Rattle.model_conflict.specs.declared.found.Found.TheVariants.{Conflict}
 use Rattle.model_conflict.specs.declared.optimizing.Duals.{Duals}
 use Rattle.model_conflict.specs.declared.trials.Walked.{Walked}
@@ -14,15 +14,15 @@ use Rattle.ratio_core.specs.Rational.{Rational}
 use Rattle.user_model.specs.declared.row.Row.{Row}
 
 -- these rows were needed before
-abbrev before : List NeededRow → End → End
+abbrev before : List NeededRow → WalkEnd → WalkEnd
 before kept (Ok all) = Ok (kept ++ all.0, all.1)
 before kept (Err why) = Err why
 
-before_none : (end : End) → before [] end ≡ end
+before_none : (end : WalkEnd) → before [] end ≡ end
 before_none (Ok all) = refl
 before_none (Err why) = refl
 
-before_more : (kept : List NeededRow) (k : NeededRow) (end : End)
+before_more : (kept : List NeededRow) (k : NeededRow) (end : WalkEnd)
     → before kept (with_kept k end) ≡ before (kept ++ k ∷ []) end
 before_more kept k (Ok all) = ap (λ ks. Ok (ks, all.1)) (sym (append_assoc kept (k ∷ []) all.0))
 before_more kept k (Err why) = refl
@@ -33,9 +33,9 @@ name_of r = r.name
 abbrev point_of : NeededRow → List Rational
 point_of k = k.point
 
-module _ (start : State) (pivots : ℕ) (first : Duals) where
+module _ (start : CacheState) (pivots : ℕ) (first : Duals) where
   -- `done` rows were tried
-  pub record WalkedSoFar (done : ℕ) (now : State) (walked : Walked) : Type 0 where
+  pub record WalkedSoFar (done : ℕ) (now : CacheState) (walked : Walked) : Type 0 where
     pub rows : List Row
     pub later : List Row
     pub rows_are : now.model.rows ≡ rows ++ later
@@ -47,7 +47,7 @@ module _ (start : State) (pivots : ℕ) (first : Duals) where
     pub kept_names : walked.rows ≡ map name_of (rows_of kept)
     pub kept_points : walked.points ≡ map point_of kept
     pub goes_on :
-        (end : End) → Walks pivots (length rows) now walked.duals end
+        (end : WalkEnd) → Walks pivots (length rows) now walked.duals end
         → Walks pivots (length start.model.rows) start first (before kept end)
 
   pub at_start : CanWalk start (length start.model.rows) → (walked : Walked) → walked.rows ≡ []
@@ -70,13 +70,13 @@ module _ (start : State) (pivots : ℕ) (first : Duals) where
 
   -- ---- one row more
 
-  pub record HasFirst (done : ℕ) (now : State) (walked : Walked) : Type 0 where
+  pub record HasFirst (done : ℕ) (now : CacheState) (walked : Walked) : Type 0 where
     pub row : Row
     pub others : List Row
     pub later : List Row
     pub stands : IsFirstRow now.model row (others ++ later)
 
-  pub has_first : (done : ℕ) (now : State) (walked : Walked) → WalkedSoFar done now walked
+  pub has_first : (done : ℕ) (now : CacheState) (walked : Walked) → WalkedSoFar done now walked
       → done < length start.model.rows → HasFirst done now walked
   has_first done now walked w more = by w.rows w.rows_are w.long
     where
@@ -87,7 +87,7 @@ module _ (start : State) (pivots : ℕ) (first : Duals) where
           record { row = r; others = rows; later = w.later; stands = record { whole = is } }
 
   -- there is one to be tried
-  pub can_try : (done : ℕ) (now : State) (walked : Walked) → WalkedSoFar done now walked
+  pub can_try : (done : ℕ) (now : CacheState) (walked : Walked) → WalkedSoFar done now walked
       → done < length start.model.rows → CanWalk now 1
   can_try done now walked w more = record {
     attached = w.can.attached;
@@ -95,14 +95,14 @@ module _ (start : State) (pivots : ℕ) (first : Duals) where
     room = (let room = w.can.room in let long = w.long in omega (arith, room, long, more));
   }
 
-  pub is_first_row : (done : ℕ) (now : State) (walked : Walked) → WalkedSoFar done now walked
+  pub is_first_row : (done : ℕ) (now : CacheState) (walked : Walked) → WalkedSoFar done now walked
       → done < length start.model.rows
       → (row : Row) × (rest : List Row) × IsFirstRow now.model row rest
   is_first_row done now walked w more =
       let first = has_first done now walked w more in
       (first.row, first.others ++ first.later, first.stands)
 
-  module _ (done : ℕ) (now : State) (walked : Walked) (w : WalkedSoFar done now walked) (row : Row)
+  module _ (done : ℕ) (now : CacheState) (walked : Walked) (w : WalkedSoFar done now walked) (row : Row)
       (others : List Row) (rows_are : w.rows ≡ row ∷ others) where
     whole : now.model.rows ≡ row ∷ (others ++ w.later)
     whole = w.rows_are ∙ ap (λ rs. rs ++ w.later) rows_are
@@ -110,7 +110,7 @@ module _ (start : State) (pivots : ℕ) (first : Duals) where
     count_is : length w.rows ≡ suc (length others)
     count_is = ap length rows_are
 
-    on : (end : End) → Walks pivots (suc (length others)) now walked.duals end
+    on : (end : WalkEnd) → Walks pivots (suc (length others)) now walked.duals end
         → Walks pivots (length start.model.rows) start first (before w.kept end)
     on end walks =
         w.goes_on end (subst (λ n. Walks pivots n now walked.duals end) (sym count_is) walks)
@@ -118,7 +118,7 @@ module _ (start : State) (pivots : ℕ) (first : Duals) where
     left_long : length others + suc done ≡ length start.model.rows
     left_long = let long = w.long in let count = count_is in omega (arith, long, count)
 
-    stepped : (new : State) (after : Walked)
+    stepped : (new : CacheState) (after : Walked)
         → TriesFirst now pivots row (others ++ w.later) walked new after
         → WalkedSoFar (suc done) new after
     stepped new after (stays_out duals gives is now_is) =
@@ -174,7 +174,7 @@ module _ (start : State) (pivots : ℕ) (first : Duals) where
               (on (with_kept this end) (needed whole value x rows vars gives walks));
         })
 
-    failed : (why : OptFault) (new : State) (after : Walked)
+    failed : (why : OptFault) (new : CacheState) (after : Walked)
         → Tries now pivots row (others ++ w.later) walked (Err why) new after
         → FindsFrom start pivots first (Err why)
     failed (fault.TooLarge cells) new after h =
@@ -187,7 +187,7 @@ module _ (start : State) (pivots : ℕ) (first : Duals) where
 
   -- ---- no row more
 
-  pub all_tried : (done : ℕ) (now : State) (walked : Walked) → WalkedSoFar done now walked
+  pub all_tried : (done : ℕ) (now : CacheState) (walked : Walked) → WalkedSoFar done now walked
       → length start.model.rows ≤ done
       → FindsFrom start pivots first (Ok (Conflict walked.rows (infeasible_by walked.duals)
       walked.points))
@@ -196,7 +196,7 @@ module _ (start : State) (pivots : ℕ) (first : Duals) where
     where
       by : (rows : List Row) → now.model.rows ≡ rows ++ w.later
           → length rows + done ≡ length start.model.rows
-          → ((end : End) → Walks pivots (length rows) now walked.duals end
+          → ((end : WalkEnd) → Walks pivots (length rows) now walked.duals end
           → Walks pivots (length start.model.rows) start first (before w.kept end))
           → FindsFrom start pivots first (Ok (Conflict walked.rows (infeasible_by walked.duals)
           walked.points))
@@ -213,8 +213,8 @@ module _ (start : State) (pivots : ℕ) (first : Duals) where
       by (r ∷ rows) is long on = absurd (omega (arith, long, all))
 
   -- the first row is tried
-  pub one_more : (done : ℕ) (now : State) (walked : Walked) → WalkedSoFar done now walked
-      → (new : State) (after : Walked)
+  pub one_more : (done : ℕ) (now : CacheState) (walked : Walked) → WalkedSoFar done now walked
+      → (new : CacheState) (after : Walked)
       → ((row : Row) (rest : List Row) → IsFirstRow now.model row rest
       → Tries now pivots row rest walked (Ok tt) new after)
       → done < length start.model.rows → WalkedSoFar (done + 1) new after
@@ -228,8 +228,8 @@ module _ (start : State) (pivots : ℕ) (first : Duals) where
           (stepped done now walked w row others is new after
           (tries row (others ++ w.later) (record { whole = whole done now walked w row others is })))
 
-  pub one_failed : (done : ℕ) (now : State) (walked : Walked) → WalkedSoFar done now walked
-      → (why : OptFault) (new : State) (after : Walked)
+  pub one_failed : (done : ℕ) (now : CacheState) (walked : Walked) → WalkedSoFar done now walked
+      → (why : OptFault) (new : CacheState) (after : Walked)
       → ((row : Row) (rest : List Row) → IsFirstRow now.model row rest
       → Tries now pivots row rest walked (Err why) new after)
       → done < length start.model.rows → FindsFrom start pivots first (Err why)

@@ -58,8 +58,8 @@ conflict_of kept certificate =
     Conflict (map (λ r. r.name) (rows_of kept)) certificate (map (λ k. k.point) kept)
 
 -- what is found is a feasible point, or a conflict
-abbrev pub Shows : ModelValue → Found → Type 0
-Shows model (Feasible x) = IsFeasible model x
-Shows model (Conflict names certificate points) =
+abbrev pub ShowsFound : ModelValue → Found → Type 0
+ShowsFound model (Feasible x) = IsFeasible model x
+ShowsFound model (Conflict names certificate points) =
     (kept : List NeededRow) × IsConflict model kept certificate
     × (Conflict names certificate points ≡ conflict_of kept certificate)

@@ -1,11 +1,11 @@
 -- The steps of a walk, as the code makes them.
 use Rattle.std.specs.Prelude.{◌≡◌, ◌≤◌, ◌+◌, ℕ, true, List, [], ◌∷◌, ◌++◌, Result, Ok, Err}
 use Rattle.cache_layer.specs.Outcome.{IsOptimized}
-use Rattle.cache_layer.specs.State.{State}
+use Rattle.cache_layer.specs.CacheState.{CacheState}
 use Rattle.cache_layer.specs.declared.fault.OptFault.{OptFault}
 use Rattle.cache_layer.specs.declared.fault.OptFault.TheVariants.{Memory, NotAttached}
 use Rattle.certificates.specs.declared.certificate.Certificate.TheVariants.{Optimal}
-use Rattle.model_conflict.specs.Walk.{Gives, infeasible_by, rotated, with_last, with_rows}
+use Rattle.model_conflict.specs.Walk.{GivesGood, infeasible_by, rotated, with_last, with_rows}
 use Rattle.model_conflict.specs.declared.optimizing.Duals.{Duals}
 use Rattle.model_conflict.specs.declared.trials.Trial.{Trial}
 use Rattle.model_conflict.specs.declared.trials.Walked.{Walked}
@@ -30,7 +30,7 @@ pub record IsTrialOf (model : ModelValue) (row : Row) (trial : Trial) : Type 0 w
 
 -- a state of the walk: a solver is attached, there is no objective, and there is room for n further
 -- row numbers
-pub record CanWalk (s : State) (n : ℕ) : Type 0 where
+pub record CanWalk (s : CacheState) (n : ℕ) : Type 0 where
   pub attached : s.attached ≡ true
   pub bare : s.model.objective ≡ Feasibility
   pub room : s.model.next.row + n ≤ LAST_NUMBER + 1
@@ -45,19 +45,20 @@ with_needed was name x = record {
 }
 
 -- a row was tried: it is left out, or it is needed and is added again
-pub data TriesFirst (old : State) (pivots : ℕ) (row : Row) (rest : List Row) (was : Walked)
-    : State → Walked → Type 0 where
-  left_out : (duals : Duals) → Gives (with_rows old rest) pivots (infeasible_by duals)
-      → {new : State} → new ≡ with_rows old rest
+pub data TriesFirst (old : CacheState) (pivots : ℕ) (row : Row) (rest : List Row) (was : Walked)
+    : CacheState → Walked → Type 0 where
+  left_out : (duals : Duals) → GivesGood (with_rows old rest) pivots (infeasible_by duals)
+      → {new : CacheState} → new ≡ with_rows old rest
       → {now : Walked} → now ≡ record was { duals = duals }
       → TriesFirst old pivots row rest was new now
   needed : (value : Rational) (x : List Rational) (rows : List (List Rational))
-      (vars : List Rational) → Gives (with_rows old rest) pivots (Optimal value x rows vars)
-      → {new : State} → new ≡ with_last (with_rows old rest) row
+      (vars : List Rational) → GivesGood (with_rows old rest) pivots (Optimal value x rows vars)
+      → {new : CacheState} → new ≡ with_last (with_rows old rest) row
       → {now : Walked} → now ≡ with_needed was row.name x
       → TriesFirst old pivots row rest was new now
 
-abbrev pub Tries : State → ℕ → Row → List Row → Walked → Result Unit OptFault → State → Walked
+abbrev pub Tries : CacheState → ℕ → Row → List Row → Walked → Result Unit OptFault → CacheState
+    → Walked
     → Type 0
 Tries old pivots row rest was (Ok done) new now = TriesFirst old pivots row rest was new now
 Tries old pivots row rest was (Err Memory) new now = Unit {0}

@@ -9,7 +9,7 @@
 --                                    where it has no feasible point
 use Rattle.std.specs.Prelude.{◌≡◌, ◌⊎◌, ℕ, suc, List, [], ◌∷◌, Result, Ok, Err, length, map}
 use Rattle.cache_layer.specs.Outcome.{IsOptimized}
-use Rattle.cache_layer.specs.State.{State, with_model}
+use Rattle.cache_layer.specs.CacheState.{CacheState, with_model}
 use Rattle.cache_layer.specs.declared.fault.OptFault.{OptFault}
 use Rattle.cache_layer.specs.declared.fault.OptFault.TheVariants.{Memory, NotAttached}
 use Rattle.certificates.specs.Good.{Good}
@@ -28,7 +28,7 @@ use Rattle.user_model.specs.declared.row.Row.{Row}
 -- ---- answers
 
 -- an optimise of the state gives this certificate, and it is good
-pub record Gives (s : State) (pivots : ℕ) (certificate : Certificate) : Type 0 where
+pub record GivesGood (s : CacheState) (pivots : ℕ) (certificate : Certificate) : Type 0 where
   pub outcome : IsOptimized s pivots (Ok certificate)
   pub good : Good s.model certificate
 
@@ -42,38 +42,38 @@ rotated duals = record duals { rows = rotated_list duals.rows }
 
 -- ---- models
 
-abbrev pub with_rows : State → List Row → State
+abbrev pub with_rows : CacheState → List Row → CacheState
 with_rows s rows = with_model s (record s.model { rows = rows })
 
 -- the row once more, last and under the next number
-abbrev pub with_last : State → Row → State
+abbrev pub with_last : CacheState → Row → CacheState
 with_last s row = with_model s (add_row s.model row.name row.func row.set)
 
 -- ---- the walk
 
 -- the rows that are needed, each with its point, and the duals of them all; or why an optimise
 -- gives no certificate
-abbrev pub End : Type 0
-End = Result (List NeededRow × Duals) OptFault
+abbrev pub WalkEnd : Type 0
+WalkEnd = Result (List NeededRow × Duals) OptFault
 
-abbrev pub with_kept : NeededRow → End → End
+abbrev pub with_kept : NeededRow → WalkEnd → WalkEnd
 with_kept k (Ok (kept, duals)) = Ok (k ∷ kept, duals)
 with_kept k (Err fault) = Err fault
 
-pub data Walks (pivots : ℕ) : ℕ → State → Duals → End → Type 0 where
-  ended : {s : State} {duals : Duals} → Walks pivots 0 s duals (Ok ([], duals))
-  left_out : {n : ℕ} {s : State} {duals : Duals} {end : End} {row : Row} {rest : List Row}
+pub data Walks (pivots : ℕ) : ℕ → CacheState → Duals → WalkEnd → Type 0 where
+  ended : {s : CacheState} {duals : Duals} → Walks pivots 0 s duals (Ok ([], duals))
+  left_out : {n : ℕ} {s : CacheState} {duals : Duals} {end : WalkEnd} {row : Row} {rest : List Row}
       → s.model.rows ≡ row ∷ rest → (others : Duals)
-      → Gives (with_rows s rest) pivots (infeasible_by others)
+      → GivesGood (with_rows s rest) pivots (infeasible_by others)
       → Walks pivots n (with_rows s rest) others end → Walks pivots (suc n) s duals end
-  needed : {n : ℕ} {s : State} {duals : Duals} {end : End} {row : Row} {rest : List Row}
+  needed : {n : ℕ} {s : CacheState} {duals : Duals} {end : WalkEnd} {row : Row} {rest : List Row}
       → s.model.rows ≡ row ∷ rest
       → (value : Rational) (x : List Rational) (rows : List (List Rational))
       → (vars : List Rational)
-      → Gives (with_rows s rest) pivots (Optimal value x rows vars)
+      → GivesGood (with_rows s rest) pivots (Optimal value x rows vars)
       → Walks pivots n (with_last (with_rows s rest) row) (rotated duals) end
       → Walks pivots (suc n) s duals (with_kept (record { row = row; point = x }) end)
-  stopped : {n : ℕ} {s : State} {duals : Duals} {row : Row} {rest : List Row}
+  stopped : {n : ℕ} {s : CacheState} {duals : Duals} {row : Row} {rest : List Row}
       → s.model.rows ≡ row ∷ rest → {fault : OptFault}
       → IsOptimized (with_rows s rest) pivots (Err fault)
       → Walks pivots (suc n) s duals (Err fault)
@@ -81,9 +81,9 @@ pub data Walks (pivots : ℕ) : ℕ → State → Duals → End → Type 0 where
 -- ---- from the whole model on
 
 -- the model has no feasible point, and the walk over all its rows ends so
-pub record WalksAll (s : State) (pivots : ℕ) (end : End) : Type 0 where
+pub record WalksAll (s : CacheState) (pivots : ℕ) (end : WalkEnd) : Type 0 where
   pub duals : Duals
-  pub first : Gives s pivots (infeasible_by duals)
+  pub first : GivesGood s pivots (infeasible_by duals)
   pub walks : Walks pivots (length s.model.rows) s duals end
 
 -- the conflict that a walk ends with
@@ -91,10 +91,10 @@ abbrev pub found_as : List NeededRow × Duals → Found
 found_as all = conflict_of all.0 (infeasible_by all.1)
 
 -- a fault is that of the first optimise that gives no certificate, and a solver is attached
-abbrev pub Finds : State → ℕ → Result Found OptFault → Type 0
+abbrev pub Finds : CacheState → ℕ → Result Found OptFault → Type 0
 Finds s pivots (Ok (Feasible x)) =
     (value : Rational) × (rows : List (List Rational)) × (vars : List Rational)
-    × Gives s pivots (Optimal value x rows vars)
+    × GivesGood s pivots (Optimal value x rows vars)
 Finds s pivots (Ok (Conflict names certificate points)) =
     (all : List NeededRow × Duals) × WalksAll s pivots (Ok all)
     × (Conflict names certificate points ≡ found_as all)
@@ -105,7 +105,7 @@ Finds s pivots (Err fault) = IsOptimized s pivots (Err fault) ⊎ WalksAll s piv
 -- ---- what the code that walks says
 
 -- the walk ends so from these duals on
-abbrev pub FindsFrom : State → ℕ → Duals → Result Found OptFault → Type 0
+abbrev pub FindsFrom : CacheState → ℕ → Duals → Result Found OptFault → Type 0
 FindsFrom s pivots duals (Ok found) =
     (all : List NeededRow × Duals) × Walks pivots (length s.model.rows) s duals (Ok all)
     × (found ≡ found_as all)

@@ -1,7 +1,7 @@
 //! The conflict of an attached model.
 ghost use Rattle.std.specs.Prelude.{◌≡◌, ◌≤◌, ◌+◌, IfOk, OnOk, length, map, true};
 ghost use Rattle.cache_layer.specs.Cached.{model_in, state_of};
-ghost use Rattle.model_conflict.specs.Conflict.{Shows};
+ghost use Rattle.model_conflict.specs.Conflict.{ShowsFound};
 ghost use Rattle.model_conflict.specs.Steps.{CanWalk};
 ghost use Rattle.model_conflict.specs.Walk.{Finds, NamesRows};
 
@@ -22,7 +22,7 @@ pub type ConflictFault = OptFault;
 pub fn find<B: Bridge>(cache: Cache<B>, pivots: u64) -> Result<Found, ConflictFault>
     requires { CanWalk (state_of cache) (length (model_in cache).rows) }
     ensures finds { Finds (state_of cache) pivots result }
-    ensures shows { IfOk result (Shows (model_in cache)) }
+    ensures shows { IfOk result (ShowsFound (model_in cache)) }
 {
     let mut cache = cache;
     find_in(&mut cache, pivots)
@@ -33,7 +33,7 @@ pub fn find<B: Bridge>(cache: Cache<B>, pivots: u64) -> Result<Found, ConflictFa
 pub fn find_in<B: Bridge>(cache: &mut Cache<B>, pivots: u64) -> Result<Found, ConflictFault>
     requires { CanWalk (state_of cache.old) (length (model_in cache.old).rows) }
     ensures finds { Finds (state_of cache.old) pivots result }
-    ensures shows { IfOk result (Shows (model_in cache.old)) }
+    ensures shows { IfOk result (ShowsFound (model_in cache.old)) }
     ensures groups { OnOk result ((model_in cache.new).groups ≡ (model_in cache.old).groups) }
     ensures rows { IfOk result (NamesRows (model_in cache.new)) }
 {

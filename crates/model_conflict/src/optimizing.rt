@@ -1,7 +1,7 @@
 //! What an optimise of a model without an objective gives.
 ghost use Rattle.std.specs.Prelude.{◌≡◌, true};
 ghost use Rattle.cache_layer.specs.Cached.{model_in, state_of};
-ghost use Rattle.model_conflict.specs.Optima.{IsBounded, IsOptimumOf, TellsOptimum};
+ghost use Rattle.model_conflict.specs.Optima.{IsNotUnbounded, IsOptimumOf, TellsOptimum};
 ghost use Rattle.user_model.specs.declared.objective.Objective.TheVariants.{Feasibility};
 
 use bridge_face::Bridge;
@@ -39,7 +39,7 @@ pub(crate) fn optimize<B: Bridge>(cache: &Cache<B>, pivots: u64) -> Result<Optim
 
 // What a certificate gives that has no ray.
 fn optimum_of(certificate: Certificate) -> Optimum
-    requires { IsBounded certificate }
+    requires { IsNotUnbounded certificate }
     ensures { IsOptimumOf certificate result }
 {
     match certificate {

@@ -1,10 +1,10 @@
 //! The walk over the rows of a model that has no feasible point.
 ghost use Rattle.std.specs.Prelude.{◌≡◌, ◌++◌, ◌∷◌, [], None, IfErr, IfOk, true, List, OnOk, length};
 ghost use Rattle.cache_layer.specs.Cached.{model_in, state_of};
-ghost use Rattle.cache_layer.specs.State.{Bridging, with_model};
+ghost use Rattle.cache_layer.specs.CacheState.{Bridging, with_model};
 ghost use Rattle.model_conflict.specs.Steps.{CanWalk, IsTrialOf, IsFirstRow, Tries, with_needed};
 ghost use Rattle.conflict_laws.specs.Rotated.{rotated_list};
-ghost use Rattle.model_conflict.specs.Walk.{FindsFrom, Gives, NamesRows, infeasible_by, rotated};
+ghost use Rattle.model_conflict.specs.Walk.{FindsFrom, GivesGood, NamesRows, infeasible_by, rotated};
 ghost use Rattle.user_model.specs.Edited.{edited};
 ghost use Rattle.user_model.specs.Refusals.{first_refusal};
 ghost use Rattle.user_model.specs.Valid.{IsValid, IsValidRow};
@@ -19,7 +19,7 @@ use lists::{Duplicate, Memory, Sequence};
 use model_store::UserModel;
 use name_index::{Name, Names};
 use ratio_core::Ratios;
-use row_again_laws::row_edit;
+use row_again::row_edit;
 use std::alloc::Global;
 use std::mem;
 use user_model::{Edit, Row};
@@ -47,7 +47,7 @@ pub(crate) fn walk<B: Bridge>(
     duals: Duals,
 ) -> Result<Found, OptFault>
     requires can { CanWalk (state_of cache.old) (length (model_in cache.old).rows) }
-    requires duals { Gives (state_of cache.old) pivots (infeasible_by duals) }
+    requires duals { GivesGood (state_of cache.old) pivots (infeasible_by duals) }
     ensures finds { FindsFrom (state_of cache.old) pivots duals result }
     ensures rows { IfOk result (NamesRows (model_in cache.new)) }
     ensures groups { OnOk result ((model_in cache.new).groups ≡ (model_in cache.old).groups) }

@@ -3,7 +3,7 @@ use Rattle.std.specs.Prelude.{◌≡◌, ◌+◌, ℕ, List, [], ◌∷◌, ◌+
 use Rattle.std.specs.Option.{option_map_or}
 use Rattle.std.proofs.Common.{ap, arith, sym, subst, ◌∙◌}
 use Rattle.std.proofs.lemmas.List.{length-append, reverse-append}
-use Rattle.model_store.specs.Store.{IsButLast, Stored, refusal_of}
+use Rattle.model_store.specs.Store.{IsButLast, StoredModel, refusal_of}
 use Rattle.model_store.specs.StoreLaws.{left_front}
 use Rattle.user_model.specs.Edited.{edited}
 use Rattle.user_model.specs.Model.{ModelValue}
@@ -14,14 +14,14 @@ use Rattle.user_model.specs.declared.refusal.ApplyFault.{ApplyFault}
 use Rattle.user_model.specs.declared.refusal.Refusal.{Refusal as EditRefusal}
 use Rattle.user_model.specs.declared.refusal.ApplyFault.TheVariants.{Memory, Refused}
 use Rattle.user_model.specs.declared.undo.Undo.{Undo}
-use Rattle.model_load.specs.Loads.{AreMade, AreMadeBy, IsLastStep, IsNextStep, IsUnmade, LeadBack, accepted_first, after_edits, apply_fault, unmade_behind}
+use Rattle.model_load.specs.Loads.{AreEditsMade, AreMadeBy, IsLastStep, IsNextStep, IsUnmade, LeadBack, accepted_first, after_edits, apply_fault, unmade_behind}
 use Rattle.model_load.specs.declared.fault.Unmade.{Unmade}
 use Rattle.model_load.specs.declared.fault.Unmade.TheVariants as part
 
 -- ---- one edit
 
 -- what is taken back is what was before
-pub taken_back : (old mid new : Stored) (undo : Undo) → IsLastStep old undo mid
+pub taken_back : (old mid new : StoredModel) (undo : Undo) → IsLastStep old undo mid
     → new.model ≡ before mid.model undo → IsButLast new.parked mid.parked → new ≡ old
 taken_back old mid new undo step model but =
     let same = model ∙ step.back in
@@ -35,13 +35,13 @@ pub last_first : (undos : List Undo) (undo : Undo)
 last_first undos undo = reverse-append undos (undo ∷ [])
 
 -- the last undo is that of the last step
-pub last_step : (start now : Stored) (longer shorter : List Undo) (undo : Undo)
+pub last_step : (start now : StoredModel) (longer shorter : List Undo) (undo : Undo)
     → longer ≡ shorter ++ undo ∷ [] → LeadBack start (reverse longer) now
-    → (old : Stored) × LeadBack start (reverse shorter) old × IsLastStep old undo now
+    → (old : StoredModel) × LeadBack start (reverse shorter) old × IsLastStep old undo now
 last_step start now longer shorter undo e h =
     subst (λ us. LeadBack start us now) (ap reverse e ∙ last_first shorter undo) h
 
-pub one_step : (start old now : Stored) (longer shorter : List Undo) (undo : Undo)
+pub one_step : (start old now : StoredModel) (longer shorter : List Undo) (undo : Undo)
     → longer ≡ shorter ++ undo ∷ [] → LeadBack start (reverse shorter) old → IsLastStep old undo now
     → LeadBack start (reverse longer) now
 one_step start old now longer shorter undo e h step =
@@ -49,7 +49,7 @@ one_step start old now longer shorter undo e h step =
     (old, h, step)
 
 -- a refused edit leaves what leads back
-pub kept_back : (start now new : Stored) (undos more : List Undo) → new ≡ now → more ≡ undos
+pub kept_back : (start now new : StoredModel) (undos more : List Undo) → new ≡ now → more ≡ undos
     → LeadBack start (reverse undos) now → LeadBack start (reverse more) new
 kept_back start now new undos more same e h =
     subst (λ us. LeadBack start (reverse us) new) (sym e)
@@ -57,7 +57,7 @@ kept_back start now new undos more same e h =
 
 -- ---- all edits
 
-pub record MadeSoFar (start : Stored) (edits : List Edit) (undos : List Undo) (now : Stored)
+pub record MadeSoFar (start : StoredModel) (edits : List Edit) (undos : List Undo) (now : StoredModel)
     (left : List Edit) : Type 0 where
   pub back : LeadBack start (reverse undos) now
   pub after : after_edits start.model edits ≡ after_edits now.model left
@@ -95,7 +95,7 @@ counted start now edits left rest edit new undos more undo e accepted after put 
     ap length put ∙ length-append undos (undo ∷ []) in
     omega (arith, h, one, longer)
 
-pub one_made : (start now new : Stored) (edits left rest : List Edit) (edit : Edit)
+pub one_made : (start now new : StoredModel) (edits left rest : List Edit) (edit : Edit)
     (undos more : List Undo) → left ≡ edit ∷ rest → MadeSoFar start edits undos now left
     → IsNextStep now edit new undos more → MadeSoFar start edits more new rest
 one_made start now new edits left rest edit undos more e h step = record {
@@ -116,7 +116,7 @@ none_accepted now left rest edit refusal e refused =
     ap (accepted_first now) e ∙ (count_first now edit rest
     ∙ ap (λ o. option_map_or (λ _. 0) o (1 + accepted_first (edited now edit) rest)) (sym refused))
 
-pub one_refused : (start now : Stored) (edits left rest : List Edit) (edit : Edit)
+pub one_refused : (start now : StoredModel) (edits left rest : List Edit) (edit : Edit)
     (undos more : List Undo) (made : ℕ) (fault : ApplyFault) (given : Unmade)
     → left ≡ edit ∷ rest → MadeSoFar start edits undos now left
     → refusal_of fault ≡ first_refusal now.model edit → more ≡ undos → made ≡ length more
@@ -139,8 +139,8 @@ one_refused start now edits left rest edit undos more made fault given e h refus
     )
     by Memory refused = tt
 
-pub all_made : (start now : Stored) (edits left : List Edit) (undos : List Undo) → left ≡ []
-    → MadeSoFar start edits undos now left → AreMade start edits undos now
+pub all_made : (start now : StoredModel) (edits left : List Edit) (undos : List Undo) → left ≡ []
+    → MadeSoFar start edits undos now left → AreEditsMade start edits undos now
 all_made start now edits left undos e h = record {
   made = h.after ∙ (ap (after_edits now.model) e ∙ after_none now.model);
   back = h.back;
@@ -149,7 +149,7 @@ all_made start now edits left undos e h = record {
 -- ---- for good
 
 -- what is made of the answer of a load
-pub load_unmade : (start new : Stored) (edits : List Edit) (why : Unmade) (given : ApplyFault)
+pub load_unmade : (start new : StoredModel) (edits : List Edit) (why : Unmade) (given : ApplyFault)
     → given ≡ apply_fault why → IsUnmade start.model edits why → new ≡ start
     → AreMadeBy start edits (Err given) new
 load_unmade start new edits why given is h same =
@@ -160,7 +160,7 @@ load_unmade start new edits why given is h same =
     by (part.Refused index refusal) h = (h.0, same)
     by part.Memory h = same
 
-pub load_made : (start now new : Stored) (edits : List Edit) (undos : List Undo)
-    → AreMade start edits undos now → new.model ≡ now.model → new.parked ≡ start.parked
+pub load_made : (start now new : StoredModel) (edits : List Edit) (undos : List Undo)
+    → AreEditsMade start edits undos now → new.model ≡ now.model → new.parked ≡ start.parked
     → AreMadeBy start edits (Ok tt) new
 load_made start now new edits undos h model parked = (h.made ∙ ap Ok (sym model), parked)

@@ -1,7 +1,7 @@
 -- Edits made one after another, and what leads back from them.
 use Rattle.std.specs.Prelude.{◌≡◌, ◌+◌, ℕ, List, [], ◌∷◌, ◌++◌, None, Result, Ok, Err, reverse}
 use Rattle.std.specs.Option.{option_map_or}
-use Rattle.model_store.specs.Store.{HasParked, Stored, refusal_of}
+use Rattle.model_store.specs.Store.{HasParked, StoredModel, refusal_of}
 use Rattle.model_store.specs.declared.parked.Parked.{Parked}
 use Rattle.user_model.specs.Accepted.{LeadsTo}
 use Rattle.user_model.specs.Edited.{edited}
@@ -29,14 +29,14 @@ accepted_first model (edit ∷ edits) =
     option_map_or (λ _. 0) (first_refusal model edit) (1 + accepted_first (edited model edit) edits)
 
 -- an edit is made for good, or nothing changed
-abbrev pub IsMadeBy : Stored → Edit → Result Unit ApplyFault → Stored → Type 0
-IsMadeBy old edit (Ok done) new =
+abbrev pub IsEditMade : StoredModel → Edit → Result Unit ApplyFault → StoredModel → Type 0
+IsEditMade old edit (Ok done) new =
     (first_refusal old.model edit ≡ None) × (new ≡ record old { model = edited old.model edit })
-IsMadeBy old edit (Err fault) new =
+IsEditMade old edit (Err fault) new =
     (refusal_of fault ≡ first_refusal old.model edit) × (new ≡ old)
 
 -- all edits are made for good, or nothing changed
-abbrev pub AreMadeBy : Stored → List Edit → Result Unit ApplyFault → Stored → Type 0
+abbrev pub AreMadeBy : StoredModel → List Edit → Result Unit ApplyFault → StoredModel → Type 0
 AreMadeBy old edits (Ok done) new =
     (after_edits old.model edits ≡ Ok new.model) × (new.parked ≡ old.parked)
 AreMadeBy old edits (Err (Refused refusal)) new =
@@ -46,20 +46,20 @@ AreMadeBy old edits (Err Memory) new = new ≡ old
 -- ---- what leads back
 
 -- the undo leads back from an edit, and is the last that waits
-pub record IsLastStep (old : Stored) (undo : Undo) (new : Stored) : Type 0 where
+pub record IsLastStep (old : StoredModel) (undo : Undo) (new : StoredModel) : Type 0 where
   pub edit : LeadsTo old.model new.model
   pub lists : IsUndo old.model new.model undo
   pub back : before new.model undo ≡ old.model
   pub parked : HasParked old.parked new.parked new.model undo
 
 -- the undos, the last first, lead back to where they began
-abbrev pub LeadBack : Stored → List Undo → Stored → Type 0
+abbrev pub LeadBack : StoredModel → List Undo → StoredModel → Type 0
 LeadBack start [] new = new ≡ start
 LeadBack start (undo ∷ undos) new =
-    (old : Stored) × LeadBack start undos old × IsLastStep old undo new
+    (old : StoredModel) × LeadBack start undos old × IsLastStep old undo new
 
 -- the edit is made, and its undo comes last
-pub record IsNextStep (old : Stored) (edit : Edit) (new : Stored)
+pub record IsNextStep (old : StoredModel) (edit : Edit) (new : StoredModel)
     (shorter longer : List Undo) : Type 0 where
   pub undo : Undo
   pub accepted : first_refusal old.model edit ≡ None
@@ -77,13 +77,13 @@ AreParkedFor shorter (undo ∷ undos) longer =
 -- ---- all or none
 
 -- all edits are made, and the undos, the last first, lead back from them
-pub record AreMade (old : Stored) (edits : List Edit) (undos : List Undo)
-    (new : Stored) : Type 0 where
+pub record AreEditsMade (old : StoredModel) (edits : List Edit) (undos : List Undo)
+    (new : StoredModel) : Type 0 where
   pub made : after_edits old.model edits ≡ Ok new.model
   pub back : LeadBack old (reverse undos) new
 
 -- all edits are made for good
-pub record AreKept (old : Stored) (edits : List Edit) (new : Stored) : Type 0 where
+pub record AreKept (old : StoredModel) (edits : List Edit) (new : StoredModel) : Type 0 where
   pub made : after_edits old.model edits ≡ Ok new.model
   pub settled : new.parked ≡ old.parked
 

@@ -1,9 +1,9 @@
 //! Many edits, all or none.
 ghost use Rattle.std.specs.Prelude.{◌≡◌, List, IfErr, IfOk, OnErr, OnOk, reverse};
-ghost use Rattle.model_store.specs.Store.{Stored, refusal_of};
+ghost use Rattle.model_store.specs.Store.{StoredModel, refusal_of};
 ghost use Rattle.model_store.specs.declared.parked.Parked.{Parked};
 ghost use Rattle.user_model.specs.Refusals.{first_refusal};
-ghost use Rattle.model_load.specs.Loads.{AreMade, AreMadeBy, AreParkedFor, IsLastStep, IsNextStep, IsUnmade, LeadBack};
+ghost use Rattle.model_load.specs.Loads.{AreEditsMade, AreMadeBy, AreParkedFor, IsLastStep, IsNextStep, IsUnmade, LeadBack};
 
 use crate::Unmade;
 use model_store::{Undo, UserModel};
@@ -27,7 +27,7 @@ pub fn load_all(model: &mut UserModel, edits: Vec<Edit>) -> Result<(), ApplyFaul
 /// Makes edits in turn, or none of them. Their undos, in the same order, wait.
 pub fn make_all(model: &mut UserModel, edits: Vec<Edit>) -> Result<Vec<Undo>, Unmade>
     ensures made { IfOk result (λ undos.
-        AreMade model.old edits.items undos.items model.new) }
+        AreEditsMade model.old edits.items undos.items model.new) }
     ensures unmade { IfErr result (IsUnmade model.old.model edits.items) }
     ensures kept { OnErr result (model.new ≡ model.old) }
 {
@@ -45,8 +45,8 @@ pub fn make_all(model: &mut UserModel, edits: Vec<Edit>) -> Result<Vec<Undo>, Un
 /// Takes the last edit back that waits, so that the model is as it was before.
 #[tactic(auto, using(crate::proofs::Stepping::taken_back))]
 pub fn take_back(model: &mut UserModel, undo: Undo)
-    requires { (start : Stored) × IsLastStep start undo model.old }
-    ensures { (start : Stored) → IsLastStep start undo model.old → model.new ≡ start }
+    requires { (start : StoredModel) × IsLastStep start undo model.old }
+    ensures { (start : StoredModel) → IsLastStep start undo model.old → model.new ≡ start }
 {
     model.take_back(undo);
 }
@@ -71,8 +71,8 @@ fn make(model: &mut UserModel, undos: &mut Vec<Undo>, edit: Edit) -> Result<(), 
 
 /// Takes all edits back, the last one first.
 pub fn take_back_all(model: &mut UserModel, mut undos: Vec<Undo>)
-    requires { (start : Stored) × LeadBack start (reverse undos.items) model.old }
-    ensures { (start : Stored) → LeadBack start (reverse undos.items) model.old
+    requires { (start : StoredModel) × LeadBack start (reverse undos.items) model.old }
+    ensures { (start : StoredModel) → LeadBack start (reverse undos.items) model.old
         → model.new ≡ start }
 {
     while let Some(undo) = undos.pop() {

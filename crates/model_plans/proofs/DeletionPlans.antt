@@ -38,7 +38,7 @@ use Rattle.model_catalog.specs.declared.names.NameChange.{NameChange}
 use Rattle.model_plans.specs.declared.plan.EditPlan.{EditPlan}
 use Rattle.model_catalog.specs.Names.{listed_as, listed_number}
 use Rattle.model_catalog.specs.Named.{IsInGroup, AreNameChanges, ChangesNames, variable_name}
-use Rattle.model_plans.specs.Plans.{HasParts, IsChange, IsRenamed, Leads, gone}
+use Rattle.model_plans.specs.Plans.{HasParts, IsChange, IsRenamed, LeadsToTarget, gone}
 use Rattle.model_plans.proofs.Finding.{find-mapped, found_by_number}
 use Rattle.model_plans.proofs.NamesListed.{one_listed, one_renamed, row_names_in}
 use Rattle.model_plans.proofs.Leading.{leads, made}
@@ -320,7 +320,7 @@ module _ (model : ModelValue) (plan : EditPlan) (c : IsConsistent model) (name :
       → HasParts plan (record { number = group.id; content = group_without n group } ∷ [])
       (deletion_changes model n) o model.next (listed_as n None ∷ [])
       (gone (deletion_changes model n))
-      → Leads model (with_variable model name (without_variable model)) plan
+      → LeadsToTarget model (with_variable model name (without_variable model)) plan
   deleted_leads o left in_group p =
       let cs : List (Change Group) = record {
         number = group.id;
@@ -342,7 +342,7 @@ module _ (model : ModelValue) (plan : EditPlan) (c : IsConsistent model) (name :
         objective = objective i;
         next = model.next;
       } in
-      subst (λ after. Leads model after plan) (target
+      subst (λ after. LeadsToTarget model after plan) (target
       ∙ sym (with_variable-found model name (without_variable model) n named))
       (leads model plan cs (deletion_changes model n) o model.next (listed_as n None ∷ [])
       (gone (deletion_changes model n)) p (one_change group_number group.id

@@ -40,7 +40,7 @@ use Rattle.model_plans.specs.declared.plan.EditPlan.{EditPlan}
 use Rattle.model_catalog.specs.Names.{listed_as, listed_number}
 use Rattle.model_catalog.specs.Index.{group_number_of}
 use Rattle.model_catalog.specs.Named.{IsInGroup, AreNameChanges, ChangesNames, variable_name}
-use Rattle.model_plans.specs.Plans.{Accepts, HasParts, IsRenamed, Leads, listed_variables}
+use Rattle.model_plans.specs.Plans.{Accepts, HasParts, IsRenamed, LeadsToTarget, listed_variables}
 use Rattle.model_plans.proofs.Finding.{find-mapped, found_by_number}
 use Rattle.model_plans.proofs.NamesListed.{AreNameChanges-groups, one_listed, one_renamed, unlisted}
 use Rattle.model_plans.proofs.Leading.{leads_group, leads_nowhere}
@@ -116,7 +116,7 @@ module _ (model : ModelValue) (plan : EditPlan) (c : IsConsistent model) (name :
       (IsRenamed (variable_name model)) vs
       → ((m : ℕ) → has_variable m (h group) ≡ has_variable m group)
       → ((m : ℕ) → IsSome (find listed_number m vs) → IsInGroup plan.names.group model m)
-      → Leads model (change_group model n h) plan
+      → LeadsToTarget model (change_group model n h) plan
   leads_changed_group h vs id ne p names renamed same inside =
       let at : find group_number (h group).id model.groups ≡ Some group =
       ap (λ m. find group_number m model.groups) id ∙ there in
@@ -124,7 +124,7 @@ module _ (model : ModelValue) (plan : EditPlan) (c : IsConsistent model) (name :
       → group_number_of (record model { groups = put group_number (h group) model.groups }) m
       ≡ group_number_of model m = λ m. ids_replaced (h group) group model.groups m c.groups_rise
       at id (same m) in
-      subst (λ after. Leads model after plan) (sym (change_group-found model n h group found))
+      subst (λ after. LeadsToTarget model after plan) (sym (change_group-found model n h group found))
       (leads_group model plan (h group).id (Some (h group)) model.next vs p refl
       (λ e. ne (sym (same_Some group (h group) (sym at ∙ e))))
       (AreNameChanges-groups plan.names vs model (put group_number (h group) model.groups)
@@ -137,10 +137,10 @@ module _ (model : ModelValue) (plan : EditPlan) (c : IsConsistent model) (name :
 
   pub group_set_same_leads : (set : Set) → group.set ≡ set
       → HasParts plan [] [] None model.next [] []
-      → Leads model (with_variable model name (λ n. change_group model n
+      → LeadsToTarget model (with_variable model name (λ n. change_group model n
       (λ g. record g { set = set }))) plan
   group_set_same_leads set e p =
-      subst (λ after. Leads model after plan)
+      subst (λ after. LeadsToTarget model after plan)
       (sym (with_variable-found model name (λ n. change_group model n
       (λ g. record g { set = set })) n named ∙ group_unchanged model c n
       (λ g. record g { set = set }) group found (group_set_same group set e)))
@@ -148,11 +148,11 @@ module _ (model : ModelValue) (plan : EditPlan) (c : IsConsistent model) (name :
 
   pub group_set_new_leads : (set : Set) → group.set ≢ set
       → HasParts plan (set_to group_number (record group { set = set }) ∷ []) [] None model.next []
-      [] → Leads model (with_variable model name (λ n. change_group model n
+      [] → LeadsToTarget model (with_variable model name (λ n. change_group model n
       (λ g. record g { set = set }))) plan
   group_set_new_leads set ne p =
       let x : Group = record group { set = set } in
-      subst (λ after. Leads model after plan)
+      subst (λ after. LeadsToTarget model after plan)
       (sym (with_variable-found model name (λ n. change_group model n
       (λ g. record g { set = set })) n named))
       (leads_changed_group (λ g. record g { set = set }) [] refl (group_set_other group set ne) p
@@ -177,7 +177,7 @@ module _ (model : ModelValue) (plan : EditPlan) (c : IsConsistent model) (name :
       → HasParts plan (set_to group_number
       (record group { vars = map (renamed n new) group.vars }) ∷ []) [] None model.next (listed_as n
       (Some new) ∷ []) []
-      → Leads model (with_variable model name (λ n. change_group model n
+      → LeadsToTarget model (with_variable model name (λ n. change_group model n
       (λ g. record g { vars = map (renamed n new) g.vars }))) plan
   renamed_leads new free in_group p =
       let x : Group = record group { vars = map (renamed n new) group.vars } in
@@ -191,7 +191,7 @@ module _ (model : ModelValue) (plan : EditPlan) (c : IsConsistent model) (name :
       found_by_number variable_number n var.0 (variables model) var.1 var.2 in
       let other = found_renamed new (free_variable model new free)
       (something (find variable_number n (variables model)) stands) in
-      subst (λ after. Leads model after plan)
+      subst (λ after. LeadsToTarget model after plan)
       (sym (with_variable-found model name (λ n. change_group model n
       (λ g. record g { vars = map (renamed n new) g.vars })) n named))
       (leads_changed_group (λ g. record g { vars = map (renamed n new) g.vars }) (listed_as n
@@ -323,7 +323,7 @@ pub added_leads : (model : ModelValue) (plan : EditPlan) (names : List (List ℕ
       group = model.next.group + 1;
       variable = model.next.variable + length names;
     }) (listed_variables
-    (numbered_from model.next.variable names)) [] → Leads model (add_group model names set) plan
+    (numbered_from model.next.variable names)) [] → LeadsToTarget model (add_group model names set) plan
 added_leads model plan names set c in_group p =
     let vars : List GroupVar = numbered_from model.next.variable names in
     let group : Group = record { id = model.next.group; vars = vars; set = set } in
@@ -338,7 +338,7 @@ added_leads model plan names set c in_group p =
     (append-nil vars) in
     let same = listed_names model.next.variable vars (variables model) c.given_variables above
     (numbered_rise model.next.variable names) in
-    subst (λ gs. Leads model (record model { groups = gs; next = next }) plan) last
+    subst (λ gs. LeadsToTarget model (record model { groups = gs; next = next }) plan) last
     (leads_group model plan model.next.group (Some group) next (listed_variables vars) p refl
     (λ e. none-some group (sym (find-none_below group_number model.next.group model.groups
     c.given_groups) ∙ e))

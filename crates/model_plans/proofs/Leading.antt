@@ -23,7 +23,7 @@ use Rattle.model_laws.specs.Differing.{Differs, row_unchanged}
 use Rattle.model_catalog.specs.declared.names.NameChange.{NameChange}
 use Rattle.model_plans.specs.declared.plan.EditPlan.{EditPlan}
 use Rattle.model_catalog.specs.Named.{AreNameChanges, ChangesNames, row_name, variable_name}
-use Rattle.model_plans.specs.Plans.{HasParts, IsRenamed, Leads}
+use Rattle.model_plans.specs.Plans.{HasParts, IsRenamed, LeadsToTarget}
 use Rattle.model_plans.proofs.NamesListed.{AreNameChanges-rows, one_renamed, row_listed, row_names_in, row_unlisted, unlisted}
 
 module _ (model : ModelValue) (plan : EditPlan) where
@@ -45,7 +45,7 @@ module _ (model : ModelValue) (plan : EditPlan) where
         → IsOldObjective (unwrap_or o model.objective) model.objective o
         → AreNameChanges plan.names model (made groups rows o next)
         → All (IsRenamed (variable_name model)) vs → All (IsRenamed (row_name model)) ns
-        → Leads model (made groups rows o next) plan
+        → LeadsToTarget model (made groups rows o next) plan
     leads are_groups are_rows differ_groups differ_rows objective names variables_renamed
         rows_renamed = record {
           changes = record {
@@ -72,7 +72,7 @@ module _ (model : ModelValue) (plan : EditPlan) where
   -- the objective alone, or nothing
   pub leads_objective : (o : Option Objective) → HasParts plan [] [] o model.next [] []
       → IsOldObjective (unwrap_or o model.objective) model.objective o
-      → Leads model (record model { objective = unwrap_or o model.objective }) plan
+      → LeadsToTarget model (record model { objective = unwrap_or o model.objective }) plan
   leads_objective o p is =
       leads [] [] o model.next [] [] p (AreChanges-nil group_number) (AreChanges-nil row_number)
       (All-nil (Differs group_number model.groups)) (All-nil (Differs row_number model.rows)) is
@@ -81,7 +81,7 @@ module _ (model : ModelValue) (plan : EditPlan) where
       (row_names_in model.rows) (λ n. refl))) (All-nil (IsRenamed (variable_name model)))
       (All-nil (IsRenamed (row_name model)))
 
-  pub leads_nowhere : HasParts plan [] [] None model.next [] [] → Leads model model plan
+  pub leads_nowhere : HasParts plan [] [] None model.next [] [] → LeadsToTarget model model plan
   leads_nowhere p = leads_objective None p refl
 
   -- one row
@@ -90,7 +90,7 @@ module _ (model : ModelValue) (plan : EditPlan) where
       → IsAt row_number m new → find row_number m model.rows ≢ new
       → ChangesNames ns (row_names_in model.rows)
       (row_names_in (set_at row_number m new model.rows)) → All (IsRenamed (row_name model)) ns
-      → Leads model (record model { rows = set_at row_number m new model.rows; next = next }) plan
+      → LeadsToTarget model (record model { rows = set_at row_number m new model.rows; next = next }) plan
   leads_row m new next ns p at ne names renamed =
       let c : Change Row = record { number = m; content = new } in
       leads [] (c ∷ []) None next [] ns p (AreChanges-nil group_number)
@@ -109,7 +109,7 @@ module _ (model : ModelValue) (plan : EditPlan) where
             model.groups;
         next = next;
       }) → All (IsRenamed (variable_name model)) vs
-      → Leads model (record model {
+      → LeadsToTarget model (record model {
         groups = set_at group_number m new model.groups;
         next = next;
       }) plan
@@ -124,9 +124,9 @@ module _ (model : ModelValue) (plan : EditPlan) where
       (found : row_named model name ≡ Some row) where
     -- a row that is changed to itself
     pub leads_same_row : h row ≡ row → HasParts plan [] [] None model.next [] []
-        → Leads model (change_row model name h) plan
+        → LeadsToTarget model (change_row model name h) plan
     leads_same_row same p =
-        subst (λ after. Leads model after plan) (sym (row_unchanged model c name h row found same))
+        subst (λ after. LeadsToTarget model after plan) (sym (row_unchanged model c name h row found same))
         (leads_nowhere p)
 
     -- a row that is changed to another
@@ -138,15 +138,15 @@ module _ (model : ModelValue) (plan : EditPlan) where
           → HasParts plan [] (set_to row_number (h row) ∷ []) None model.next [] ns
           → ChangesNames ns (row_names_in model.rows)
           (row_names_in (put row_number (h row) model.rows)) → All (IsRenamed (row_name model)) ns
-          → Leads model (change_row model name h) plan
+          → LeadsToTarget model (change_row model name h) plan
       leads_new_row ns p names renamed =
-          subst (λ after. Leads model after plan) (sym (change_row-found model name h row found))
+          subst (λ after. LeadsToTarget model after plan) (sym (change_row-found model name h row found))
           (leads_row (h row).id (Some (h row)) model.next ns p refl
           (λ same. ne (sym (same_Some row (h row) (sym there ∙ same)))) names renamed)
 
       pub leads_changed_row : (h row).name ≡ row.name
           → HasParts plan [] (set_to row_number (h row) ∷ []) None model.next [] []
-          → Leads model (change_row model name h) plan
+          → LeadsToTarget model (change_row model name h) plan
       leads_changed_row named p =
           leads_new_row [] p (row_unlisted (h row).id (Some (h row)) model.rows refl (ap Some named
           ∙ sym (ap (option_map (λ r. r.name)) there))) (All-nil (IsRenamed (row_name model)))
@@ -154,7 +154,7 @@ module _ (model : ModelValue) (plan : EditPlan) where
       pub leads_renamed_row : (l : NameChange) → l.number ≡ (h row).id → l.name ≡ Some (h row).name
           → row.name ≢ (h row).name
           → HasParts plan [] (set_to row_number (h row) ∷ []) None model.next [] (l ∷ [])
-          → Leads model (change_row model name h) plan
+          → LeadsToTarget model (change_row model name h) plan
       leads_renamed_row l number listed other p =
           let stood : row_name model l.number ≡ Some row.name =
           ap (option_map (λ r. r.name)) (ap (λ n. find row_number n model.rows)

@@ -27,7 +27,7 @@ use Rattle.model_catalog.specs.Names.{listed_as}
 use Rattle.model_catalog.specs.Named.{row_name}
 use Rattle.numbered_list.specs.Numbered.{find}
 use Rattle.std.specs.Option.{option_map}
-use Rattle.model_plans.specs.Plans.{Accepts, HasParts, Leads}
+use Rattle.model_plans.specs.Plans.{Accepts, HasParts, LeadsToTarget}
 use Rattle.model_plans.proofs.NamesListed.{one_renamed, row_listed}
 use Rattle.model_plans.proofs.Leading.{leads_changed_row, leads_renamed_row, leads_row, leads_same_row}
 
@@ -60,13 +60,14 @@ module _ (model : ModelValue) (plan : EditPlan) (c : IsConsistent model) (name :
   IsChangedTo new = HasParts plan [] (set_to row_number new ∷ []) None model.next [] []
 
   pub scalar_same : (g : Function → Function) (func : Function) → row.func ≡ Affine func
-      → g func ≡ func → IsUnchanged → Leads model (change_function model name (on_affine g)) plan
+      → g func ≡ func → IsUnchanged
+      → LeadsToTarget model (change_function model name (on_affine g)) plan
   scalar_same g func is e p =
       leads_same_row model plan c name (λ r. record r { func = on_affine g r.func }) row found
       (affine_row_same g row func is e) p
 
   pub scalar_new : (g : Function → Function) (func f : Function) → row.func ≡ Affine func
-      → f ≡ g func → f ≢ func → IsChangedTo (record row { func = Affine f }) → Leads model
+      → f ≡ g func → f ≢ func → IsChangedTo (record row { func = Affine f }) → LeadsToTarget model
       (change_function model name (on_affine g)) plan
   scalar_new g func f is e ne p =
       leads_changed_row model plan c name (λ r. record r { func = on_affine g r.func }) row found
@@ -76,7 +77,7 @@ module _ (model : ModelValue) (plan : EditPlan) (c : IsConsistent model) (name :
 
   pub vector_same : (output : ℕ) (g : Function → Function) (funcs : List Function) (func : Function)
       → row.func ≡ AffineVec funcs → slice_get funcs (output - 1) ≡ Some func → g func ≡ func
-      → IsUnchanged → Leads model (change_function model name (on_output output g)) plan
+      → IsUnchanged → LeadsToTarget model (change_function model name (on_output output g)) plan
   vector_same output g funcs func is at e p =
       leads_same_row model plan c name (λ r. record r { func = on_output output g r.func }) row
       found (output_row_same g output row funcs func is at e) p
@@ -85,7 +86,7 @@ module _ (model : ModelValue) (plan : EditPlan) (c : IsConsistent model) (name :
       (func f : Function) (fs : List Function) → row.func ≡ AffineVec funcs
       → slice_get funcs (output - 1) ≡ Some func → f ≡ g func → f ≢ func
       → fs ≡ take (output - 1) funcs ++ (f ∷ drop (output - 1 + 1) funcs)
-      → IsChangedTo (record row { func = AffineVec fs }) → Leads model (change_function model name
+      → IsChangedTo (record row { func = AffineVec fs }) → LeadsToTarget model (change_function model name
       (on_output output g)) plan
   vector_new output g funcs func f fs is at e ne made p =
       let split = changed_split (output - 1) g funcs func at in
@@ -98,13 +99,13 @@ module _ (model : ModelValue) (plan : EditPlan) (c : IsConsistent model) (name :
       ∙ sym (ap (on_output output g) is)) p)
 
   pub set_same : (set : Set) → row.set ≡ set → IsUnchanged
-      → Leads model (change_row model name (λ r. record r { set = set })) plan
+      → LeadsToTarget model (change_row model name (λ r. record r { set = set })) plan
   set_same set e p =
       leads_same_row model plan c name (λ r. record r { set = set }) row found
       (row_set_same row set e) p
 
   pub set_new : (set : Set) → row.set ≢ set
-      → IsChangedTo (record row { set = set }) → Leads model (change_row model name
+      → IsChangedTo (record row { set = set }) → LeadsToTarget model (change_row model name
       (λ r. record r { set = set })) plan
   set_new set ne p =
       leads_changed_row model plan c name (λ r. record r { set = set }) row found refl
@@ -113,7 +114,7 @@ module _ (model : ModelValue) (plan : EditPlan) (c : IsConsistent model) (name :
   pub renamed_leads : (new : List ℕ) → has_row_named model new ≡ false
       → HasParts plan [] (set_to row_number (record row { name = new }) ∷ []) None model.next []
       (listed_as row.id (Some new) ∷ [])
-      → Leads model (change_row model name (λ r. record r { name = new })) plan
+      → LeadsToTarget model (change_row model name (λ r. record r { name = new })) plan
   renamed_leads new free p =
       let other : row.name ≢ new = All-contains (λ r. r.name ≢ new) model.rows row (free_row model
       new free) (found_stands _ model.rows row found) in
@@ -121,10 +122,10 @@ module _ (model : ModelValue) (plan : EditPlan) (c : IsConsistent model) (name :
       (row_name_other row new other) (listed_as row.id (Some new)) refl refl other p
 
   pub deleted_leads : HasParts plan [] (record { number = row.id; content = None } ∷ []) None
-      model.next [] (listed_as row.id None ∷ []) → Leads model (delete_row model name) plan
+      model.next [] (listed_as row.id None ∷ []) → LeadsToTarget model (delete_row model name) plan
   deleted_leads p =
       let there = row_by_number model name row c found in
-      subst (λ after. Leads model after plan) (sym (delete_row-found model name row found))
+      subst (λ after. LeadsToTarget model after plan) (sym (delete_row-found model name row found))
       (leads_row model plan row.id None model.next (listed_as row.id None ∷ []) p tt
       (λ same. none-some row (sym same ∙ there)) (row_listed (listed_as row.id None) row.id None
       model.rows tt refl refl) (one_renamed (row_name model) (listed_as row.id None)
@@ -136,12 +137,12 @@ pub added_leads : (model : ModelValue) (plan : EditPlan) (name : List ℕ) (func
       content = Some (record { id = model.next.row; name = name; func = func; set = set });
     } ∷ [])
     None (record model.next { row = model.next.row + 1 }) [] (listed_as model.next.row
-    (Some name) ∷ []) → Leads model (add_row model name func set) plan
+    (Some name) ∷ []) → LeadsToTarget model (add_row model name func set) plan
 added_leads model plan name func set c p =
     let row : Row = record { id = model.next.row; name = name; func = func; set = set } in
     let free : find row_number model.next.row model.rows ≡ None =
     find-none_below row_number model.next.row model.rows c.given_rows in
-    subst (λ rows. Leads model (record model {
+    subst (λ rows. LeadsToTarget model (record model {
       rows = rows;
       next = record model.next { row = model.next.row + 1 };
     }) plan)

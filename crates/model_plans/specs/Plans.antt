@@ -18,7 +18,7 @@ use Rattle.user_model.specs.Consistent.{IsConsistent, IsWithinLimits}
 use Rattle.user_model.specs.Refusals.{first_refusal}
 use Rattle.user_model.specs.Undone.{IsOldObjective}
 use Rattle.model_laws.specs.Differing.{Differs}
-use Rattle.model_refusals.specs.Accepted.{IsVariable}
+use Rattle.model_refusals.specs.Accepted.{IsModelVariable}
 use Rattle.model_catalog.specs.declared.names.NameChange.{NameChange}
 use Rattle.model_plans.specs.declared.parts.Part.{Part}
 use Rattle.model_plans.specs.declared.parts.Part.TheVariants.{Coefficient, Constant}
@@ -38,7 +38,7 @@ abbrev pub IsRenamed : (ℕ → Option (List ℕ)) → NameChange → Type 0
 IsRenamed naming l = naming l.number ≢ l.name
 
 -- the plan leads from the model to the one after, and has exactly what differs
-pub record Leads (model target : ModelValue) (plan : EditPlan) : Type 0 where
+pub record LeadsToTarget (model target : ModelValue) (plan : EditPlan) : Type 0 where
   pub changes : IsExchange plan.exchange
   pub after : exchanged plan.exchange model ≡ target
   pub groups : All (Differs group_number model.groups) plan.exchange.groups.items
@@ -75,7 +75,7 @@ gone changes = map (λ c. listed_as c.number None) (filter (λ c. is_none c.cont
 
 -- a coefficient's variable is the model's
 abbrev pub IsPart : ModelValue → Part → Type 0
-IsPart model (Coefficient var) = IsVariable model var
+IsPart model (Coefficient var) = IsModelVariable model var
 IsPart model Constant = Unit {0}
 
 -- the function with another value there

@@ -9,7 +9,7 @@ use Rattle.user_model.specs.Undone.{IsOldObjective, IsUndo}
 use Rattle.model_laws.specs.ItemChanges.{differences}
 use Rattle.model_catalog.specs.Exchange.{contents, exchanged, standing}
 use Rattle.model_plans.specs.declared.plan.EditPlan.{EditPlan}
-use Rattle.model_plans.specs.Plans.{Leads}
+use Rattle.model_plans.specs.Plans.{LeadsToTarget}
 
 old_objective : (old new : Objective) (o : Option Objective) → IsOldObjective new old o
     → IsOldObjective old new (option_map (λ _. old) o)
@@ -17,7 +17,7 @@ old_objective old new None e = sym e
 old_objective old new (Some content) e = (refl, λ same. e.1 (sym same))
 
 -- what stood where the plan's contents are is what leads back
-pub undo_of : (model after : ModelValue) (plan : EditPlan) → Leads model after plan
+pub undo_of : (model after : ModelValue) (plan : EditPlan) → LeadsToTarget model after plan
     → IsUndo model after (standing model (contents plan.exchange))
 undo_of model after plan h =
     subst (λ m. IsUndo model m (standing model (contents plan.exchange))) h.after (record {
@@ -32,7 +32,7 @@ undo_of model after plan h =
 
 -- what a plan's exchange leaves leads back
 pub undo_left : (model target old new : ModelValue) (plan : EditPlan) (undo : Undo)
-    → Leads model target plan → old ≡ model → new ≡ exchanged plan.exchange old
+    → LeadsToTarget model target plan → old ≡ model → new ≡ exchanged plan.exchange old
     → undo ≡ standing old (contents plan.exchange) → IsUndo model new undo
 undo_left model target old new plan undo h same after left =
     let is : new ≡ target = after ∙ (ap (exchanged plan.exchange) same ∙ h.after) in

@@ -9,8 +9,8 @@ ghost use Rattle.user_model.specs.declared.edit.Edit.TheVariants.{DeleteVariable
 ghost use Rattle.model_laws.specs.ItemChanges.{edits_of};
 ghost use Rattle.user_model.specs.Functions.{func_mentions, has_term};
 ghost use Rattle.user_model.specs.Consistent.{IsConsistent};
-ghost use Rattle.model_refusals.specs.Accepted.{IsGrouped};
-ghost use Rattle.model_plans.specs.Plans.{IsChange, Leads, gone};
+ghost use Rattle.model_refusals.specs.Accepted.{IsGroupedVariable};
+ghost use Rattle.model_plans.specs.Plans.{IsChange, LeadsToTarget, gone};
 
 use crate::made_lists::only;
 use crate::plan::EditPlan;
@@ -32,8 +32,8 @@ pub(crate) fn delete(
     var: &GroupedVariable,
 ) -> Result<EditPlan, Memory>
     requires consistent { IsConsistent model.now.model }
-    requires var { IsGrouped model.now.model var.now }
-    ensures { IfOk result (Leads model.now.model
+    requires var { IsGroupedVariable model.now.model var.now }
+    ensures { IfOk result (LeadsToTarget model.now.model
         (edited model.now.model (DeleteVariable var.now.name.now))) }
 {
     let at = Address::root(Root::Variable, var.number);

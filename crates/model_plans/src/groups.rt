@@ -3,8 +3,8 @@ ghost use Rattle.std.specs.Prelude.{◌≡◌, ◌+◌, ◌<◌, ◌^◌, IfOk, 
 ghost use Rattle.user_model.specs.Edited.{edited, numbered_from, renamed};
 ghost use Rattle.user_model.specs.Consistent.{IsConsistent};
 ghost use Rattle.user_model.specs.declared.edit.Edit.TheVariants.{AddGroup, FreeGroup, RenameVariable, Reset};
-ghost use Rattle.model_refusals.specs.Accepted.{IsGrouped};
-ghost use Rattle.model_plans.specs.Plans.{Accepts, Leads, listed_variables};
+ghost use Rattle.model_refusals.specs.Accepted.{IsGroupedVariable};
+ghost use Rattle.model_plans.specs.Plans.{Accepts, LeadsToTarget, listed_variables};
 
 use crate::made_lists::only;
 use crate::plan::EditPlan;
@@ -25,7 +25,7 @@ pub(crate) fn add(
     set: &Set,
 ) -> Result<EditPlan, Memory>
     requires { Accepts model.now.model (AddGroup names.now set.now) }
-    ensures { IfOk result (Leads model.now.model
+    ensures { IfOk result (LeadsToTarget model.now.model
         (edited model.now.model (AddGroup names.now set.now))) }
 {
     let next = model.next();
@@ -81,8 +81,8 @@ pub(crate) fn reset(
     set: &Set,
 ) -> Result<EditPlan, Memory>
     requires consistent { IsConsistent model.now.model }
-    requires var { IsGrouped model.now.model var.now }
-    ensures { IfOk result (Leads model.now.model
+    requires var { IsGroupedVariable model.now.model var.now }
+    ensures { IfOk result (LeadsToTarget model.now.model
         (edited model.now.model (Reset var.now.name.now set.now))) }
 {
     if var.group.set == *set {
@@ -101,8 +101,8 @@ pub(crate) fn free(
     var: &GroupedVariable,
 ) -> Result<EditPlan, Memory>
     requires consistent { IsConsistent model.now.model }
-    requires var { IsGrouped model.now.model var.now }
-    ensures { IfOk result (Leads model.now.model
+    requires var { IsGroupedVariable model.now.model var.now }
+    ensures { IfOk result (LeadsToTarget model.now.model
         (edited model.now.model (FreeGroup var.now.name.now))) }
 {
     reset(alloc, model, var, &Set::Reals { dimension: 1 })
@@ -116,8 +116,8 @@ pub(crate) fn rename(
     new: &Name,
 ) -> Result<EditPlan, Memory>
     requires accepts { Accepts model.now.model (RenameVariable var.now.name.now new.now) }
-    requires var { IsGrouped model.now.model var.now }
-    ensures { IfOk result (Leads model.now.model
+    requires var { IsGroupedVariable model.now.model var.now }
+    ensures { IfOk result (LeadsToTarget model.now.model
         (edited model.now.model (RenameVariable var.now.name.now new.now))) }
 {
     let group = var.group;

@@ -5,7 +5,7 @@ ghost use Rattle.user_model.specs.Consistent.{IsConsistent};
 ghost use Rattle.user_model.specs.Refusals.{IsKnown};
 ghost use Rattle.user_model.specs.declared.edit.Edit.TheVariants as edit;
 ghost use Rattle.user_model.specs.declared.objective.Objective.TheVariants as objective;
-ghost use Rattle.model_plans.specs.Plans.{Accepts, IsPart, Leads, objective_edit, with_part};
+ghost use Rattle.model_plans.specs.Plans.{Accepts, IsPart, LeadsToTarget, objective_edit, with_part};
 
 use crate::located::{address_named, affine};
 use crate::parts::{Part, replaced};
@@ -25,7 +25,7 @@ pub(crate) fn set(
     func: &NamedFunc,
 ) -> Result<EditPlan, Memory>
     requires { Accepts model.now.model (edit.Objective sense func.now) }
-    ensures { IfOk result (Leads model.now.model
+    ensures { IfOk result (LeadsToTarget model.now.model
         (edited model.now.model (edit.Objective sense func.now))) }
 {
     let objective = objective_of(alloc, model, sense, func)?;
@@ -58,13 +58,14 @@ fn objective_of(
 /// No objective. Nothing is copied.
 #[tactic(auto, unfolding(user_model::specs::Edited::edited))]
 pub(crate) fn feasibility(alloc: Global, model: &Catalog) -> EditPlan
-    ensures { Leads model.now.model (edited model.now.model edit.Feasibility) result }
+    ensures { LeadsToTarget model.now.model (edited model.now.model edit.Feasibility) result }
 {
     with_objective(alloc, model, Objective::Feasibility)
 }
 
 fn with_objective(alloc: Global, model: &Catalog, objective: Objective) -> EditPlan
-    ensures { Leads model.now.model (record model.now.model { objective = objective }) result }
+    ensures { LeadsToTarget model.now.model
+        (record model.now.model { objective = objective }) result }
 {
     if same_objective(model.objective(), &objective) {
         return EditPlan::unchanged(alloc, model.next());
@@ -100,7 +101,7 @@ pub(crate) fn affine_part(
 ) -> Result<EditPlan, Memory>
     requires objective { model.now.model.objective ≡ objective.Affine sense func.now }
     requires part { IsPart model.now.model part.now }
-    ensures { IfOk result (Leads model.now.model
+    ensures { IfOk result (LeadsToTarget model.now.model
         (edited model.now.model (objective_edit part.now value))) }
 {
     with_part_of(alloc, model, sense, func, part, value)
@@ -116,7 +117,7 @@ fn with_part_of(
     value: Ratio,
 ) -> Result<EditPlan, Memory>
     requires { model.now.model.objective ≡ objective.Affine sense func.now }
-    ensures { IfOk result (Leads model.now.model
+    ensures { IfOk result (LeadsToTarget model.now.model
         (record model.now.model {
           objective = on_objective
               (with_part part.now value) model.now.model.objective;

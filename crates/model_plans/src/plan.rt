@@ -4,7 +4,7 @@ ghost use Rattle.std.specs.Option.{option_to_list};
 ghost use Rattle.user_model.specs.Edited.{edited, group_number, row_number};
 ghost use Rattle.model_laws.specs.ItemChanges.{set_to};
 ghost use Rattle.model_refusals.specs.Accepted.{IsFound, edit_of};
-ghost use Rattle.model_plans.specs.Plans.{Accepts, HasParts, Leads};
+ghost use Rattle.model_plans.specs.Plans.{Accepts, HasParts, LeadsToTarget};
 
 use crate::made_lists::only;
 use crate::parts::Part;
@@ -133,7 +133,7 @@ impl EditPlan {
 pub fn planned(alloc: Global, model: &Catalog, edit: &AcceptedEdit) -> Result<EditPlan, Memory>
     requires accepts { Accepts model.now.model (edit_of edit.now) }
     requires found { IsFound model.now.model edit.now }
-    ensures { IfOk result (Leads model.now.model
+    ensures { IfOk result (LeadsToTarget model.now.model
         (edited model.now.model (edit_of edit.now))) }
 {
     match edit {

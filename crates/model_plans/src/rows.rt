@@ -5,8 +5,8 @@ ghost use Rattle.user_model.specs.declared.edit.Edit.TheVariants.{AddRow, RowSet
 ghost use Rattle.model_laws.specs.ItemChanges.{set_to};
 ghost use Rattle.user_model.specs.Consistent.{IsConsistent};
 ghost use Rattle.user_model.specs.declared.function.UserFunc.TheVariants.{Affine, AffineVec};
-ghost use Rattle.model_refusals.specs.Accepted.{IsComponent, IsRow};
-ghost use Rattle.model_plans.specs.Plans.{Accepts, HasParts, IsPart, Leads, output_edit, row_edit};
+ghost use Rattle.model_refusals.specs.Accepted.{IsComponent, IsModelRow};
+ghost use Rattle.model_plans.specs.Plans.{Accepts, HasParts, IsPart, LeadsToTarget, output_edit, row_edit};
 
 use crate::located::located;
 use crate::made_lists::with_component;
@@ -33,7 +33,7 @@ pub(crate) fn add(
     set: &Set,
 ) -> Result<EditPlan, Memory>
     requires { Accepts model.now.model (AddRow name.now func.now set.now) }
-    ensures { IfOk result (Leads model.now.model
+    ensures { IfOk result (LeadsToTarget model.now.model
         (edited model.now.model (AddRow name.now func.now set.now))) }
 {
     let next = model.next();
@@ -63,10 +63,10 @@ pub(crate) fn scalar_part(
     value: Ratio,
 ) -> Result<EditPlan, Memory>
     requires consistent { IsConsistent model.now.model }
-    requires row { IsRow model.now.model row.now }
+    requires row { IsModelRow model.now.model row.now }
     requires affine { row.now.row.now.func ≡ Affine func.now }
     requires part { IsPart model.now.model part.now }
-    ensures { IfOk result (Leads model.now.model
+    ensures { IfOk result (LeadsToTarget model.now.model
         (edited model.now.model (row_edit row.now.name.now part.now value))) }
 {
     match replaced(func, part, value)? {
@@ -87,11 +87,11 @@ pub(crate) fn vector_part(
     value: Ratio,
 ) -> Result<EditPlan, Memory>
     requires consistent { IsConsistent model.now.model }
-    requires row { IsRow model.now.model row.now }
+    requires row { IsModelRow model.now.model row.now }
     requires vector { row.now.row.now.func ≡ AffineVec component.now.funcs.now }
     requires component { IsComponent output component.now }
     requires part { IsPart model.now.model part.now }
-    ensures { IfOk result (Leads model.now.model
+    ensures { IfOk result (LeadsToTarget model.now.model
         (edited model.now.model (output_edit row.now.name.now output part.now value))) }
 {
     match replaced(component.func, part, value)? {
@@ -131,8 +131,8 @@ pub(crate) fn set(
     set: &Set,
 ) -> Result<EditPlan, Memory>
     requires consistent { IsConsistent model.now.model }
-    requires row { IsRow model.now.model row.now }
-    ensures { IfOk result (Leads model.now.model
+    requires row { IsModelRow model.now.model row.now }
+    ensures { IfOk result (LeadsToTarget model.now.model
         (edited model.now.model (RowSet row.now.name.now set.now))) }
 {
     let row = row.row;
@@ -151,8 +151,8 @@ pub(crate) fn set(
 /// A row goes. Nothing is copied.
 pub(crate) fn delete(alloc: Global, model: &Catalog, row: &NamedRow) -> Result<EditPlan, Memory>
     requires consistent { IsConsistent model.now.model }
-    requires row { IsRow model.now.model row.now }
-    ensures { IfOk result (Leads model.now.model
+    requires row { IsModelRow model.now.model row.now }
+    ensures { IfOk result (LeadsToTarget model.now.model
         (edited model.now.model (DeleteRow row.now.name.now))) }
 {
     let number = row.row.id;
@@ -176,8 +176,8 @@ pub(crate) fn rename(
     new: &Name,
 ) -> Result<EditPlan, Memory>
     requires accepts { Accepts model.now.model (RenameRow row.now.name.now new.now) }
-    requires row { IsRow model.now.model row.now }
-    ensures { IfOk result (Leads model.now.model
+    requires row { IsModelRow model.now.model row.now }
+    ensures { IfOk result (LeadsToTarget model.now.model
         (edited model.now.model (RenameRow row.now.name.now new.now))) }
 {
     let row = row.row;

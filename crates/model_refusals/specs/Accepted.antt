@@ -37,16 +37,16 @@ edit_of (accepted.RenameVariable var new) = edit.RenameVariable var.name.now new
 edit_of (accepted.RenameRow row new) = edit.RenameRow row.name.now new.now
 
 -- the row is the model's with that name
-abbrev pub IsRow : ModelValue → NamedRow → Type 0
-IsRow model row = row_named model row.name.now ≡ Some row.row.now
+abbrev pub IsModelRow : ModelValue → NamedRow → Type 0
+IsModelRow model row = row_named model row.name.now ≡ Some row.row.now
 
 -- the number is that of the model's variable with that name
-abbrev pub IsVariable : ModelValue → NamedVariable → Type 0
-IsVariable model var = variable_named model var.name.now ≡ Some var.number
+abbrev pub IsModelVariable : ModelValue → NamedVariable → Type 0
+IsModelVariable model var = variable_named model var.name.now ≡ Some var.number
 
 -- the same, and the group is the variable's
-abbrev pub IsGrouped : ModelValue → GroupedVariable → Type 0
-IsGrouped model var = (variable_named model var.name.now ≡ Some var.number)
+abbrev pub IsGroupedVariable : ModelValue → GroupedVariable → Type 0
+IsGroupedVariable model var = (variable_named model var.name.now ≡ Some var.number)
     × (group_of model var.number ≡ Some var.group.now)
 
 -- the component is the function's with this output, counted from 1
@@ -57,31 +57,31 @@ IsComponent output component = (0 < output) × (component.place ≡ output - 1)
 -- what the edit found stands in the model
 abbrev pub IsFound : ModelValue → AcceptedEdit → Type 0
 IsFound model (accepted.Coef row func var value) =
-    IsRow model row × (row.row.now.func ≡ Affine func.now) × IsVariable model var
+    IsModelRow model row × (row.row.now.func ≡ Affine func.now) × IsModelVariable model var
 IsFound model (accepted.VecCoef row output component var value) =
-    IsRow model row × (row.row.now.func ≡ AffineVec component.funcs.now)
-    × IsComponent output component × IsVariable model var
+    IsModelRow model row × (row.row.now.func ≡ AffineVec component.funcs.now)
+    × IsComponent output component × IsModelVariable model var
 IsFound model (accepted.ObjCoef sense func var value) =
-    (model.objective ≡ objective.Affine sense func.now) × IsVariable model var
+    (model.objective ≡ objective.Affine sense func.now) × IsModelVariable model var
 IsFound model (accepted.Constant row func value) =
-    IsRow model row × (row.row.now.func ≡ Affine func.now)
+    IsModelRow model row × (row.row.now.func ≡ Affine func.now)
 IsFound model (accepted.VecConstant row output component value) =
-    IsRow model row × (row.row.now.func ≡ AffineVec component.funcs.now)
+    IsModelRow model row × (row.row.now.func ≡ AffineVec component.funcs.now)
     × IsComponent output component
 IsFound model (accepted.ObjConstant sense func value) =
     model.objective ≡ objective.Affine sense func.now
-IsFound model (accepted.RowSet row set) = IsRow model row
-IsFound model (accepted.Reset var set) = IsGrouped model var
-IsFound model (accepted.FreeGroup var) = IsGrouped model var
-IsFound model (accepted.DeleteVariable var) = IsGrouped model var
-IsFound model (accepted.DeleteRow row) = IsRow model row
-IsFound model (accepted.RenameVariable var new) = IsGrouped model var
-IsFound model (accepted.RenameRow row new) = IsRow model row
+IsFound model (accepted.RowSet row set) = IsModelRow model row
+IsFound model (accepted.Reset var set) = IsGroupedVariable model var
+IsFound model (accepted.FreeGroup var) = IsGroupedVariable model var
+IsFound model (accepted.DeleteVariable var) = IsGroupedVariable model var
+IsFound model (accepted.DeleteRow row) = IsModelRow model row
+IsFound model (accepted.RenameVariable var new) = IsGroupedVariable model var
+IsFound model (accepted.RenameRow row new) = IsModelRow model row
 IsFound model _ = Unit {0}
 
 -- the answer to an edit: where it isn't refused, the edit with what it found, and else the first
 -- refusal in their order
-abbrev pub IsAnswer : ModelValue → Edit → Result AcceptedEdit Refusal → Type 0
-IsAnswer model e answer = MatchResult answer
+abbrev pub IsEditAnswer : ModelValue → Edit → Result AcceptedEdit Refusal → Type 0
+IsEditAnswer model e answer = MatchResult answer
     (λ found. (first_refusal model e ≡ None) × (edit_of found ≡ e) × IsFound model found)
     (λ refusal. first_refusal model e ≡ Some refusal)

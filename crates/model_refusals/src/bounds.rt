@@ -4,7 +4,7 @@ ghost use Rattle.std.specs.List.{list_any};
 ghost use Rattle.user_model.specs.declared.edit.Edit.TheVariants as edit;
 ghost use Rattle.user_model.specs.Model.{has_lower_bound, has_upper_bound};
 ghost use Rattle.user_model.specs.Refusals.{first_of, is_cone_row_of, is_in_cone};
-ghost use Rattle.model_refusals.specs.Accepted.{IsGrouped};
+ghost use Rattle.model_refusals.specs.Accepted.{IsGroupedVariable};
 ghost use Rattle.model_refusals.specs.Bounds.{bound_tests};
 
 use crate::GroupedVariable;
@@ -57,7 +57,7 @@ fn has_upper_bound(model: &Catalog, number: u32) -> bool
 
 /// Whether the variable is in a norm-cone group or in a plain vector row over a norm cone.
 pub(crate) fn is_in_cone(model: &Catalog, var: &GroupedVariable) -> bool
-    requires { IsGrouped model.now.model var.now }
+    requires { IsGroupedVariable model.now.model var.now }
     ensures { result ≡ is_in_cone model.now.model var.now.number }
 {
     var.group.set.is_norm_cone() || is_in_cone_row(model.rows(), var.number)

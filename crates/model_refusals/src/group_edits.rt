@@ -1,7 +1,7 @@
 //! Edits of groups and of their variables: what they find, or their first refusal.
 ghost use Rattle.user_model.specs.declared.edit.Edit.TheVariants as edit;
 ghost use Rattle.user_model.specs.Consistent.{IsWithinLimits};
-ghost use Rattle.model_refusals.specs.Accepted.{IsAnswer};
+ghost use Rattle.model_refusals.specs.Accepted.{IsEditAnswer};
 
 use crate::AcceptedEdit;
 use crate::bounds::is_in_cone;
@@ -22,7 +22,7 @@ pub(crate) fn add<'a>(
     set: &'a Set,
 ) -> Result<AcceptedEdit<'a>, Refusal>
     requires { IsWithinLimits model.now.model }
-    ensures { IsAnswer model.now.model (edit.AddGroup names.now set.now) result }
+    ensures { IsEditAnswer model.now.model (edit.AddGroup names.now set.now) result }
 {
     if has_known(model, names) || has_twins(names) {
         return Err(Refusal::NameTaken);
@@ -49,7 +49,7 @@ pub(crate) fn reset<'a>(
     var: &'a Name,
     set: &'a Set,
 ) -> Result<AcceptedEdit<'a>, Refusal>
-    ensures { IsAnswer model.now.model (edit.Reset var.now set.now) result }
+    ensures { IsEditAnswer model.now.model (edit.Reset var.now set.now) result }
 {
     let var = grouped_variable(model, var)?;
     if !set.is_scalar() || !var.group.set.is_scalar() {
@@ -67,7 +67,7 @@ pub(crate) fn reset<'a>(
 /// A group of one variable becomes free.
 #[tactic(auto, unfolding(user_model::specs::Refusals::first_refusal))]
 pub(crate) fn free<'a>(model: &'a Catalog, var: &'a Name) -> Result<AcceptedEdit<'a>, Refusal>
-    ensures { IsAnswer model.now.model (edit.FreeGroup var.now) result }
+    ensures { IsEditAnswer model.now.model (edit.FreeGroup var.now) result }
 {
     let var = grouped_variable(model, var)?;
     if !var.group.set.is_scalar() {
@@ -82,7 +82,7 @@ pub(crate) fn delete_variable<'a>(
     model: &'a Catalog,
     var: &'a Name,
 ) -> Result<AcceptedEdit<'a>, Refusal>
-    ensures { IsAnswer model.now.model (edit.DeleteVariable var.now) result }
+    ensures { IsEditAnswer model.now.model (edit.DeleteVariable var.now) result }
 {
     let var = grouped_variable(model, var)?;
     if is_in_cone(model, &var) {
@@ -98,7 +98,7 @@ pub(crate) fn rename_variable<'a>(
     old: &'a Name,
     new: &'a Name,
 ) -> Result<AcceptedEdit<'a>, Refusal>
-    ensures { IsAnswer model.now.model (edit.RenameVariable old.now new.now) result }
+    ensures { IsEditAnswer model.now.model (edit.RenameVariable old.now new.now) result }
 {
     let var = grouped_variable(model, old)?;
     if has_variable(model, new) {

@@ -5,7 +5,7 @@ ghost use Rattle.user_model.specs.Functions.{mentioned};
 ghost use Rattle.user_model.specs.Model.{row_named, variable_named};
 ghost use Rattle.user_model.specs.declared.refusal.Refusal.TheVariants.{UnknownName};
 ghost use Rattle.user_model.specs.Refusals.{has_row_named, has_variable_named};
-ghost use Rattle.model_refusals.specs.Accepted.{IsGrouped, IsRow, IsVariable};
+ghost use Rattle.model_refusals.specs.Accepted.{IsGroupedVariable, IsModelRow, IsModelVariable};
 
 use crate::{GroupedVariable, NamedRow, NamedVariable};
 use model_catalog::Catalog;
@@ -16,7 +16,7 @@ use user_model::{NamedFunc, Refusal};
 /// The row with a name.
 pub(crate) fn row_named<'a>(model: &'a Catalog, name: &'a Name) -> Result<NamedRow<'a>, Refusal>
     ensures { MatchResult result
-        (λ row. (row.name.now ≡ name.now) × IsRow model.now.model row)
+        (λ row. (row.name.now ≡ name.now) × IsModelRow model.now.model row)
         (λ refusal. (refusal ≡ UnknownName) × (row_named model.now.model name.now ≡ None)) }
 {
     let Some(row) = model.row(name) else {
@@ -31,7 +31,7 @@ pub(crate) fn variable_named<'a>(
     name: &'a Name,
 ) -> Result<NamedVariable<'a>, Refusal>
     ensures { MatchResult result
-        (λ var. (var.name.now ≡ name.now) × IsVariable model.now.model var)
+        (λ var. (var.name.now ≡ name.now) × IsModelVariable model.now.model var)
         (λ refusal. (refusal ≡ UnknownName) × (variable_named model.now.model name.now ≡ None)) }
 {
     let Some(number) = model.variable(name) else {
@@ -46,7 +46,7 @@ pub(crate) fn grouped_variable<'a>(
     name: &'a Name,
 ) -> Result<GroupedVariable<'a>, Refusal>
     ensures { MatchResult result
-        (λ var. (var.name.now ≡ name.now) × IsGrouped model.now.model var)
+        (λ var. (var.name.now ≡ name.now) × IsGroupedVariable model.now.model var)
         (λ refusal. (refusal ≡ UnknownName) × (variable_named model.now.model name.now ≡ None)) }
 {
     let found = variable_named(model, name)?;

@@ -1,7 +1,7 @@
 //! Edits of the objective: what they find, or their first refusal.
 ghost use Rattle.user_model.specs.declared.edit.Edit.TheVariants as edit;
 ghost use Rattle.user_model.specs.Consistent.{IsConsistent, IsWithinLimits};
-ghost use Rattle.model_refusals.specs.Accepted.{IsAnswer};
+ghost use Rattle.model_refusals.specs.Accepted.{IsEditAnswer};
 
 use crate::AcceptedEdit;
 use crate::full::{full_by_change, full_by_objective};
@@ -21,7 +21,7 @@ pub(crate) fn set<'a>(
 ) -> Result<AcceptedEdit<'a>, Refusal>
     requires consistent { IsConsistent model.now.model }
     requires within { IsWithinLimits model.now.model }
-    ensures { IsAnswer model.now.model (edit.Objective sense func.now) result }
+    ensures { IsEditAnswer model.now.model (edit.Objective sense func.now) result }
 {
     if has_unknown(model, func) {
         return Err(Refusal::UnknownName);
@@ -43,7 +43,7 @@ pub(crate) fn coef<'a>(
     value: &Ratio,
 ) -> Result<AcceptedEdit<'a>, Refusal>
     requires { IsWithinLimits model.now.model }
-    ensures { IsAnswer model.now.model (edit.ObjCoef var.now value.now) result }
+    ensures { IsEditAnswer model.now.model (edit.ObjCoef var.now value.now) result }
 {
     let var = variable_named(model, var)?;
     let Objective::Affine { sense, func } = model.objective() else {
@@ -63,7 +63,7 @@ pub(crate) fn coef<'a>(
 /// Another constant of the affine objective.
 #[tactic(auto, unfolding(user_model::specs::Refusals::first_refusal))]
 pub(crate) fn constant<'a>(model: &'a Catalog, value: &Ratio) -> Result<AcceptedEdit<'a>, Refusal>
-    ensures { IsAnswer model.now.model (edit.ObjConstant value.now) result }
+    ensures { IsEditAnswer model.now.model (edit.ObjConstant value.now) result }
 {
     let Objective::Affine { sense, func } = model.objective() else {
         return Err(Refusal::FunctionShape);

@@ -1,5 +1,5 @@
 //! Which refusal an edit meets.
-ghost use Rattle.model_refusals.specs.Accepted.{IsAnswer};
+ghost use Rattle.model_refusals.specs.Accepted.{IsEditAnswer};
 
 use crate::{AcceptedEdit, group_edits, objective_edits, row_edits};
 use model_catalog::Catalog;
@@ -16,7 +16,7 @@ use user_model::{Edit, Refusal};
 /// cones; no other edit reads a row that it doesn't name.
 #[tactic(auto, unfolding(user_model::specs::Refusals::first_refusal))]
 pub fn accepted<'a>(model: &'a Catalog, edit: &'a Edit) -> Result<AcceptedEdit<'a>, Refusal>
-    ensures { IsAnswer model.now.model edit.now result }
+    ensures { IsEditAnswer model.now.model edit.now result }
 {
     // read first, since the limits rest on what `rows` ensures of the model
     let _ = model.rows();

@@ -1,7 +1,7 @@
 //! Edits of rows: what they find, or their first refusal.
 ghost use Rattle.user_model.specs.declared.edit.Edit.TheVariants as edit;
 ghost use Rattle.user_model.specs.Consistent.{IsConsistent, IsWithinLimits};
-ghost use Rattle.model_refusals.specs.Accepted.{IsAnswer};
+ghost use Rattle.model_refusals.specs.Accepted.{IsEditAnswer};
 
 use crate::AcceptedEdit;
 use crate::bounds::bound_already_set;
@@ -26,7 +26,7 @@ pub(crate) fn add<'a>(
 ) -> Result<AcceptedEdit<'a>, Refusal>
     requires consistent { IsConsistent model.now.model }
     requires within { IsWithinLimits model.now.model }
-    ensures { IsAnswer model.now.model (edit.AddRow name.now func.now set.now) result }
+    ensures { IsEditAnswer model.now.model (edit.AddRow name.now func.now set.now) result }
 {
     if has_unknown(model, func) {
         return Err(Refusal::UnknownName);
@@ -62,7 +62,7 @@ pub(crate) fn coef<'a>(
 ) -> Result<AcceptedEdit<'a>, Refusal>
     requires consistent { IsConsistent model.now.model }
     requires within { IsWithinLimits model.now.model }
-    ensures { IsAnswer model.now.model (edit.Coef row.now var.now value.now) result }
+    ensures { IsEditAnswer model.now.model (edit.Coef row.now var.now value.now) result }
 {
     let var = variable_named(model, var)?;
     let row = row_named(model, row)?;
@@ -87,7 +87,7 @@ pub(crate) fn constant<'a>(
     row: &'a Name,
     value: &Ratio,
 ) -> Result<AcceptedEdit<'a>, Refusal>
-    ensures { IsAnswer model.now.model (edit.Constant row.now value.now) result }
+    ensures { IsEditAnswer model.now.model (edit.Constant row.now value.now) result }
 {
     let row = row_named(model, row)?;
     let UserFunc::Affine(func) = &row.row.func else {
@@ -111,7 +111,7 @@ pub(crate) fn vec_coef<'a>(
 ) -> Result<AcceptedEdit<'a>, Refusal>
     requires consistent { IsConsistent model.now.model }
     requires within { IsWithinLimits model.now.model }
-    ensures { IsAnswer model.now.model (edit.VecCoef row.now output var.now value.now) result }
+    ensures { IsEditAnswer model.now.model (edit.VecCoef row.now output var.now value.now) result }
 {
     let var = variable_named(model, var)?;
     let row = row_named(model, row)?;
@@ -141,7 +141,7 @@ pub(crate) fn vec_constant<'a>(
     output: u32,
     value: &Ratio,
 ) -> Result<AcceptedEdit<'a>, Refusal>
-    ensures { IsAnswer model.now.model (edit.VecConstant row.now output value.now) result }
+    ensures { IsEditAnswer model.now.model (edit.VecConstant row.now output value.now) result }
 {
     let row = row_named(model, row)?;
     let UserFunc::AffineVec(funcs) = &row.row.func else {
@@ -165,7 +165,7 @@ pub(crate) fn set<'a>(
     row: &'a Name,
     set: &'a Set,
 ) -> Result<AcceptedEdit<'a>, Refusal>
-    ensures { IsAnswer model.now.model (edit.RowSet row.now set.now) result }
+    ensures { IsEditAnswer model.now.model (edit.RowSet row.now set.now) result }
 {
     let row = row_named(model, row)?;
     if differ(is_scalar_function(&row.row.func), set.is_scalar()) {
@@ -186,7 +186,7 @@ pub(crate) fn set<'a>(
 /// A row goes.
 #[tactic(auto, unfolding(user_model::specs::Refusals::first_refusal))]
 pub(crate) fn delete<'a>(model: &'a Catalog, row: &'a Name) -> Result<AcceptedEdit<'a>, Refusal>
-    ensures { IsAnswer model.now.model (edit.DeleteRow row.now) result }
+    ensures { IsEditAnswer model.now.model (edit.DeleteRow row.now) result }
 {
     let row = row_named(model, row)?;
     Ok(AcceptedEdit::DeleteRow { row })
@@ -199,7 +199,7 @@ pub(crate) fn rename<'a>(
     old: &'a Name,
     new: &'a Name,
 ) -> Result<AcceptedEdit<'a>, Refusal>
-    ensures { IsAnswer model.now.model (edit.RenameRow old.now new.now) result }
+    ensures { IsEditAnswer model.now.model (edit.RenameRow old.now new.now) result }
 {
     let row = row_named(model, old)?;
     if has_row(model, new) {

@@ -20,19 +20,19 @@ use Rattle.model_store.specs.declared.parked.Parked.{Parked}
 use Rattle.model_store.specs.declared.parking.NameCounts.{NameCounts}
 use Rattle.model_store.specs.declared.parking.Reserved.{Reserved}
 use Rattle.model_plans.specs.declared.plan.EditPlan.{EditPlan}
-use Rattle.model_catalog.specs.Catalog.{Catalog, Room}
+use Rattle.model_catalog.specs.Catalog.{Catalog, CatalogRoom}
 use Rattle.model_catalog.specs.Exchange.{HasRoomFor, IsExchange, KeepsRoom, contents, exchanged, standing}
 use Rattle.model_catalog.specs.Names.{put_count}
 use Rattle.model_catalog.specs.Named.{AreNameChanges, HasStandingNames}
-use Rattle.model_store.specs.Rooms.{HasLengths, IsCounted, IsParked, IsReserved, row_count, variable_count}
+use Rattle.model_store.specs.Rooms.{AreNamesCounted, HasLengths, IsParked, IsReserved, row_count, variable_count}
 use Rattle.model_store.specs.declared.store.UserModel.TheInside.{Inside}
-use Rattle.model_store.specs.Store.{HasParked, IsEntryOf, Stored}
-use Rattle.model_store.specs.Parking.{IsSound, stored_of}
+use Rattle.model_store.specs.Store.{HasParked, IsUndoEntry, StoredModel}
+use Rattle.model_store.specs.Parking.{IsStoreSound, stored_of}
 
 put-le : (listed : List NameChange) → put_count listed ≤ length listed
 put-le listed = count_by-le-length (λ l. is_some l.name) listed
 
-more_lengths : (parked : List Parked) (old new : Room) → old.groups ≤ new.groups
+more_lengths : (parked : List Parked) (old new : CatalogRoom) → old.groups ≤ new.groups
     → old.rows ≤ new.rows → old.variables ≤ new.variables → All (HasLengths old) parked
     → All (HasLengths new) parked
 more_lengths parked old new groups rows vars h =
@@ -95,7 +95,7 @@ pub entry_of : (plan : EditPlan) (names : NameCounts) (reserved : Reserved) (old
     → AreNameChanges entry.names new.model old.model → entry.groups ≡ reserved.groups
     → entry.rows ≡ reserved.rows → entry.variables
     ≡ length (variables new.model) + put_count entry.names.variables.items
-    → IsEntryOf entry new.model undo
+    → IsUndoEntry entry new.model undo
 entry_of plan names reserved old new entry undo h c are after is back lists groups rows vars =
     let gs = plan.exchange.groups.items in
     let rs = plan.exchange.rows.items in
@@ -116,28 +116,28 @@ entry_of plan names reserved old new entry undo h c are after is back lists grou
 -- ---- one entry less
 
 -- the entry that is taken out is that of the undo
-pub entry_taken : (a : Inside) (stored : Stored) (others left : List Parked) (entry : Parked)
+pub entry_taken : (a : Inside) (stored : StoredModel) (others left : List Parked) (entry : Parked)
     (undo : Undo) → stored_of a ≡ stored → HasParked others stored.parked stored.model undo
-    → a.parked.items ≡ left ++ entry ∷ [] → IsEntryOf entry a.catalog.model undo
+    → a.parked.items ≡ left ++ entry ∷ [] → IsUndoEntry entry a.catalog.model undo
 entry_taken a stored others left entry undo view parked is =
-    let h = subst (λ (s : Stored). HasParked others s.parked s.model undo) (sym view) parked in
-    subst (λ p. IsEntryOf p a.catalog.model undo)
+    let h = subst (λ (s : StoredModel). HasParked others s.parked s.model undo) (sym view) parked in
+    subst (λ p. IsUndoEntry p a.catalog.model undo)
     (same_from_push others left h.entry entry (sym h.last ∙ is)).1 h.is
 
-module _ (a : Inside) (sound : IsSound a) (others : List Parked) (entry : Parked)
+module _ (a : Inside) (sound : IsStoreSound a) (others : List Parked) (entry : Parked)
     (last : a.parked.items ≡ others ++ entry ∷ []) where
   were_parked : IsParked (others ++ entry ∷ []) a.names a.catalog.room
   were_parked = subst (λ ps. IsParked ps a.names a.catalog.room) last sound.room
 
   pub entry_room : (with : Exchange) (undo : Undo) → contents with ≡ undo
-      → IsEntryOf entry a.catalog.model undo → HasRoomFor with entry.names a.catalog
+      → IsUndoEntry entry a.catalog.model undo → HasRoomFor with entry.names a.catalog
   entry_room with undo is e =
       let l = All-head (HasLengths a.catalog.room) entry [] (all_second (HasLengths a.catalog.room)
       others (entry ∷ []) were_parked.lengths) in
-      let f = subst (IsEntryOf entry a.catalog.model) (sym is) e in
+      let f = subst (IsUndoEntry entry a.catalog.model) (sym is) e in
       record { groups = omega arith; rows = omega arith; variables = omega arith }
 
-  pub parked_less : (left : NameCounts) (new : Room) → IsCounted others left
+  pub parked_less : (left : NameCounts) (new : CatalogRoom) → AreNamesCounted others left
       → KeepsRoom entry.names a.catalog.room new → IsParked others left new
   parked_less left new c keeps =
       let h = were_parked in
@@ -154,7 +154,7 @@ module _ (a : Inside) (sound : IsSound a) (others : List Parked) (entry : Parked
       }
 
   -- nothing is put back
-  pub parked_settled : (left : NameCounts) → IsCounted others left
+  pub parked_settled : (left : NameCounts) → AreNamesCounted others left
       → IsParked others left a.catalog.room
   parked_settled left c =
       parked_less left a.catalog.room c (record {
@@ -166,7 +166,7 @@ module _ (a : Inside) (sound : IsSound a) (others : List Parked) (entry : Parked
       })
 
 pub exchange_of : (with : Exchange) (undo : Undo) (entry : Parked) (model : ModelValue)
-    → contents with ≡ undo → IsEntryOf entry model undo → IsExchange with
+    → contents with ≡ undo → IsUndoEntry entry model undo → IsExchange with
 exchange_of with undo entry model is e =
-    let f = subst (IsEntryOf entry model) (sym is) e in
+    let f = subst (IsUndoEntry entry model) (sym is) e in
     record { groups = f.group_changes; rows = f.row_changes }

@@ -5,7 +5,7 @@ use Rattle.model_store.specs.declared.parked.Parked.{Parked}
 use Rattle.model_store.specs.declared.parking.NameCounts.{NameCounts}
 use Rattle.model_store.specs.declared.parking.Reserved.{Reserved}
 use Rattle.model_plans.specs.declared.plan.EditPlan.{EditPlan}
-use Rattle.model_catalog.specs.Catalog.{Catalog, Room}
+use Rattle.model_catalog.specs.Catalog.{Catalog, CatalogRoom}
 
 -- how many names of variables, and of rows, an entry puts back at most
 abbrev pub variable_count : Parked → ℕ
@@ -15,20 +15,20 @@ abbrev pub row_count : Parked → ℕ
 row_count entry = length entry.names.rows.items
 
 -- the counts are those of all entries together
-pub record IsCounted (parked : List Parked) (names : NameCounts) : Type 0 where
+pub record AreNamesCounted (parked : List Parked) (names : NameCounts) : Type 0 where
   pub variables : sum_by variable_count parked ≡ names.variables
   pub rows : sum_by row_count parked ≡ names.rows
 
 -- the lengths that an entry restores are within the capacities
-pub record HasLengths (room : Room) (entry : Parked) : Type 0 where
+pub record HasLengths (room : CatalogRoom) (entry : Parked) : Type 0 where
   pub groups : entry.groups ≤ room.groups
   pub rows : entry.rows ≤ room.rows
   pub variables : entry.variables ≤ room.variables
 
 -- there is room for each entry, for its names beside those of the others
-pub record IsParked (parked : List Parked) (names : NameCounts) (room : Room) : Type 0 where
+pub record IsParked (parked : List Parked) (names : NameCounts) (room : CatalogRoom) : Type 0 where
   pub lengths : All (HasLengths room) parked
-  pub counted : IsCounted parked names
+  pub counted : AreNamesCounted parked names
   pub variables : names.variables ≤ room.variable_names
   pub rows : names.rows ≤ room.row_names
 

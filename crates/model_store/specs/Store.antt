@@ -16,18 +16,18 @@ use Rattle.model_catalog.specs.Catalog.{model_code}
 use Rattle.model_catalog.specs.Names.{put_count}
 use Rattle.model_catalog.specs.Named.{AreNameChanges}
 
-pub record Stored : Type 0 where
+pub record StoredModel : Type 0 where
   pub model : ModelValue
   pub parked : List Parked
 
-abbrev pub stored_code : Coded Stored
+abbrev pub stored_code : Coded StoredModel
 stored_code =
     code_by (ModelValue × List Parked) (coded× model_code (coded_list (parked.the_row).coded))
     (λ s. (s.model, s.parked)) (λ p. record { model = p.0; parked = p.1 }) (λ _. refl)
 
 -- the entry is this undo's, as the model stands: the undo lists groups and rows in order, and the
 -- entry has the names that it puts back, and lengths that are enough for it
-pub record IsEntryOf (entry : Parked) (model : ModelValue) (undo : Undo) : Type 0 where
+pub record IsUndoEntry (entry : Parked) (model : ModelValue) (undo : Undo) : Type 0 where
   pub group_changes : AreChanges group_number undo.groups
   pub row_changes : AreChanges row_number undo.rows
   pub names : AreNameChanges entry.names model (before model undo)
@@ -40,7 +40,7 @@ pub record HasParked (shorter longer : List Parked) (model : ModelValue)
     (undo : Undo) : Type 0 where
   pub entry : Parked
   pub last : longer ≡ shorter ++ entry ∷ []
-  pub is : IsEntryOf entry model undo
+  pub is : IsUndoEntry entry model undo
 
 -- the last entry is this undo's: it was made for it, as some model stood then
 pub record IsLastOf (parked : List Parked) (undo : Undo) : Type 0 where

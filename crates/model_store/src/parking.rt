@@ -6,7 +6,7 @@ ghost use Rattle.user_model.specs.Undone.{before};
 ghost use Rattle.model_catalog.specs.Exchange.{IsExchange, IsNoLess, contents, exchanged, standing};
 ghost use Rattle.model_catalog.specs.Named.{AreNameChanges};
 ghost use Rattle.model_catalog.specs.Names as names;
-ghost use Rattle.model_store.specs.Rooms.{IsCounted, IsParked, IsReserved};
+ghost use Rattle.model_store.specs.Rooms.{AreNamesCounted, IsParked, IsReserved};
 ghost use Rattle.model_store.specs.Store.{HasParked};
 
 use crate::Parked;
@@ -157,9 +157,9 @@ fn push_with_room(parked: &mut Vec<Parked>, entry: Parked)
 /// Removes the last entry. There is one.
 pub(crate) fn take_last(parked: &mut Vec<Parked>, names: &mut NameCounts) -> Parked
     requires some { 0 < vec_len parked.old }
-    requires counted { IsCounted parked.old.items names.old }
+    requires counted { AreNamesCounted parked.old.items names.old }
     ensures last { parked.old.items ≡ parked.new.items ++ result ∷ [] }
-    ensures counted { IsCounted parked.new.items names.new }
+    ensures counted { AreNamesCounted parked.new.items names.new }
 {
     let Some(entry) = parked.pop() else {
         unreachable!()

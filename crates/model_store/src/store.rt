@@ -8,7 +8,7 @@ ghost use Rattle.user_model.specs.Refusals as refusals;
 ghost use Rattle.user_model.specs.Undone.{IsUndo, before};
 ghost use Rattle.user_model.specs.Valid.{IsValid};
 ghost use Rattle.model_store.specs.declared.parked.Parked.{Parked};
-ghost use Rattle.model_plans.specs.Plans.{Leads};
+ghost use Rattle.model_plans.specs.Plans.{LeadsToTarget};
 ghost use Rattle.user_model.specs.Accepted.{LeadsTo};
 ghost use Rattle.model_store.specs.Store.{HasParked, IsButLast, IsLastOf, refusal_of};
 ghost use Rattle.user_model.specs.Model.{name_at};
@@ -38,17 +38,17 @@ pub struct UserModel {
 }
 
 impl Model for UserModel {
-    ghost use Rattle.model_store.specs.Store.{Stored, stored_code};
+    ghost use Rattle.model_store.specs.Store.{StoredModel, stored_code};
 
-    ghost Value = { Stored };
+    ghost Value = { StoredModel };
 
     ghost coded = { stored_code };
 
-    ghost use Rattle.model_store.specs.Parking.{IsSound, stored_of};
+    ghost use Rattle.model_store.specs.Parking.{IsStoreSound, stored_of};
 
     ghost view = { stored_of };
 
-    ghost invariant = { IsSound };
+    ghost invariant = { IsStoreSound };
 }
 
 impl UserModel {
@@ -181,7 +181,8 @@ impl UserModel {
 // What an edit is to make of the model, or why it isn't made.
 fn plan_of(alloc: Global, catalog: &Catalog, edit: &Edit) -> Result<EditPlan, ApplyFault>
     ensures ok { IfOk result (λ _. refusals.first_refusal catalog.now.model edit.now ≡ None) }
-    ensures leads { IfOk result (Leads catalog.now.model (edited catalog.now.model edit.now)) }
+    ensures leads { IfOk result
+        (LeadsToTarget catalog.now.model (edited catalog.now.model edit.now)) }
     ensures refused { IfErr result (λ fault. refusal_of fault
         ≡ refusals.first_refusal catalog.now.model edit.now) }
     ensures consistent { IsConsistent catalog.now.model }

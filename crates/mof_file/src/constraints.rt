@@ -5,7 +5,7 @@ ghost use Rattle.serde_json.specs.View.{view};
 ghost use Rattle.mof_file.specs.File.{constraint_of, constraints_of, function_in_set_of, is_unequal, named_constraint_of, optional, row_name_of, set_for};
 ghost use Rattle.mof_file.specs.Functions.{function_of_any};
 ghost use Rattle.mof_values.specs.Values.{walk_at};
-ghost use Rattle.mof_values.specs.Walked.{Meets};
+ghost use Rattle.mof_values.specs.Walked.{MeetsWalk};
 
 use crate::functions::function;
 use crate::items::{AddItem, add_each};
@@ -34,7 +34,7 @@ pub(crate) fn optional_constraints(
     known: &IndexSet<Name>,
     value: &Value,
 ) -> Result<Vec<FileConstraint>, MofFault>
-    ensures { Meets (λ constraints. constraints.items) result
+    ensures { MeetsWalk (λ constraints. constraints.items) result
         (optional [] (constraints_of known.now.keys) "constraints" (view value.now)) }
 {
     match value.get("constraints") {
@@ -49,7 +49,7 @@ fn constraint_list(
     known: &IndexSet<Name>,
     value: &Value,
 ) -> Result<Vec<FileConstraint>, MofFault>
-    ensures { Meets (λ constraints. constraints.items) result
+    ensures { MeetsWalk (λ constraints. constraints.items) result
         (constraints_of known.now.keys (view value.now)) }
 {
     let items = array(alloc, value)?;
@@ -88,7 +88,7 @@ fn constraint(
     known: &IndexSet<Name>,
     value: &Value,
 ) -> Result<FileConstraint, MofFault>
-    ensures { Meets (λ constraint. constraint) result
+    ensures { MeetsWalk (λ constraint. constraint) result
         (constraint_of known.now.keys (view value.now)) }
 {
     require_object(alloc, value)?;
@@ -101,7 +101,7 @@ fn function_in_set(
     known: &IndexSet<Name>,
     value: &Value,
 ) -> Result<FileConstraint, MofFault>
-    ensures { Meets (λ constraint. constraint) result
+    ensures { MeetsWalk (λ constraint. constraint) result
         (function_in_set_of known.now.keys (view value.now)) }
 {
     let func = function_field(alloc, known, "function", value)?;
@@ -116,7 +116,7 @@ fn function_field(
     name: &str,
     value: &Value,
 ) -> Result<NamedFunc, MofFault>
-    ensures { Meets (λ func. func) result
+    ensures { MeetsWalk (λ func. func) result
         (walk_at (function_of_any known.now.keys) name.now (view value.now)) }
 {
     let found = field(alloc, name, value)?;
@@ -125,7 +125,7 @@ fn function_field(
 
 #[tactic(auto, using(mof_values::specs::WalkLaws::walk_at_steps))]
 fn set_field(alloc: Global, func: &NamedFunc, name: &str, value: &Value) -> Result<Set, MofFault>
-    ensures { Meets (λ set. set) result (walk_at (set_for func.now) name.now (view value.now)) }
+    ensures { MeetsWalk (λ set. set) result (walk_at (set_for func.now) name.now (view value.now)) }
 {
     let found = field(alloc, name, value)?;
     at_key(alloc, name, set_for(alloc, func, found))
@@ -134,7 +134,7 @@ fn set_field(alloc: Global, func: &NamedFunc, name: &str, value: &Value) -> Resu
 // A set that a function's values can be in.
 #[tactic(auto, unfolding(crate::specs::File::set_for))]
 fn set_for(alloc: Global, func: &NamedFunc, value: &Value) -> Result<Set, MofFault>
-    ensures { Meets (λ set. set) result (set_for func.now (view value.now)) }
+    ensures { MeetsWalk (λ set. set) result (set_for func.now (view value.now)) }
 {
     let set = read_set(alloc, value)?;
     if is_unequal(func, &set) {
@@ -168,7 +168,7 @@ fn named_constraint(
     set: Set,
     value: &Value,
 ) -> Result<FileConstraint, MofFault>
-    ensures { Meets (λ constraint. constraint) result
+    ensures { MeetsWalk (λ constraint. constraint) result
         (named_constraint_of func set (view value.now)) }
 {
     let name = optional_name(alloc, value)?;
@@ -178,7 +178,7 @@ fn named_constraint(
 // The name of a constraint, which may be missing.
 #[tactic(auto, using(mof_values::specs::WalkLaws::at_met))]
 fn optional_name(alloc: Global, value: &Value) -> Result<Option<Name>, MofFault>
-    ensures { Meets (λ name. name) result (optional None row_name_of "name" (view value.now)) }
+    ensures { MeetsWalk (λ name. name) result (optional None row_name_of "name" (view value.now)) }
 {
     match value.get("name") {
         Some(found) => at_key(alloc, "name", row_name(alloc, found)),
@@ -189,7 +189,7 @@ fn optional_name(alloc: Global, value: &Value) -> Result<Option<Name>, MofFault>
 // The name, where a row can have it.
 #[tactic(auto, unfolding(crate::specs::File::row_name_of))]
 fn row_name(alloc: Global, value: &Value) -> Result<Option<Name>, MofFault>
-    ensures { Meets (λ name. name) result (row_name_of (view value.now)) }
+    ensures { MeetsWalk (λ name. name) result (row_name_of (view value.now)) }
 {
     let text = text(alloc, value)?;
     let name = given_name(alloc, text)?;

@@ -3,7 +3,7 @@ ghost use Rattle.serde_json.specs.View.{view};
 ghost use Rattle.user_model.specs.declared.edit.NamedFunc.TheVariants as named;
 ghost use Rattle.mof_file.specs.Functions.{affine_of, function_of_any, objective_function_of, scalar_function_of, typed_function_of, variable_of, variables_of, vector_affine_of};
 ghost use Rattle.mof_values.specs.Values.{field, walk_at};
-ghost use Rattle.mof_values.specs.Walked.{Meets, mapped};
+ghost use Rattle.mof_values.specs.Walked.{MeetsWalk, mapped};
 
 use crate::items::{AddItem, add_each};
 use crate::scalar::affine;
@@ -23,7 +23,7 @@ pub(crate) fn function(
     known: &IndexSet<Name>,
     value: &Value,
 ) -> Result<NamedFunc, MofFault>
-    ensures { Meets (λ func. func) result (function_of_any known.now.keys (view value.now)) }
+    ensures { MeetsWalk (λ func. func) result (function_of_any known.now.keys (view value.now)) }
 {
     let kind = kind(alloc, value)?;
     typed_function(alloc, known, kind, value)
@@ -36,7 +36,8 @@ pub(crate) fn objective_function(
     known: &IndexSet<Name>,
     value: &Value,
 ) -> Result<NamedFunc, MofFault>
-    ensures { Meets (λ func. func) result (objective_function_of known.now.keys (view value.now)) }
+    ensures { MeetsWalk (λ func. func) result
+        (objective_function_of known.now.keys (view value.now)) }
 {
     let kind = kind(alloc, value)?;
     scalar_function(alloc, known, kind, value)
@@ -49,7 +50,7 @@ fn typed_function(
     kind: &str,
     value: &Value,
 ) -> Result<NamedFunc, MofFault>
-    ensures { Meets (λ func. func) result
+    ensures { MeetsWalk (λ func. func) result
         (typed_function_of known.now.keys kind.now (view value.now)) }
 {
     if is(kind, "VectorOfVariables") {
@@ -68,7 +69,7 @@ fn scalar_function(
     kind: &str,
     value: &Value,
 ) -> Result<NamedFunc, MofFault>
-    ensures { Meets (λ func. func) result
+    ensures { MeetsWalk (λ func. func) result
         (scalar_function_of known.now.keys kind.now (view value.now)) }
 {
     if is(kind, "Variable") {
@@ -81,7 +82,7 @@ fn scalar_function(
 }
 
 fn plain(alloc: Global, known: &IndexSet<Name>, value: &Value) -> Result<NamedFunc, MofFault>
-    ensures { Meets (λ func. func) result
+    ensures { MeetsWalk (λ func. func) result
         (mapped named.Plain (field (variable_of known.now.keys) "name" (view value.now))) }
 {
     let variable = variable_field(alloc, known, "name", value)?;
@@ -93,7 +94,7 @@ fn scalar_affine(
     known: &IndexSet<Name>,
     value: &Value,
 ) -> Result<NamedFunc, MofFault>
-    ensures { Meets (λ func. func) result
+    ensures { MeetsWalk (λ func. func) result
         (mapped named.Affine (affine_of known.now.keys (view value.now))) }
 {
     let func = affine(alloc, known, value)?;
@@ -101,7 +102,7 @@ fn scalar_affine(
 }
 
 fn plain_vec(alloc: Global, known: &IndexSet<Name>, value: &Value) -> Result<NamedFunc, MofFault>
-    ensures { Meets (λ func. func) result
+    ensures { MeetsWalk (λ func. func) result
         (mapped named.PlainVec (field (variables_of known.now.keys) "variables" (view value.now))) }
 {
     let variables = variables_field(alloc, known, "variables", value)?;
@@ -109,7 +110,7 @@ fn plain_vec(alloc: Global, known: &IndexSet<Name>, value: &Value) -> Result<Nam
 }
 
 fn affine_vec(alloc: Global, known: &IndexSet<Name>, value: &Value) -> Result<NamedFunc, MofFault>
-    ensures { Meets (λ func. func) result
+    ensures { MeetsWalk (λ func. func) result
         (mapped named.AffineVec (vector_affine_of known.now.keys (view value.now))) }
 {
     let functions = vector_affine(alloc, known, value)?;
@@ -123,7 +124,7 @@ fn variables_field(
     name: &str,
     value: &Value,
 ) -> Result<Names, MofFault>
-    ensures { Meets (λ names. names) result
+    ensures { MeetsWalk (λ names. names) result
         (walk_at (variables_of known.now.keys) name.now (view value.now)) }
 {
     let found = field(alloc, name, value)?;
@@ -132,7 +133,7 @@ fn variables_field(
 
 #[tactic(auto, unfolding(crate::specs::Functions::variables_of))]
 fn variable_list(alloc: Global, known: &IndexSet<Name>, value: &Value) -> Result<Names, MofFault>
-    ensures { Meets (λ names. names) result (variables_of known.now.keys (view value.now)) }
+    ensures { MeetsWalk (λ names. names) result (variables_of known.now.keys (view value.now)) }
 {
     let items = array(alloc, value)?;
     let mut names = Names::new(alloc);

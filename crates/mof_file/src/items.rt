@@ -1,7 +1,7 @@
 //! The items of an array, added one after another.
 ghost use Rattle.serde_json.specs.Data.{Data};
 ghost use Rattle.serde_json.specs.View.{items_view, view};
-ghost use Rattle.mof_values.specs.Walked.{Meets, Walked, each};
+ghost use Rattle.mof_values.specs.Walked.{MeetsWalk, Walked, each};
 
 use mof_values::MofFault;
 use serde_json::Value;
@@ -17,7 +17,7 @@ pub(crate) trait AddItem<K> {
     ghost with_item: { K → Seen → Data → Walked Seen };
 
     fn add_item(&mut self, alloc: Global, known: &K, item: &Value) -> Result<(), MofFault>
-        ensures { Meets (λ _. seen self.new) result
+        ensures { MeetsWalk (λ _. seen self.new) result
             (with_item known.now (seen self.old) (view item.now)) };
 }
 
@@ -28,7 +28,7 @@ pub(crate) fn add_each<K, S: AddItem<K>>(
     sum: &mut S,
     items: &[Value],
 ) -> Result<(), MofFault>
-    ensures { Meets (λ _. S.seen sum.new) result
+    ensures { MeetsWalk (λ _. S.seen sum.new) result
         (each (S.with_item known.now) 0 (S.seen sum.old) (items_view items.now)) }
 {
     for (place, item) in items.iter().enumerate() {

@@ -5,7 +5,7 @@ ghost use Rattle.mof_file.specs.declared.objectives.FileObjective.TheVariants as
 ghost use Rattle.mof_file.specs.File.{objective_of, optional, sense_named, sense_of, sensed_of};
 ghost use Rattle.mof_file.specs.Functions.{objective_function_of};
 ghost use Rattle.mof_values.specs.Values.{walk_at};
-ghost use Rattle.mof_values.specs.Walked.{Meets};
+ghost use Rattle.mof_values.specs.Walked.{MeetsWalk};
 
 use crate::functions::objective_function;
 use indexmap::IndexSet;
@@ -30,7 +30,7 @@ pub(crate) fn optional_objective(
     known: &IndexSet<Name>,
     value: &Value,
 ) -> Result<FileObjective, MofFault>
-    ensures { Meets (λ objective. objective) result
+    ensures { MeetsWalk (λ objective. objective) result
         (optional told.Feasibility (objective_of known.now.keys) "objective" (view value.now)) }
 {
     match value.get("objective") {
@@ -45,7 +45,8 @@ fn objective(
     known: &IndexSet<Name>,
     value: &Value,
 ) -> Result<FileObjective, MofFault>
-    ensures { Meets (λ objective. objective) result (objective_of known.now.keys (view value.now)) }
+    ensures { MeetsWalk (λ objective. objective) result
+        (objective_of known.now.keys (view value.now)) }
 {
     require_object(alloc, value)?;
     let sense = sense_field(alloc, "sense", value)?;
@@ -59,7 +60,7 @@ fn sensed(
     sense: Option<Sense>,
     value: &Value,
 ) -> Result<FileObjective, MofFault>
-    ensures { Meets (λ objective. objective) result
+    ensures { MeetsWalk (λ objective. objective) result
         (sensed_of known.now.keys sense (view value.now)) }
 {
     let Some(sense) = sense else {
@@ -76,7 +77,7 @@ fn function_field(
     name: &str,
     value: &Value,
 ) -> Result<NamedFunc, MofFault>
-    ensures { Meets (λ func. func) result
+    ensures { MeetsWalk (λ func. func) result
         (walk_at (objective_function_of known.now.keys) name.now (view value.now)) }
 {
     let found = field(alloc, name, value)?;
@@ -85,7 +86,7 @@ fn function_field(
 
 #[tactic(auto, using(mof_values::specs::WalkLaws::walk_at_steps))]
 fn sense_field(alloc: Global, name: &str, value: &Value) -> Result<Option<Sense>, MofFault>
-    ensures { Meets (λ sense. sense) result (walk_at sense_of name.now (view value.now)) }
+    ensures { MeetsWalk (λ sense. sense) result (walk_at sense_of name.now (view value.now)) }
 {
     let found = field(alloc, name, value)?;
     at_key(alloc, name, sense(alloc, found))
@@ -94,7 +95,7 @@ fn sense_field(alloc: Global, name: &str, value: &Value) -> Result<Option<Sense>
 // A sense, and none for feasibility.
 #[tactic(auto, unfolding(crate::specs::File::sense_of))]
 fn sense(alloc: Global, value: &Value) -> Result<Option<Sense>, MofFault>
-    ensures { Meets (λ sense. sense) result (sense_of (view value.now)) }
+    ensures { MeetsWalk (λ sense. sense) result (sense_of (view value.now)) }
 {
     let text = text(alloc, value)?;
     match sense_named(text) {

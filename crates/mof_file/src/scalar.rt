@@ -2,7 +2,7 @@
 ghost use Rattle.serde_json.specs.View.{view};
 ghost use Rattle.mof_file.specs.Functions.{affine_of, terms_of};
 ghost use Rattle.mof_values.specs.Values.{walk_at};
-ghost use Rattle.mof_values.specs.Walked.{Meets};
+ghost use Rattle.mof_values.specs.Walked.{MeetsWalk};
 
 use crate::items::{AddItem, add_each};
 use crate::terms::term;
@@ -20,7 +20,7 @@ pub(crate) fn affine(
     known: &IndexSet<Name>,
     value: &Value,
 ) -> Result<NamedAff, MofFault>
-    ensures { Meets (λ func. func) result (affine_of known.now.keys (view value.now)) }
+    ensures { MeetsWalk (λ func. func) result (affine_of known.now.keys (view value.now)) }
 {
     let terms = terms_field(alloc, known, "terms", value)?;
     let constant = number_field(alloc, "constant", value)?;
@@ -34,7 +34,7 @@ fn terms_field(
     name: &str,
     value: &Value,
 ) -> Result<NamedTerms, MofFault>
-    ensures { Meets (λ terms. terms) result
+    ensures { MeetsWalk (λ terms. terms) result
         (walk_at (terms_of known.now.keys) name.now (view value.now)) }
 {
     let found = field(alloc, name, value)?;
@@ -43,7 +43,7 @@ fn terms_field(
 
 #[tactic(auto, unfolding(crate::specs::Functions::terms_of))]
 fn term_list(alloc: Global, known: &IndexSet<Name>, value: &Value) -> Result<NamedTerms, MofFault>
-    ensures { Meets (λ terms. terms) result (terms_of known.now.keys (view value.now)) }
+    ensures { MeetsWalk (λ terms. terms) result (terms_of known.now.keys (view value.now)) }
 {
     let items = array(alloc, value)?;
     let mut sum = TermSum::with_capacity(alloc, items.len())?;

@@ -3,7 +3,7 @@ ghost use Rattle.std.specs.Prelude.{◌≡◌, IfOk, None, Some, if◌then◌els
 ghost use Rattle.serde_json.specs.View.{view};
 ghost use Rattle.mof_file.specs.Functions.{is_known, linear_term_of, term_of, variable_of};
 ghost use Rattle.mof_values.specs.Values.{a_number, field, walk_at};
-ghost use Rattle.mof_values.specs.Walked.{Meets};
+ghost use Rattle.mof_values.specs.Walked.{MeetsWalk};
 
 use indexmap::IndexSet;
 use lists::Memory;
@@ -21,7 +21,7 @@ pub(crate) fn variable(
     known: &IndexSet<Name>,
     value: &Value,
 ) -> Result<Name, MofFault>
-    ensures { Meets (λ name. name) result (variable_of known.now.keys (view value.now)) }
+    ensures { MeetsWalk (λ name. name) result (variable_of known.now.keys (view value.now)) }
 {
     let text = text(alloc, value)?;
     match known_name(alloc, known, text)? {
@@ -49,7 +49,7 @@ pub(crate) fn variable_field(
     name: &str,
     value: &Value,
 ) -> Result<Name, MofFault>
-    ensures { Meets (λ name. name) result
+    ensures { MeetsWalk (λ name. name) result
         (walk_at (variable_of known.now.keys) name.now (view value.now)) }
 {
     let found = field(alloc, name, value)?;
@@ -63,7 +63,7 @@ pub(crate) fn term(
     known: &IndexSet<Name>,
     value: &Value,
 ) -> Result<NamedTerm, MofFault>
-    ensures { Meets (λ term. term) result (term_of known.now.keys (view value.now)) }
+    ensures { MeetsWalk (λ term. term) result (term_of known.now.keys (view value.now)) }
 {
     require_object(alloc, value)?;
     linear_term(alloc, known, value)
@@ -71,7 +71,7 @@ pub(crate) fn term(
 
 #[tactic(auto, unfolding(crate::specs::Functions::linear_term_of))]
 fn linear_term(alloc: Global, known: &IndexSet<Name>, value: &Value) -> Result<NamedTerm, MofFault>
-    ensures { Meets (λ term. term) result (linear_term_of known.now.keys (view value.now)) }
+    ensures { MeetsWalk (λ term. term) result (linear_term_of known.now.keys (view value.now)) }
 {
     let coefficient = coefficient(alloc, value)?;
     let variable = variable_field(alloc, known, "variable", value)?;
@@ -83,7 +83,7 @@ fn linear_term(alloc: Global, known: &IndexSet<Name>, value: &Value) -> Result<N
 
 // The coefficient of a term.
 fn coefficient(alloc: Global, value: &Value) -> Result<Ratio, MofFault>
-    ensures { Meets (λ number. number) result (field a_number "coefficient" (view value.now)) }
+    ensures { MeetsWalk (λ number. number) result (field a_number "coefficient" (view value.now)) }
 {
     number_field(alloc, "coefficient", value)
 }

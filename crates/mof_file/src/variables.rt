@@ -2,7 +2,7 @@
 ghost use Rattle.serde_json.specs.View.{view};
 ghost use Rattle.mof_file.specs.File.{add_name, variables_of, with_name};
 ghost use Rattle.mof_values.specs.Values.{a_name, walk_at};
-ghost use Rattle.mof_values.specs.Walked.{Meets};
+ghost use Rattle.mof_values.specs.Walked.{MeetsWalk};
 
 use crate::items::{AddItem, add_each};
 use indexmap::IndexSet;
@@ -18,7 +18,8 @@ pub(crate) fn variables_field(
     key: &str,
     value: &Value,
 ) -> Result<IndexSet<Name>, MofFault>
-    ensures { Meets (λ names. names.keys) result (walk_at variables_of key.now (view value.now)) }
+    ensures { MeetsWalk (λ names. names.keys) result
+        (walk_at variables_of key.now (view value.now)) }
 {
     let found = field(alloc, key, value)?;
     at_key(alloc, key, variable_list(alloc, found))
@@ -26,7 +27,7 @@ pub(crate) fn variables_field(
 
 #[tactic(auto, unfolding(crate::specs::File::variables_of))]
 fn variable_list(alloc: Global, value: &Value) -> Result<IndexSet<Name>, MofFault>
-    ensures { Meets (λ names. names.keys) result (variables_of (view value.now)) }
+    ensures { MeetsWalk (λ names. names.keys) result (variables_of (view value.now)) }
 {
     let items = array(alloc, value)?;
     let mut names = IndexSet::new(alloc);
@@ -53,7 +54,7 @@ impl AddItem<()> for IndexSet<Name> {
 
 #[tactic(auto, unfolding(crate::specs::File::add_name))]
 fn add_name(alloc: Global, names: &mut IndexSet<Name>, item: &Value) -> Result<(), MofFault>
-    ensures { Meets (λ _. names.new.keys) result (add_name names.old.keys (view item.now)) }
+    ensures { MeetsWalk (λ _. names.new.keys) result (add_name names.old.keys (view item.now)) }
 {
     let name = name_field(alloc, "name", item)?;
     put_name(alloc, names, name)
@@ -61,7 +62,7 @@ fn add_name(alloc: Global, names: &mut IndexSet<Name>, item: &Value) -> Result<(
 
 // Puts a name last that no variable has.
 fn put_name(alloc: Global, names: &mut IndexSet<Name>, name: Name) -> Result<(), MofFault>
-    ensures { Meets (λ _. names.new.keys) result (with_name names.old.keys name) }
+    ensures { MeetsWalk (λ _. names.new.keys) result (with_name names.old.keys name) }
 {
     if names.contains(&name) {
         return Err(MofFault::DuplicateName { place: here(alloc) }.under_key(alloc, "name"));
@@ -72,7 +73,7 @@ fn put_name(alloc: Global, names: &mut IndexSet<Name>, name: Name) -> Result<(),
 
 #[tactic(auto, using(mof_values::specs::WalkLaws::walk_at_steps))]
 fn name_field(alloc: Global, key: &str, value: &Value) -> Result<Name, MofFault>
-    ensures { Meets (λ name. name) result (walk_at a_name key.now (view value.now)) }
+    ensures { MeetsWalk (λ name. name) result (walk_at a_name key.now (view value.now)) }
 {
     let found = field(alloc, key, value)?;
     at_key(alloc, key, name(alloc, found))

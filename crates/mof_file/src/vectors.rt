@@ -3,7 +3,7 @@ ghost use Rattle.std.specs.Prelude.{◌≡◌, Some, None, IfOk, if◌then◌els
 ghost use Rattle.serde_json.specs.View.{view};
 ghost use Rattle.mof_file.specs.Functions.{add_scalar_term, add_to_output, constants_of, output_of, term_of, vector_affine_of, vector_terms_of, with_term_at};
 ghost use Rattle.mof_values.specs.Values.{field, walk_at};
-ghost use Rattle.mof_values.specs.Walked.{Meets};
+ghost use Rattle.mof_values.specs.Walked.{MeetsWalk};
 
 use crate::items::{AddItem, add_each};
 use crate::terms::term;
@@ -21,7 +21,7 @@ pub(crate) fn vector_affine(
     known: &IndexSet<Name>,
     value: &Value,
 ) -> Result<NamedVec, MofFault>
-    ensures { Meets (λ funcs. funcs) result (vector_affine_of known.now.keys (view value.now)) }
+    ensures { MeetsWalk (λ funcs. funcs) result (vector_affine_of known.now.keys (view value.now)) }
 {
     let components = components(alloc, known, value)?;
     let functions = functions(alloc, components)?;
@@ -30,7 +30,7 @@ pub(crate) fn vector_affine(
 
 #[tactic(auto, unfolding(crate::specs::Functions::vector_affine_of))]
 fn components(alloc: Global, known: &IndexSet<Name>, value: &Value) -> Result<Vec<AffSum>, MofFault>
-    ensures { Meets (λ components. components.items) result
+    ensures { MeetsWalk (λ components. components.items) result
         (vector_affine_of known.now.keys (view value.now)) }
 {
     let constants = constants_field(alloc, "constants", value)?;
@@ -39,7 +39,7 @@ fn components(alloc: Global, known: &IndexSet<Name>, value: &Value) -> Result<Ve
 
 #[tactic(auto, using(mof_values::specs::WalkLaws::walk_at_steps))]
 fn constants_field(alloc: Global, name: &str, value: &Value) -> Result<Vec<AffSum>, MofFault>
-    ensures { Meets (λ constants. constants.items) result
+    ensures { MeetsWalk (λ constants. constants.items) result
         (walk_at constants_of name.now (view value.now)) }
 {
     let found = field(alloc, name, value)?;
@@ -48,7 +48,7 @@ fn constants_field(alloc: Global, name: &str, value: &Value) -> Result<Vec<AffSu
 
 #[tactic(auto, unfolding(crate::specs::Functions::constants_of))]
 fn constants(alloc: Global, value: &Value) -> Result<Vec<AffSum>, MofFault>
-    ensures { Meets (λ constants. constants.items) result (constants_of (view value.now)) }
+    ensures { MeetsWalk (λ constants. constants.items) result (constants_of (view value.now)) }
 {
     let items = array(alloc, value)?;
     let mut components = Vec::new(alloc);
@@ -84,7 +84,7 @@ fn vector_terms_field(
     name: &str,
     value: &Value,
 ) -> Result<Vec<AffSum>, MofFault>
-    ensures { Meets (λ components. components.items) result
+    ensures { MeetsWalk (λ components. components.items) result
         (walk_at (vector_terms_of known.now.keys components.items) name.now (view value.now)) }
 {
     let found = field(alloc, name, value)?;
@@ -98,7 +98,7 @@ fn vector_terms(
     components: Vec<AffSum>,
     value: &Value,
 ) -> Result<Vec<AffSum>, MofFault>
-    ensures { Meets (λ components. components.items) result
+    ensures { MeetsWalk (λ components. components.items) result
         (vector_terms_of known.now.keys components.items (view value.now)) }
 {
     let items = array(alloc, value)?;
@@ -138,7 +138,7 @@ fn add_to_output(
     components: &mut Vec<AffSum>,
     item: &Value,
 ) -> Result<(), MofFault>
-    ensures { Meets (λ _. components.new.items) result
+    ensures { MeetsWalk (λ _. components.new.items) result
         (add_to_output known.now.keys components.old.items (view item.now)) }
 {
     let output = output_index(alloc, components, item)?;
@@ -154,7 +154,7 @@ fn add_scalar_term(
     output: usize,
     item: &Value,
 ) -> Result<(), MofFault>
-    ensures { Meets (λ _. components.new.items) result
+    ensures { MeetsWalk (λ _. components.new.items) result
         (add_scalar_term known.now.keys components.old.items output (view item.now)) }
 {
     let term = scalar_term(alloc, known, item)?;
@@ -166,7 +166,7 @@ fn add_scalar_term(
 }
 
 fn output_index(alloc: Global, components: &Vec<AffSum>, value: &Value) -> Result<usize, MofFault>
-    ensures { Meets (λ output. output) result
+    ensures { MeetsWalk (λ output. output) result
         (field (output_of components.now.items) "output_index" (view value.now)) }
 {
     output_field(alloc, components, "output_index", value)
@@ -179,7 +179,7 @@ fn output_field(
     name: &str,
     value: &Value,
 ) -> Result<usize, MofFault>
-    ensures { Meets (λ output. output) result
+    ensures { MeetsWalk (λ output. output) result
         (walk_at (output_of components.now.items) name.now (view value.now)) }
 {
     let found = field(alloc, name, value)?;
@@ -189,7 +189,8 @@ fn output_field(
 // The place of an output, which are counted from 1.
 #[tactic(auto, unfolding(crate::specs::Functions::output_of))]
 fn output(alloc: Global, components: &Vec<AffSum>, value: &Value) -> Result<usize, MofFault>
-    ensures { Meets (λ output. output) result (output_of components.now.items (view value.now)) }
+    ensures { MeetsWalk (λ output. output) result
+        (output_of components.now.items (view value.now)) }
 {
     let output = integer(alloc, value)? as usize;
     if output > 0 && output <= components.len() {
@@ -200,7 +201,7 @@ fn output(alloc: Global, components: &Vec<AffSum>, value: &Value) -> Result<usiz
 }
 
 fn scalar_term(alloc: Global, known: &IndexSet<Name>, value: &Value) -> Result<NamedTerm, MofFault>
-    ensures { Meets (λ term. term) result
+    ensures { MeetsWalk (λ term. term) result
         (field (term_of known.now.keys) "scalar_term" (view value.now)) }
 {
     term_field(alloc, known, "scalar_term", value)
@@ -213,7 +214,7 @@ fn term_field(
     name: &str,
     value: &Value,
 ) -> Result<NamedTerm, MofFault>
-    ensures { Meets (λ term. term) result
+    ensures { MeetsWalk (λ term. term) result
         (walk_at (term_of known.now.keys) name.now (view value.now)) }
 {
     let found = field(alloc, name, value)?;

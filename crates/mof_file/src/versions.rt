@@ -3,7 +3,7 @@ ghost use Rattle.std.specs.Prelude.{⊤};
 ghost use Rattle.serde_json.specs.View.{view};
 ghost use Rattle.mof_file.specs.File.{major_of, version_of};
 ghost use Rattle.mof_values.specs.Values.{walk_at};
-ghost use Rattle.mof_values.specs.Walked.{Meets};
+ghost use Rattle.mof_values.specs.Walked.{MeetsWalk};
 
 use mof_values::{MofFault, at_key, field, here, integer, integer_field, require_object};
 use serde_json::Value;
@@ -12,7 +12,7 @@ use std::alloc::Global;
 /// The version at a key, whose major number has to be 1.
 #[tactic(auto, using(mof_values::specs::WalkLaws::walk_at_steps))]
 pub(crate) fn version_field(alloc: Global, name: &str, value: &Value) -> Result<(), MofFault>
-    ensures { Meets (λ _. tt) result (walk_at version_of name.now (view value.now)) }
+    ensures { MeetsWalk (λ _. tt) result (walk_at version_of name.now (view value.now)) }
 {
     let found = field(alloc, name, value)?;
     at_key(alloc, name, version(alloc, found))
@@ -20,7 +20,7 @@ pub(crate) fn version_field(alloc: Global, name: &str, value: &Value) -> Result<
 
 #[tactic(auto, unfolding(crate::specs::File::version_of))]
 fn version(alloc: Global, value: &Value) -> Result<(), MofFault>
-    ensures { Meets (λ _. tt) result (version_of (view value.now)) }
+    ensures { MeetsWalk (λ _. tt) result (version_of (view value.now)) }
 {
     require_object(alloc, value)?;
     major_field(alloc, "major", value)?;
@@ -30,7 +30,7 @@ fn version(alloc: Global, value: &Value) -> Result<(), MofFault>
 
 #[tactic(auto, using(mof_values::specs::WalkLaws::walk_at_steps))]
 fn major_field(alloc: Global, name: &str, value: &Value) -> Result<(), MofFault>
-    ensures { Meets (λ _. tt) result (walk_at major_of name.now (view value.now)) }
+    ensures { MeetsWalk (λ _. tt) result (walk_at major_of name.now (view value.now)) }
 {
     let found = field(alloc, name, value)?;
     at_key(alloc, name, major(alloc, found))
@@ -38,7 +38,7 @@ fn major_field(alloc: Global, name: &str, value: &Value) -> Result<(), MofFault>
 
 #[tactic(auto, unfolding(crate::specs::File::major_of))]
 fn major(alloc: Global, value: &Value) -> Result<(), MofFault>
-    ensures { Meets (λ _. tt) result (major_of (view value.now)) }
+    ensures { MeetsWalk (λ _. tt) result (major_of (view value.now)) }
 {
     let major = integer(alloc, value)?;
     if major == 1 {

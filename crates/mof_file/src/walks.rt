@@ -3,7 +3,7 @@ ghost use Rattle.std.specs.Prelude.{◌≡◌, IfOk};
 ghost use Rattle.serde_json.specs.View.{view};
 ghost use Rattle.mof_values.specs.declared.fault.MofFault.TheVariants.{NotJson};
 ghost use Rattle.mof_file.specs.File.{file_in, file_of, json_of, members_of, parts_of, seen, whole};
-ghost use Rattle.mof_values.specs.Walked.{Meets, or_fault};
+ghost use Rattle.mof_values.specs.Walked.{MeetsWalk, or_fault};
 
 use crate::constraints::optional_constraints;
 use crate::file::MofFile;
@@ -21,7 +21,7 @@ use std::alloc::Global;
 /// What the text of a file says, or the first fault in the order of the walk.
 #[tactic(auto, unfolding(crate::specs::File::file_in))]
 pub fn read_file(alloc: Global, text: &[u8]) -> Result<MofFile, MofFault>
-    ensures { Meets seen result (file_in text.now) }
+    ensures { MeetsWalk seen result (file_in text.now) }
 {
     let value = json(alloc, text)?;
     file(alloc, &value)
@@ -30,7 +30,7 @@ pub fn read_file(alloc: Global, text: &[u8]) -> Result<MofFile, MofFault>
 // The JSON value of a text, whose numerals are exact.
 #[tactic(auto, using(crate::proofs::JsonTexts::json_told))]
 fn json(alloc: Global, text: &[u8]) -> Result<Value, MofFault>
-    ensures { Meets (λ value. view value) result (or_fault (NotJson whole) (json_of text.now)) }
+    ensures { MeetsWalk (λ value. view value) result (or_fault (NotJson whole) (json_of text.now)) }
 {
     let exact = exact_numerals(alloc, text)?;
     match Value::from_slice(alloc, &exact) {
@@ -52,7 +52,7 @@ fn whole(alloc: Global) -> Result<Text, Memory>
 
 #[tactic(auto, unfolding(crate::specs::File::file_of))]
 fn file(alloc: Global, value: &Value) -> Result<MofFile, MofFault>
-    ensures { Meets seen result (file_of (view value.now)) }
+    ensures { MeetsWalk seen result (file_of (view value.now)) }
 {
     if value.is_object() {
         members(alloc, value)
@@ -65,7 +65,7 @@ fn file(alloc: Global, value: &Value) -> Result<MofFile, MofFault>
 
 #[tactic(auto, unfolding(crate::specs::File::members_of))]
 fn members(alloc: Global, value: &Value) -> Result<MofFile, MofFault>
-    ensures { Meets seen result (members_of (view value.now)) }
+    ensures { MeetsWalk seen result (members_of (view value.now)) }
 {
     version_field(alloc, "version", value)?;
     let variables = variables_field(alloc, "variables", value)?;
@@ -74,7 +74,7 @@ fn members(alloc: Global, value: &Value) -> Result<MofFile, MofFault>
 
 #[tactic(auto, unfolding(crate::specs::File::parts_of))]
 fn parts(alloc: Global, variables: IndexSet<Name>, value: &Value) -> Result<MofFile, MofFault>
-    ensures { Meets seen result (parts_of variables.keys (view value.now)) }
+    ensures { MeetsWalk seen result (parts_of variables.keys (view value.now)) }
 {
     let objective = optional_objective(alloc, &variables, value)?;
     let constraints = optional_constraints(alloc, &variables, value)?;

@@ -19,7 +19,7 @@ use Rattle.mof_read.specs.Names.{all_names}
 use Rattle.mof_write.specs.Written.{IsTextOf, Naming, model_data, naming}
 use Rattle.mof_laws.specs.EditLaws.{IsOwned, IsOwnedFunc, IsOwnedRow, all_groups, all_rows, edits_for, in_order_is, own_groups, own_rows, row_edit, some_components, some_edit, sorted_with}
 use Rattle.mof_laws.specs.FileLaws.{IsReadableFunc}
-use Rattle.mof_laws.specs.FunctionLaws.{ApartBy, IsNamed}
+use Rattle.mof_laws.specs.FunctionLaws.{ApartBy, IsNameKnown}
 use Rattle.mof_laws.specs.ModelLaws.{readable_row}
 use Rattle.mof_laws.specs.OwnerLaws.{Other, all_owned, known_owned, owned}
 use Rattle.mof_laws.specs.VariableLaws.{names_in}
@@ -45,7 +45,7 @@ module _ (model : ModelValue) (valid : IsValid model) (say : IsSayable model) wh
   abbrev owners : List (List ℕ × ℕ)
   owners = owned 0 model.groups
 
-  named_owned : (at : Address) → IsNamed name (var_names (variables model)) at
+  named_owned : (at : Address) → IsNameKnown name (var_names (variables model)) at
       → IsOwned name owners at
   named_owned at h = known_owned (name at) model.groups (and_parts (is_name (name at)) _ h).1
 

@@ -24,7 +24,7 @@ use Rattle.mof_file.specs.File.{is_unequal, objective_of, sense_named, sense_of,
 use Rattle.mof_file.specs.Functions.{Known, add_variable, function_of_any, is_known, objective_function_of, scalar_function_of, typed_function_of, variable_of, variables_of}
 use Rattle.mof_write.specs.Values.{list_of, set_data, word}
 use Rattle.mof_write.specs.Written.{Naming, affine_data, function_data, objective_data, sense_data, sought_data, variable_data, variables_data, vector_affine_data}
-use Rattle.mof_laws.specs.FunctionLaws.{IsNamed, IsReadable, affine_back}
+use Rattle.mof_laws.specs.FunctionLaws.{IsFunctionReadable, IsNameKnown, affine_back}
 use Rattle.mof_write.specs.Sayable.{SetFits}
 use Rattle.mof_laws.specs.ReadBack.{named_affine, named_function, said_objective}
 use Rattle.mof_laws.specs.ValueLaws.{set_back}
@@ -92,11 +92,11 @@ several_back known g xs h =
 module _ (name : Naming) (known : Known) where
   -- the function has names of the file and numbers that fit
   abbrev pub IsReadableFunc : UserFunc → Type 0
-  IsReadableFunc (Plain var) = IsNamed name known var
-  IsReadableFunc (Affine f) = IsReadable name known f
-  IsReadableFunc (PlainVec vars) = All (IsNamed name known) vars
+  IsReadableFunc (Plain var) = IsNameKnown name known var
+  IsReadableFunc (Affine f) = IsFunctionReadable name known f
+  IsReadableFunc (PlainVec vars) = All (IsNameKnown name known) vars
   IsReadableFunc (AffineVec fs) =
-      All {X = Function} (IsReadable name known) fs × (length fs < 2 ^ 32)
+      All {X = Function} (IsFunctionReadable name known) fs × (length fs < 2 ^ 32)
 
   pub function_back : (func : UserFunc) → IsReadableFunc func
       → function_of_any known (function_data name func) ≡ Ok (named_function name func)
@@ -116,8 +116,8 @@ module _ (name : Naming) (known : Known) where
 
   abbrev pub IsReadableObjective : Objective → Type 0
   IsReadableObjective objective.Feasibility = ⊤
-  IsReadableObjective (objective.Plain sense var) = IsNamed name known var
-  IsReadableObjective (objective.Affine sense f) = IsReadable name known f
+  IsReadableObjective (objective.Plain sense var) = IsNameKnown name known var
+  IsReadableObjective (objective.Affine sense f) = IsFunctionReadable name known f
 
   -- an objective by its sense
   objective_from : (d said : Data) (sense : Option Sense) → is_some (as_object d) ≡ true

@@ -54,11 +54,11 @@ affine_with ts c = record { terms = ts; constant = c }
 
 module _ (name : Naming) (known : Known) where
   -- the variable's name is one of the file's
-  abbrev pub IsNamed : Address → Type 0
-  IsNamed at = is_known known (name at) ≡ true
+  abbrev pub IsNameKnown : Address → Type 0
+  IsNameKnown at = is_known known (name at) ≡ true
 
-  abbrev pub IsNamedTerm : Address × Rational → Type 0
-  IsNamedTerm t = IsNamed t.0
+  abbrev pub IsTermNameKnown : Address × Rational → Type 0
+  IsTermNameKnown t = IsNameKnown t.0
 
   -- a later term's variable has another name
   abbrev pub OtherTerm : Address × Rational → Address × Rational → Type 0
@@ -69,17 +69,17 @@ module _ (name : Naming) (known : Known) where
   AreNamedApart f =
       ApartBy OtherTerm (aff.terms_of f)
 
-  pub record IsReadable (f : Function) : Type 0 where
+  pub record IsFunctionReadable (f : Function) : Type 0 where
     pub fits : FunctionFits f
-    pub named : All IsNamedTerm (aff.terms_of f)
+    pub named : All IsTermNameKnown (aff.terms_of f)
     pub apart : AreNamedApart f
 
-  pub variable_back : (at : Address) → IsNamed at
+  pub variable_back : (at : Address) → IsNameKnown at
       → variable_of known (address_data name at) ≡ Ok (name at)
   unfolding variable_of a_text
   variable_back at h = cond-true _ _ _ h
 
-  pub term_back : (t : Address × Rational) → Fits t.1 → IsNamed t.0
+  pub term_back : (t : Address × Rational) → Fits t.1 → IsNameKnown t.0
       → term_of known (term_data name t) ≡ Ok (named_term name t)
   unfolding term_of linear_term_of an_object
   term_back t fits is =
@@ -92,12 +92,12 @@ module _ (name : Naming) (known : Known) where
       (name t.0) refl
       (variable_back t.0 is))
 
-  abbrev pub IsAbsent : List NamedTerm → Address × Rational → Type 0
-  IsAbsent s t = is_absent (name t.0) s ≡ false
+  abbrev pub IsTermAbsent : List NamedTerm → Address × Rational → Type 0
+  IsTermAbsent s t = is_absent (name t.0) s ≡ false
 
   -- a term behind others
   abbrev pub GoodTerm : List NamedTerm → Address × Rational → Type 0
-  GoodTerm s t = TermFits t × IsNamedTerm t × IsAbsent s t
+  GoodTerm s t = TermFits t × IsTermNameKnown t × IsTermAbsent s t
 
   add_term_back : (s : List NamedTerm) (t : Address × Rational) → GoodTerm s t
       → add_term known s (term_data name t) ≡ Ok (s ++ named_term name t ∷ [])
@@ -107,15 +107,15 @@ module _ (name : Naming) (known : Known) where
       ∙ ap (or_fault (BadNumber here)) (with_term_new s (named_term name t) h.2)
 
   good_terms : (s : List NamedTerm) (ts : List (Address × Rational)) → All TermFits ts
-      → All IsNamedTerm ts → All (IsAbsent s) ts
+      → All IsTermNameKnown ts → All (IsTermAbsent s) ts
       → ApartBy OtherTerm ts
       → AllGood (named_term name) GoodTerm s ts
   good_terms s [] fits is absent apart = tt
   good_terms s (t ∷ ts) fits is absent apart = (
-    (All-head TermFits t ts fits, All-head IsNamedTerm t ts is, All-head (IsAbsent s) t ts absent),
+    (All-head TermFits t ts fits, All-head IsTermNameKnown t ts is, All-head (IsTermAbsent s) t ts absent),
     good_terms (s ++ named_term name t ∷ []) ts (All-tail TermFits t ts fits)
-        (All-tail IsNamedTerm t ts is)
-        (λ k d within. still (slice_index_or ts k d) (All-tail (IsAbsent s) t ts absent k d within)
+        (All-tail IsTermNameKnown t ts is)
+        (λ k d within. still (slice_index_or ts k d) (All-tail (IsTermAbsent s) t ts absent k d within)
         (apart.0 k d within))
         apart.1,
   )
@@ -127,12 +127,12 @@ module _ (name : Naming) (known : Known) where
           list_any-append (λ x. bytes_eq (name u.0) x.variable) s (named_term name t ∷ [])
           ∙ or_from _ _ before (or_from _ _ now refl)
 
-  pub good_first : (f : Function) → IsReadable f
+  pub good_first : (f : Function) → IsFunctionReadable f
       → AllGood (named_term name) GoodTerm [] (aff.terms_of f)
   good_first f h =
       good_terms [] (aff.terms_of f) h.fits.1 h.named (λ k d within. refl) h.apart
 
-  terms_back : (f : Function) → IsReadable f
+  terms_back : (f : Function) → IsFunctionReadable f
       → terms_of known (array_of (term_data name) (aff.terms_of f))
       ≡ Ok (map (named_term name) (aff.terms_of f))
   unfolding terms_of an_array
@@ -140,7 +140,7 @@ module _ (name : Naming) (known : Known) where
       each_appends (add_term known) (term_data name) (named_term name) GoodTerm add_term_back 0 []
       (aff.terms_of f) (good_first f h)
 
-  pub affine_back : (f : Function) → IsReadable f
+  pub affine_back : (f : Function) → IsFunctionReadable f
       → affine_of known (affine_data name f) ≡ Ok (named_affine name f)
   unfolding affine_of affine_data
   affine_back f h =

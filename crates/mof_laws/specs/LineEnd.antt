@@ -5,7 +5,7 @@ use Rattle.std.proofs.Common.{ap, ap₂, append_assoc, sym, ◌∙◌}
 use Rattle.std.proofs.lemmas.Str.{IsUtf8-append}
 use Rattle.mof_text.proofs.TextLaws.{replaced-nil}
 use Rattle.mof_text.specs.Numeral.{is_colon_next, is_json_number, is_long, is_white, magnitude_of, parts_of, replaced, replacement_of}
-use Rattle.mof_text.specs.Rewritten.{Place, after_in_string, after_other, is_run_byte, rewritten, rewritten_at}
+use Rattle.mof_text.specs.Rewritten.{BytePlace, after_in_string, after_other, is_run_byte, rewritten, rewritten_at}
 use Rattle.mof_text.specs.Rewritten.Place.{in_escape, in_string, outside}
 use Rattle.serde_json.specs.Data.{Data}
 use Rattle.mof_write.specs.Written.{IsTextOf}
@@ -23,7 +23,7 @@ replaced_same run cs =
     ap (λ b. cond (is_json_number (parts_of run) (length (magnitude_of run))
     && is_long run (parts_of run) && not b) (replacement_of run) run) (colon_same cs)
 
-line_rewritten : (p : Place) (xs : List ℕ)
+line_rewritten : (p : BytePlace) (xs : List ℕ)
     → rewritten_at p (as_line xs) ≡ as_line (rewritten_at p xs)
 line_rewritten (outside run) [] =
     ap₂ (λ first rest. first ++ 10 ∷ rest) (replaced_same run []) (replaced-nil [])

@@ -25,7 +25,7 @@ use Rattle.user_model.specs.Consistent.{IsConsistent}
 use Rattle.user_model.specs.Model.{ModelValue, variables}
 use Rattle.user_model.specs.Valid.{IsValidObjective, IsValidRow, Stands}
 use Rattle.model_laws.specs.Found.{one_passes}
-use Rattle.mof_laws.specs.FunctionLaws.{ApartBy, IsNamed, IsReadable}
+use Rattle.mof_laws.specs.FunctionLaws.{ApartBy, IsFunctionReadable, IsNameKnown}
 use Rattle.mof_laws.specs.FileLaws.{IsReadableFunc, IsReadableObjective}
 use Rattle.mof_write.specs.Sayable.{FunctionFits, HasName, ObjectiveFits, UserFuncFits}
 use Rattle.mof_laws.specs.ReadBack.{var_names}
@@ -84,12 +84,12 @@ module _ (model : ModelValue) (c : IsConsistent model) where
       )
 
   module _ (names : All HasName (variables model)) where
-    stands_named : (at : Address) → Stands model.groups at → IsNamed name known at
+    stands_named : (at : Address) → Stands model.groups at → IsNameKnown name known at
     stands_named at s = named_at model at names (variable_there model at s)
 
     readable : (f : Function) → FunctionFits f
         → ((at : Address) → has_term at f ≡ true → Stands model.groups at)
-        → IsReadable name known f
+        → IsFunctionReadable name known f
     readable f fits stand =
         let there : All {X = Address × Rational} (λ u. HasVariableAt model u.0) (aff.terms_of f) =
         λ k d within. variable_there model _ (stand _ (terms_mentioned f k d within)) in
@@ -106,7 +106,7 @@ module _ (model : ModelValue) (c : IsConsistent model) where
         (λ at is. stands_named at (h.stand at is)) (λ at is. h.stand at is) h.limit fits
       where
         from : (func : UserFunc) → ((at : Address) → func_mentions at func ≡ true
-            → IsNamed name known at)
+            → IsNameKnown name known at)
             → ((at : Address) → func_mentions at func ≡ true → Stands model.groups at)
             → components func ≤ COMPONENTS → UserFuncFits func → IsReadableFunc name known func
         from (Plain var) is stand few fits = is var ((address_eq-Decides var var).1 refl)

@@ -153,13 +153,13 @@ AllOwned owners k (g ∷ gs) =
     All {X = GroupVar} (λ v. found owners v.name ≡ Some k) g.vars × AllOwned owners (suc k) gs
 
 -- two lists that are apart, one behind the other
-pub record AreApart {X : Type 0} (R : X → X → Type 0) (xs ys : List X) : Type 0 where
+pub record AreListsApart {X : Type 0} (R : X → X → Type 0) (xs ys : List X) : Type 0 where
   pub one : ApartBy R xs
   pub other : ApartBy R ys
   pub both : All {X = X} (λ y. All {X = X} (λ x. R x y) xs) ys
 
 pub parted : {X : Type 0} (R : X → X → Type 0) (xs ys : List X) → ApartBy R (xs ++ ys)
-    → AreApart R xs ys
+    → AreListsApart R xs ys
 parted R [] ys h =
     record { one = tt; other = h; both = λ k d within. λ i e inside. absurd (omega arith) }
 parted R (x ∷ xs) ys h =

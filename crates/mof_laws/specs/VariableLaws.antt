@@ -21,7 +21,7 @@ use Rattle.model_laws.specs.Found.{found_passes, found_stands, is_some-find, one
 use Rattle.model_laws.specs.Variables.{group_found}
 use Rattle.mof_file.specs.Functions.{is_known}
 use Rattle.mof_write.specs.Written.{naming}
-use Rattle.mof_laws.specs.FunctionLaws.{IsNamed}
+use Rattle.mof_laws.specs.FunctionLaws.{IsNameKnown}
 use Rattle.mof_write.specs.Sayable.{HasName, VarsHaveNames}
 use Rattle.mof_laws.specs.ReadBack.{var_names}
 
@@ -91,7 +91,7 @@ module _ (model : ModelValue) where
       }
 
   pub named_at : (at : Address) → All HasName (variables model)
-      → HasVariableAt at → IsNamed (naming model) (var_names (variables model)) at
+      → HasVariableAt at → IsNameKnown (naming model) (var_names (variables model)) at
   named_at at names h =
       ap (is_known (var_names (variables model))) h.name
       ∙ name_known (variables model) h.var h.there

@@ -20,7 +20,7 @@ use Rattle.mof_values.specs.Walked.{Walked, ◌>>=◌, at, each, here, index, or
 use Rattle.mof_file.specs.Functions.{Known, add_component, add_scalar_term, add_to_output, add_vector_term, constants_of, output_of, term_of, vector_affine_of, vector_terms_of, with_term_at}
 use Rattle.mof_write.specs.Values.{array_of, count_data, list_of, number_data}
 use Rattle.mof_write.specs.Written.{Naming, term_data, vector_affine_data, vector_term_data, vector_terms}
-use Rattle.mof_laws.specs.FunctionLaws.{GoodTerm, IsReadable, good_first, term_back, with_term_new}
+use Rattle.mof_laws.specs.FunctionLaws.{GoodTerm, IsFunctionReadable, good_first, term_back, with_term_new}
 use Rattle.mof_laws.specs.ReadBack.{named_affine, named_term}
 use Rattle.mof_laws.specs.ValueLaws.{count_back, number_back}
 use Rattle.mof_laws.specs.WalkLaws.{AllGood, always_good, each_appends, field_back, get_behind}
@@ -120,7 +120,7 @@ module _ (name : Naming) (known : Known) where
         (append_assoc s (named_term name t ∷ []) (map (named_term name) ts)) ∙ next j) (suc i)
 
   all_components : (done : List NamedAff) (k : ℕ) (fs : List Function) → k ≡ length done
-      → k + length fs < 2 ^ 32 → All {X = Function} (IsReadable name known) fs → (i : ℕ)
+      → k + length fs < 2 ^ 32 → All {X = Function} (IsFunctionReadable name known) fs → (i : ℕ)
       → each (add_vector_term known) i (done ++ map empty_component fs)
       (items_of (vector_terms name k fs))
       ≡ Ok (done ++ map (named_affine name) fs)
@@ -132,23 +132,23 @@ module _ (name : Naming) (known : Known) where
       ∙ one_component done (map empty_component fs) f.constant (omega arith)
       (vector_terms name (k + 1) fs)
       (Ok (done ++ map (named_affine name) (f ∷ fs))) [] (aff.terms_of f)
-      (good_first name known f (All-head (IsReadable name known) f fs h))
+      (good_first name known f (All-head (IsFunctionReadable name known) f fs h))
       (λ j. ap (λ cs. each (add_vector_term known) j cs (items_of (vector_terms name (k + 1) fs)))
       (sym (append_assoc done (named_affine name f ∷ []) (map empty_component fs)))
       ∙ all_components (done ++ named_affine name f ∷ []) (k + 1) fs
       (omega (arith, e, length-append done (named_affine name f ∷ []))) (omega arith)
-      (All-tail (IsReadable name known) f fs h) j
+      (All-tail (IsFunctionReadable name known) f fs h) j
       ∙ ap Ok (append_assoc done (named_affine name f ∷ []) (map (named_affine name) fs))) i
 
   vector_terms_back : (fs : List Function) → length fs < 2 ^ 32
-      → All {X = Function} (IsReadable name known) fs
+      → All {X = Function} (IsFunctionReadable name known) fs
       → vector_terms_of known (map empty_component fs) (list_of (vector_terms name 0 fs))
       ≡ Ok (map (named_affine name) fs)
   unfolding vector_terms_of an_array
   vector_terms_back fs few h = all_components [] 0 fs refl (omega arith) h 0
 
   pub vector_affine_back : (fs : List Function) → length fs < 2 ^ 32
-      → All {X = Function} (IsReadable name known) fs
+      → All {X = Function} (IsFunctionReadable name known) fs
       → vector_affine_of known (vector_affine_data name fs) ≡ Ok (map (named_affine name) fs)
   unfolding vector_affine_of vector_affine_data
   vector_affine_back fs few h =

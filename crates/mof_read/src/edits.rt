@@ -3,24 +3,21 @@ ghost use Rattle.std.specs.Prelude.{◌≡◌, ◌++◌, ◌^◌, ◌<◌, IfOk,
 ghost use Rattle.mof_file.specs.File.{FileValue, file_in, seen};
 ghost use Rattle.mof_read.specs.Edits.{edits_in, edits_of, objective_edits};
 ghost use Rattle.mof_read.specs.NameLaws.{MadeNamesAreNew, RowsAreApart};
-ghost use Rattle.mof_values.specs.Walked.{Meets};
+ghost use Rattle.mof_values.specs.Walked.{MeetsWalk};
 
 use crate::groups::in_order;
 use crate::sorting::{Sorting, sorted};
 use lists::{Memory, Sequence};
 use mof_file::{FileObjective, MofFault, MofFile, read_file};
 use std::alloc::Global;
-use user_model::Edit;
-
-/// Edits in their order.
-pub type Edits = Sequence<Edit>;
+use user_model::{Edit, Edits};
 
 /// The edits that make a file's model from an empty one: its groups, rows and objective; or the
 /// first fault of the file, in the order of the walk, with its place. No two rows have one name,
 /// and a name that is made for an unnamed row is that of no constraint of the file.
 #[tactic(auto, unfolding(crate::specs::Edits::edits_in))]
 pub fn read(alloc: Global, text: &[u8]) -> Result<Edits, MofFault>
-    ensures edits { Meets (λ edits. edits) result (edits_in text.now) }
+    ensures edits { MeetsWalk (λ edits. edits) result (edits_in text.now) }
     ensures apart { IfOk result (λ edits. RowsAreApart edits) }
     ensures made { IfOk result (λ _. (file : FileValue) → file_in text.now ≡ Ok file
         → MadeNamesAreNew file.constraints) }

@@ -6,5 +6,6 @@ mod groups;
 mod names;
 mod sorting;
 
-pub use edits::{Edits, read};
+pub use edits::read;
 pub use mof_file::MofFault;
+pub use user_model::Edits;

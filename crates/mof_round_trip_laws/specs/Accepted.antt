@@ -28,18 +28,19 @@ none_full (c ∷ counted) h = (
 )
 
 -- each count is at most its limit
-abbrev pub AreWithin : List (ℕ × ℕ) → Type 0
-AreWithin [] = Unit {0}
-AreWithin (c ∷ counted) = (c.0 ≤ c.1) × AreWithin counted
+abbrev pub AreCountsWithin : List (ℕ × ℕ) → Type 0
+AreCountsWithin [] = Unit {0}
+AreCountsWithin (c ∷ counted) = (c.0 ≤ c.1) × AreCountsWithin counted
 
-pub each_within : (counted : List (ℕ × ℕ)) → AreWithin counted → All (λ c. c.0 ≤ c.1) counted
+pub each_within : (counted : List (ℕ × ℕ)) → AreCountsWithin counted → All (λ c. c.0 ≤ c.1) counted
 each_within [] h = All-nil (λ c. c.0 ≤ c.1)
 each_within (c ∷ counted) h =
     All-cons (λ c. c.0 ≤ c.1) c counted h.0 (each_within counted h.1)
 
 -- counts of terms, and others behind them
-pub terms_within : (ns : List ℕ) (rest : List (ℕ × ℕ)) → All (λ n. n ≤ TERMS) ns → AreWithin rest
-    → AreWithin (within TERMS ns ++ rest)
+pub terms_within : (ns : List ℕ) (rest : List (ℕ × ℕ)) → All (λ n. n ≤ TERMS) ns
+    → AreCountsWithin rest
+    → AreCountsWithin (within TERMS ns ++ rest)
 terms_within [] rest h others = others
 terms_within (n ∷ ns) rest h others = (
   All-head (λ n. n ≤ TERMS) n ns h,

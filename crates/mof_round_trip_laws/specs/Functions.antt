@@ -27,7 +27,7 @@ use Rattle.mof_write.specs.Written.{naming}
 use Rattle.mof_laws.specs.ReadBack.{named_affine, named_function, named_term}
 use Rattle.mof_laws.specs.VariableLaws.{HasVariableAt}
 use Rattle.user_model.specs.PositionLaws.{position_order}
-use Rattle.mof_round_trip_laws.specs.Renumbered.{HasVariables, address_again, address_of_name, made_as, numbers, placed_address}
+use Rattle.mof_round_trip_laws.specs.Renumbered.{HasRenumberedVariables, address_again, address_of_name, made_as, numbers, placed_address}
 
 -- ---- addresses of variables
 
@@ -142,7 +142,7 @@ module _ (model : ModelValue) (c : IsConsistent model) where
 
   -- ---- found by name
 
-  module _ (other : ModelValue) (has : HasVariables model other) where
+  module _ (other : ModelValue) (has : HasRenumberedVariables model other) where
     located_terms : (ts : List (Address × Rational)) → HaveVariables model ts
         → map (λ t. (address_named other t.variable, t.coefficient))
         (map (named_term (naming model)) ts)
@@ -171,7 +171,7 @@ module _ (model : ModelValue) (c : IsConsistent model) where
 
   -- ---- renumbered once more
 
-  module _ (other : ModelValue) (d : IsConsistent other) (has : HasVariables model other) where
+  module _ (other : ModelValue) (d : IsConsistent other) (has : HasRenumberedVariables model other) where
     terms_again : (ts : List (Address × Rational)) → HaveVariables model ts
         → map (placed_term other) (map (placed_term model) ts) ≡ map (placed_term model) ts
     terms_again ts there =

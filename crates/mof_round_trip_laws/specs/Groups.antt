@@ -28,7 +28,7 @@ use Rattle.model_laws.specs.Passed.{IsPassed}
 use Rattle.mof_laws.specs.EditLaws.{group_edit, some_components}
 use Rattle.model_laws.specs.Variables.{vars_in}
 use Rattle.mof_laws.specs.ReadBack.{var_names}
-use Rattle.mof_round_trip_laws.specs.Accepted.{AreWithin, LeadTo, each_leads, each_within}
+use Rattle.mof_round_trip_laws.specs.Accepted.{AreCountsWithin, LeadTo, each_leads, each_within}
 use Rattle.user_model.specs.PositionLaws.{placed_here}
 use Rattle.mof_round_trip_laws.specs.Renumbered.{made_variable, made_variables, none_made}
 
@@ -153,7 +153,7 @@ module _ (model : ModelValue) (valid : IsValid model) where
     names_count : length (var_names g.vars) ≡ length g.vars
     names_count = length-map g.vars (λ v. v.name)
 
-    within_counts : AreWithin (counts (with_groups model done) (group_edit g))
+    within_counts : AreCountsWithin (counts (with_groups model done) (group_edit g))
     within_counts =
         let limit = this_valid.limit in
         let all = valid.within.variables in

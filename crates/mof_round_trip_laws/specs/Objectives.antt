@@ -25,7 +25,7 @@ use Rattle.mof_read.specs.Edits.{objective_edits}
 use Rattle.mof_write.specs.Written.{naming}
 use Rattle.mof_laws.specs.ReadBack.{named_affine, said_objective}
 use Rattle.mof_laws.specs.VariableLaws.{HasVariableAt, variable_there}
-use Rattle.mof_round_trip_laws.specs.Accepted.{AreWithin, LeadTo, each_within, lead_on}
+use Rattle.mof_round_trip_laws.specs.Accepted.{AreCountsWithin, LeadTo, each_within, lead_on}
 use Rattle.mof_round_trip_laws.specs.Functions.{HasTerms, located_affine, placed_count}
 use Rattle.mof_round_trip_laws.specs.Renumbered.{address_of_name, numbers}
 use Rattle.mof_round_trip_laws.specs.Rows.{names_known, placed_rows, placed_terms_of, rows_have, terms_in, terms_kept, with_rows}
@@ -66,7 +66,7 @@ module _ (model : ModelValue) (valid : IsValid model) where
       → edited all_rows (edit.Objective sense func) ≡ with_objective o
       → list_any (unknown all_rows) (mentioned func) ≡ false
       → is_scalar_named func ≡ true
-      → AreWithin (counts_after (with_objective o))
+      → AreCountsWithin (counts_after (with_objective o))
       → LeadTo all_rows (edit.Objective sense func ∷ []) (with_objective o)
   objective_leads sense func o is known scalar fits =
       let passes : IsPassed all_rows (edit.Objective sense func) = record {
@@ -80,7 +80,7 @@ module _ (model : ModelValue) (valid : IsValid model) where
         upper = refl;
         of_type = refl;
         deletable = refl;
-        counted = each_within _ (subst (λ m. AreWithin (counts_after m)) (sym is) fits);
+        counted = each_within _ (subst (λ m. AreCountsWithin (counts_after m)) (sym is) fits);
       } in
       lead_on all_rows (with_objective o) (with_objective o) (edit.Objective sense func) [] passes
       is refl

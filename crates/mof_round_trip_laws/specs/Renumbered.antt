@@ -93,7 +93,7 @@ module _ (model : ModelValue) where
   placed_address at h = ap (λ a. variable_address (position numbers a.number)) (sym h.address)
 
   -- the other model has these variables, renumbered
-  pub record HasVariables (other : ModelValue) : Type 0 where
+  pub record HasRenumberedVariables (other : ModelValue) : Type 0 where
     pub made : variables other ≡ map made_variable (variables model)
 
 module _ (model : ModelValue) (c : IsConsistent model) where
@@ -110,7 +110,7 @@ module _ (model : ModelValue) (c : IsConsistent model) where
       ((bytes_eq-Decides some.0.name v.name).0
       (found_passes test (variables model) some.0 some.1)))
 
-  module _ (other : ModelValue) (has : HasVariables model other) where
+  module _ (other : ModelValue) (has : HasRenumberedVariables model other) where
     number_found : (v : GroupVar) → Contains (variables model) v
         → variable_named other v.name ≡ Some (position (numbers model) v.number)
     number_found v there =
@@ -133,7 +133,7 @@ module _ (model : ModelValue) (c : IsConsistent model) where
         ap (λ o. variable_address (unwrap_or o 0)) (number_of_name at h)
         ∙ sym (placed_address model at h)
 
-  module _ (other : ModelValue) (d : IsConsistent other) (has : HasVariables model other) where
+  module _ (other : ModelValue) (d : IsConsistent other) (has : HasRenumberedVariables model other) where
     -- renumbered once more, a variable stays
     pub number_again : (v : GroupVar) → Contains (variables model) v
         → position (variable_numbers other) (position (numbers model) v.number)

@@ -30,7 +30,7 @@ use Rattle.mof_round_trip_laws.specs.Functions.{affine_again, function_again}
 use Rattle.mof_round_trip_laws.specs.Groups.{groups_lead}
 use Rattle.mof_round_trip_laws.specs.Objectives.{IsPlacedObjective, objective_lead, placed_objective}
 use Rattle.user_model.specs.PositionLaws.{placed_again}
-use Rattle.mof_round_trip_laws.specs.Renumbered.{HasVariables, address_again, made_variable, made_variables, made_as, number_again, numbers, renumbered}
+use Rattle.mof_round_trip_laws.specs.Renumbered.{HasRenumberedVariables, address_again, made_variable, made_variables, made_as, number_again, numbers, renumbered}
 use Rattle.mof_round_trip_laws.specs.Rows.{IsPlacedRow, placed_rows, rows_lead}
 
 -- edits read of the text lead from an empty model to one that is the same up to numbers
@@ -69,7 +69,7 @@ module _ (model : ModelValue) (valid : IsValid model) where
   renumbered_consistent =
       stays_consistent (edits_for model) empty_model (renumbered model) empty_consistent edits_lead
 
-  has_variables : HasVariables model (renumbered model)
+  has_variables : HasRenumberedVariables model (renumbered model)
   has_variables = record { made = made_variables model model.groups }
 
   groups_again : groups_by_position (renumbered model) ≡ groups_by_position model

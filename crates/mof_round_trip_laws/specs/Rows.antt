@@ -39,12 +39,12 @@ use Rattle.mof_laws.specs.ModelLaws.{terms_mentioned}
 use Rattle.mof_laws.specs.ReadBack.{named_affine, named_function, named_term}
 use Rattle.mof_laws.specs.VariableLaws.{HasVariableAt, variable_there}
 use Rattle.mof_laws.specs.WrittenLaws.{function_size}
-use Rattle.mof_round_trip_laws.specs.Accepted.{AreWithin, LeadTo, each_leads, each_within, terms_within}
+use Rattle.mof_round_trip_laws.specs.Accepted.{AreCountsWithin, LeadTo, each_leads, each_within, terms_within}
 use Rattle.mof_round_trip_laws.specs.Bounds.{has_bound, no_row_before, not_created, unbound}
 use Rattle.mof_round_trip_laws.specs.Functions.{HasTerms, HasVariable, IsPlaced, located_is, placed_counts}
 use Rattle.mof_round_trip_laws.specs.Groups.{other_name}
 use Rattle.user_model.specs.PositionLaws.{placed_here}
-use Rattle.mof_round_trip_laws.specs.Renumbered.{HasVariables, made_variables, none_made, number_of_name}
+use Rattle.mof_round_trip_laws.specs.Renumbered.{HasRenumberedVariables, made_variables, none_made, number_of_name}
 
 -- ---- functions whose variables stand
 
@@ -70,7 +70,7 @@ module _ (model : ModelValue) where
       (one_passes (has_term at) fs (slice_index_or fs k d) (Contains-get_or fs k d within) there))
 
 module _ (model : ModelValue) (valid : IsValid model) (other : ModelValue)
-    (has : HasVariables model other) where
+    (has : HasRenumberedVariables model other) where
   name_known : (at : Address) → HasVariableAt model at
       → unknown other (naming model at) ≡ false
   name_known at h =
@@ -139,7 +139,7 @@ module _ (model : ModelValue) where
   abbrev pub IsPlacedRow : Row → Type 0
   IsPlacedRow r = IsPlaced model r.func
 
-  pub rows_have : (done : List Row) → HasVariables model (with_rows done)
+  pub rows_have : (done : List Row) → HasRenumberedVariables model (with_rows done)
   rows_have done = record { made = made_variables model model.groups }
 
   pub placed_rows : (rs : List Row) → All (IsValidRow model.groups) rs → All IsPlacedRow rs
@@ -254,7 +254,7 @@ module _ (model : ModelValue) (valid : IsValid model) where
         let one = sum_by-cons terms_in r [] in
         omega (arith, kept, fits, all, now, first, one)
 
-    within_counts : AreWithin (counts (with_rows model done) (row_edit (naming model) r))
+    within_counts : AreCountsWithin (counts (with_rows model done) (row_edit (naming model) r))
     within_counts =
         let few : All (λ n. n ≤ TERMS)
         (term_counts (located (with_rows model done) (named_function (naming model) r.func))) =

@@ -10,20 +10,20 @@ is_run_byte c = is_ascii_digit c || c == 43 || c == 45 || c == 46 || c == 101 ||
 
 -- where a byte stands: outside strings, straight after the bytes of a run; within a string; or
 -- within a string, straight after its backslash
-pub data Place : Type 0 where
-  outside : List ℕ → Place
-  in_string : Place
-  in_escape : Place
+pub data BytePlace : Type 0 where
+  outside : List ℕ → BytePlace
+  in_string : BytePlace
+  in_escape : BytePlace
 
 -- where the next byte stands, after this byte, which is of no run
-abbrev pub after_other : ℕ → Place
+abbrev pub after_other : ℕ → BytePlace
 after_other c = if c == 34 then in_string else outside []
 
 -- the same within a string
-abbrev pub after_in_string : ℕ → Place
+abbrev pub after_in_string : ℕ → BytePlace
 after_in_string c = if c == 34 then outside [] else (if c == 92 then in_escape else in_string)
 
-abbrev pub rewritten_at : Place → List ℕ → List ℕ
+abbrev pub rewritten_at : BytePlace → List ℕ → List ℕ
 rewritten_at (outside run) [] = replaced run []
 rewritten_at (outside run) (c ∷ cs) =
     if is_run_byte c then rewritten_at (outside (run ++ c ∷ [])) cs

@@ -8,21 +8,21 @@ use Rattle.serde_json.specs.declared.value.Value.{Value}
 use Rattle.mof_values.specs.declared.fault.MofFault.{MofFault}
 use Rattle.mof_values.specs.declared.fault.MofFault.TheVariants.{Memory}
 use Rattle.mof_values.specs.Values.{field_at, walk_at}
-use Rattle.mof_values.specs.Walked.{Meets, Tells, TellsAt, Walked, at, each, index, key_part, under, ◌>>=◌}
+use Rattle.mof_values.specs.Walked.{MeetsWalk, TellsMofFault, TellsMofFaultAt, Walked, at, each, index, key_part, under, ◌>>=◌}
 
 -- a fault that is reported at a part of a pointer
 pub at_fault : {A : Type 0} (part : List ℕ) (walked : Walked A) (fault told : MofFault)
-    → (fault ≢ Memory → walked ≡ Err fault) → Tells told (under part fault) → told ≢ Memory
+    → (fault ≢ Memory → walked ≡ Err fault) → TellsMofFault told (under part fault) → told ≢ Memory
     → at part walked ≡ Err told
 at_fault part walked fault told failed tells not =
     ap (at part) (failed (λ is. not (tells not ∙ ap (under part) is))) ∙ ap Err (sym (tells not))
 
 -- what is said at a part of a pointer of what was read there
 pub at_met : {T A : Type 0} (seen : T → A) (part : List ℕ) (walked : Walked A)
-    (read told : Result T MofFault) → Meets seen read walked → TellsAt part read told
-    → Meets seen told (at part walked)
+    (read told : Result T MofFault) → MeetsWalk seen read walked → TellsMofFaultAt part read told
+    → MeetsWalk seen told (at part walked)
 at_met seen part walked (Ok x) told met same =
-    subst (λ t. Meets seen t (at part walked)) (sym same) (ap (at part) met)
+    subst (λ t. MeetsWalk seen t (at part walked)) (sym same) (ap (at part) met)
 at_met seen part walked (Err fault) (Ok x) met none = elim none [ ]
 at_met seen part walked (Err fault) (Err told) met tells = at_fault part walked fault told met tells
 
@@ -36,16 +36,16 @@ module _ {T A : Type 0} (seen : T → A) (walk : Data → Walked A) (name : List
   there w found = ap (λ w. w >>= (λ e. at (key_part name) (walk e))) found
 
   pub walk_at_missing : (fault : MofFault) → (fault ≢ Memory → field_at name d ≡ Err fault)
-      → told ≡ Err fault → Meets seen told (walk_at walk name d)
+      → told ≡ Err fault → MeetsWalk seen told (walk_at walk name d)
   walk_at_missing fault missing same =
-      subst (λ t. Meets seen t (walk_at walk name d)) (sym same)
+      subst (λ t. MeetsWalk seen t (walk_at walk name d)) (sym same)
       (λ not. there (Err fault) (missing not))
 
   pub walk_at_met : (read : Result T MofFault) (e : Data) → field_at name d ≡ Ok e
-      → Meets seen read (walk e) → TellsAt (key_part name) read told
-      → Meets seen told (walk_at walk name d)
+      → MeetsWalk seen read (walk e) → TellsMofFaultAt (key_part name) read told
+      → MeetsWalk seen told (walk_at walk name d)
   walk_at_met read e found met tells =
-      subst (Meets seen told) (sym (there (Ok e) found))
+      subst (MeetsWalk seen told) (sym (there (Ok e) found))
       (at_met seen (key_part name) (walk e) read told met tells)
 
 pub ruleset walk_at_steps = (walk_at_missing, walk_at_met)
@@ -73,7 +73,7 @@ module _ {S : Type 0} (step : S → Data → Walked S) (xs : List Value) (i : �
         >>= (λ more. each step (suc i) more (items_view (drop (i + 1) xs)))) stepped)
 
     pub each_fault : (fault told : MofFault) → (fault ≢ Memory → step s (view x) ≡ Err fault)
-        → Tells told (under (index i) fault) → told ≢ Memory → all ≡ Err told
+        → TellsMofFault told (under (index i) fault) → told ≢ Memory → all ≡ Err told
     each_fault fault told failed tells not =
         next ∙ ap (λ w. w >>= (λ more. each step (suc i) more (items_view (drop (i + 1) xs))))
         (at_fault (index i) (step s (view x)) fault told failed tells not)

@@ -68,14 +68,14 @@ each step i s (item d ds) = at (index i) (step s d) >>= (λ more. each step (suc
 -- ---- what a call answers
 
 -- the fault, or running out of memory
-abbrev pub Tells : MofFault → MofFault → Type 0
-Tells told fault = told ≢ Memory → told ≡ fault
+abbrev pub TellsMofFault : MofFault → MofFault → Type 0
+TellsMofFault told fault = told ≢ Memory → told ≡ fault
 
 -- what the walk gives, or running out of memory
-abbrev pub Meets : {T A : Type 0} → (T → A) → Result T MofFault → Walked A → Type 0
-Meets seen r walked = MatchResult r (λ x. walked ≡ Ok (seen x)) (λ e. e ≢ Memory → walked ≡ Err e)
+abbrev pub MeetsWalk : {T A : Type 0} → (T → A) → Result T MofFault → Walked A → Type 0
+MeetsWalk seen r walked = MatchResult r (λ x. walked ≡ Ok (seen x)) (λ e. e ≢ Memory → walked ≡ Err e)
 
 -- what is said at a part of a pointer of what was read there
-abbrev pub TellsAt : {T : Type 0} → List ℕ → Result T MofFault → Result T MofFault → Type 0
-TellsAt part (Ok x) told = told ≡ Ok x
-TellsAt part (Err fault) told = MatchResult told (λ _. ⊥) (λ e. Tells e (under part fault))
+abbrev pub TellsMofFaultAt : {T : Type 0} → List ℕ → Result T MofFault → Result T MofFault → Type 0
+TellsMofFaultAt part (Ok x) told = told ≡ Ok x
+TellsMofFaultAt part (Err fault) told = MatchResult told (λ _. ⊥) (λ e. TellsMofFault e (under part fault))

@@ -82,11 +82,11 @@ pub fn here(alloc: Global) -> Text
 }
 
 impl MofFault {
-    ghost use Rattle.mof_values.specs.Walked.{Tells, index, key_part, under};
+    ghost use Rattle.mof_values.specs.Walked.{TellsMofFault, index, key_part, under};
 
     /// The fault of a value at a key, seen from the object.
     pub fn under_key(self, alloc: Global, name: &str) -> MofFault
-        ensures { Tells result (under (key_part name.now) self) }
+        ensures { TellsMofFault result (under (key_part name.now) self) }
     {
         match key_part(alloc, name) {
             Ok(part) => self.under(alloc, &part),
@@ -96,7 +96,7 @@ impl MofFault {
 
     /// The fault of an item, seen from the array.
     pub fn under_index(self, alloc: Global, place: usize) -> MofFault
-        ensures { Tells result (under (index place) self) }
+        ensures { TellsMofFault result (under (index place) self) }
     {
         match index_part(alloc, place) {
             Ok(part) => self.under(alloc, &part),
@@ -105,7 +105,7 @@ impl MofFault {
     }
 
     fn under(self, alloc: Global, part: &[u8]) -> MofFault
-        ensures { Tells result (under part.now self) }
+        ensures { TellsMofFault result (under part.now self) }
     {
         match self.moved(alloc, part) {
             Ok(fault) => fault,

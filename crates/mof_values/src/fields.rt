@@ -2,7 +2,7 @@
 ghost use Rattle.std.specs.Prelude.{⊤};
 ghost use Rattle.serde_json.specs.View.{items_view, view};
 ghost use Rattle.mof_values.specs.Values.{an_array, an_object, field_at};
-ghost use Rattle.mof_values.specs.Walked.{Meets, TellsAt, key_part};
+ghost use Rattle.mof_values.specs.Walked.{MeetsWalk, TellsMofFaultAt, key_part};
 
 use crate::fault::{MofFault, here};
 use serde_json::Value;
@@ -11,7 +11,7 @@ use std::alloc::Global;
 /// The value has to be an object.
 #[tactic(auto, unfolding(crate::specs::Values::an_object))]
 pub fn require_object(alloc: Global, value: &Value) -> Result<(), MofFault>
-    ensures { Meets (λ _. tt) result (an_object (view value.now)) }
+    ensures { MeetsWalk (λ _. tt) result (an_object (view value.now)) }
 {
     if value.is_object() {
         Ok(())
@@ -23,7 +23,7 @@ pub fn require_object(alloc: Global, value: &Value) -> Result<(), MofFault>
 /// What stands at a key, which has to be there.
 #[tactic(auto, unfolding(crate::specs::Values::field_at))]
 pub fn field<'v>(alloc: Global, name: &str, value: &'v Value) -> Result<&'v Value, MofFault>
-    ensures { Meets (λ found. view found.now) result (field_at name.now (view value.now)) }
+    ensures { MeetsWalk (λ found. view found.now) result (field_at name.now (view value.now)) }
 {
     match value.get(name) {
         Some(found) => Ok(found),
@@ -33,7 +33,7 @@ pub fn field<'v>(alloc: Global, name: &str, value: &'v Value) -> Result<&'v Valu
 
 /// What was read at a key, seen from the object.
 pub fn at_key<T>(alloc: Global, name: &str, read: Result<T, MofFault>) -> Result<T, MofFault>
-    ensures { TellsAt (key_part name.now) read result }
+    ensures { TellsMofFaultAt (key_part name.now) read result }
 {
     match read {
         Ok(value) => Ok(value),
@@ -44,7 +44,7 @@ pub fn at_key<T>(alloc: Global, name: &str, read: Result<T, MofFault>) -> Result
 /// The value has to be an array.
 #[tactic(auto, unfolding(crate::specs::Values::an_array))]
 pub fn array<'v>(alloc: Global, value: &'v Value) -> Result<&'v [Value], MofFault>
-    ensures { Meets (λ items. items_view items.now) result (an_array (view value.now)) }
+    ensures { MeetsWalk (λ items. items_view items.now) result (an_array (view value.now)) }
 {
     match value.as_array() {
         Some(items) => Ok(items),

@@ -4,7 +4,7 @@ ghost use Rattle.ratio_core.specs.Rational.{whole_ℚ};
 ghost use Rattle.serde_json.specs.Find.{as_integer};
 ghost use Rattle.serde_json.specs.View.{number_view, view};
 ghost use Rattle.mof_values.specs.Values.{a_number, an_integer, index_in, number_of, unsigned_32, walk_at};
-ghost use Rattle.mof_values.specs.Walked.{Meets};
+ghost use Rattle.mof_values.specs.Walked.{MeetsWalk};
 
 use crate::fault::{MofFault, here};
 use crate::fields::{at_key, field};
@@ -46,7 +46,7 @@ fn whole(number: i128) -> Ratio
 /// The value has to be a number.
 #[tactic(auto, unfolding(crate::specs::Values::a_number))]
 pub fn number(alloc: Global, value: &Value) -> Result<Ratio, MofFault>
-    ensures { Meets (λ number. number) result (a_number (view value.now)) }
+    ensures { MeetsWalk (λ number. number) result (a_number (view value.now)) }
 {
     match number_of(value) {
         Some(number) => Ok(number),
@@ -57,7 +57,7 @@ pub fn number(alloc: Global, value: &Value) -> Result<Ratio, MofFault>
 /// The number at a key.
 #[tactic(auto, using(crate::specs::WalkLaws::walk_at_steps))]
 pub fn number_field(alloc: Global, name: &str, value: &Value) -> Result<Ratio, MofFault>
-    ensures { Meets (λ number. number) result (walk_at a_number name.now (view value.now)) }
+    ensures { MeetsWalk (λ number. number) result (walk_at a_number name.now (view value.now)) }
 {
     let found = field(alloc, name, value)?;
     at_key(alloc, name, number(alloc, found))
@@ -88,7 +88,7 @@ fn unsigned_32(number: i128) -> Option<u32>
 /// The value has to be a whole number from 0 to 4,294,967,295.
 #[tactic(auto, unfolding(crate::specs::Values::an_integer))]
 pub fn integer(alloc: Global, value: &Value) -> Result<u32, MofFault>
-    ensures { Meets (λ number. number) result (an_integer (view value.now)) }
+    ensures { MeetsWalk (λ number. number) result (an_integer (view value.now)) }
 {
     match integer_of(value) {
         Some(number) => Ok(number),
@@ -105,7 +105,7 @@ fn integer_of(value: &Value) -> Option<u32>
 /// The whole number at a key, from 0 to 4,294,967,295.
 #[tactic(auto, using(crate::specs::WalkLaws::walk_at_steps))]
 pub fn integer_field(alloc: Global, name: &str, value: &Value) -> Result<u32, MofFault>
-    ensures { Meets (λ number. number) result (walk_at an_integer name.now (view value.now)) }
+    ensures { MeetsWalk (λ number. number) result (walk_at an_integer name.now (view value.now)) }
 {
     let found = field(alloc, name, value)?;
     at_key(alloc, name, integer(alloc, found))

@@ -4,7 +4,7 @@ ghost use Rattle.set_core.specs.declared.set.Set.TheVariants.{EqualTo, GreaterTh
 ghost use Rattle.set_core.specs.Shapes.{resized};
 ghost use Rattle.mof_values.specs.Sets.{interval_of, set_of, sized, typed_set_of, vector_set_of};
 ghost use Rattle.mof_values.specs.Values.{a_number, field};
-ghost use Rattle.mof_values.specs.Walked.{Meets, mapped};
+ghost use Rattle.mof_values.specs.Walked.{MeetsWalk, mapped};
 
 use crate::fault::MofFault;
 use crate::numbers::{integer_field, number_field};
@@ -16,7 +16,7 @@ use std::alloc::Global;
 /// The set that a value says.
 #[tactic(auto, unfolding(crate::specs::Sets::set_of))]
 pub fn read_set(alloc: Global, value: &Value) -> Result<Set, MofFault>
-    ensures { Meets (λ set. set) result (set_of (view value.now)) }
+    ensures { MeetsWalk (λ set. set) result (set_of (view value.now)) }
 {
     let kind = kind(alloc, value)?;
     typed_set(alloc, kind, value)
@@ -24,7 +24,7 @@ pub fn read_set(alloc: Global, value: &Value) -> Result<Set, MofFault>
 
 #[tactic(auto, unfolding(crate::specs::Sets::typed_set_of))]
 fn typed_set(alloc: Global, kind: &str, value: &Value) -> Result<Set, MofFault>
-    ensures { Meets (λ set. set) result (typed_set_of kind.now (view value.now)) }
+    ensures { MeetsWalk (λ set. set) result (typed_set_of kind.now (view value.now)) }
 {
     if is(kind, "LessThan") {
         less_than(alloc, value)
@@ -40,7 +40,7 @@ fn typed_set(alloc: Global, kind: &str, value: &Value) -> Result<Set, MofFault>
 }
 
 fn less_than(alloc: Global, value: &Value) -> Result<Set, MofFault>
-    ensures { Meets (λ set. set) result
+    ensures { MeetsWalk (λ set. set) result
         (mapped LessThan (field a_number "upper" (view value.now))) }
 {
     let upper = number_field(alloc, "upper", value)?;
@@ -48,7 +48,7 @@ fn less_than(alloc: Global, value: &Value) -> Result<Set, MofFault>
 }
 
 fn greater_than(alloc: Global, value: &Value) -> Result<Set, MofFault>
-    ensures { Meets (λ set. set) result
+    ensures { MeetsWalk (λ set. set) result
         (mapped GreaterThan (field a_number "lower" (view value.now))) }
 {
     let lower = number_field(alloc, "lower", value)?;
@@ -56,7 +56,7 @@ fn greater_than(alloc: Global, value: &Value) -> Result<Set, MofFault>
 }
 
 fn equal_to(alloc: Global, value: &Value) -> Result<Set, MofFault>
-    ensures { Meets (λ set. set) result
+    ensures { MeetsWalk (λ set. set) result
         (mapped EqualTo (field a_number "value" (view value.now))) }
 {
     let value = number_field(alloc, "value", value)?;
@@ -65,7 +65,7 @@ fn equal_to(alloc: Global, value: &Value) -> Result<Set, MofFault>
 
 #[tactic(auto, unfolding(crate::specs::Sets::interval_of))]
 fn interval(alloc: Global, value: &Value) -> Result<Set, MofFault>
-    ensures { Meets (λ set. set) result (interval_of (view value.now)) }
+    ensures { MeetsWalk (λ set. set) result (interval_of (view value.now)) }
 {
     let lower = number_field(alloc, "lower", value)?;
     let upper = number_field(alloc, "upper", value)?;
@@ -74,7 +74,7 @@ fn interval(alloc: Global, value: &Value) -> Result<Set, MofFault>
 
 #[tactic(auto, unfolding(crate::specs::Sets::vector_set_of))]
 fn vector_set(alloc: Global, kind: &str, value: &Value) -> Result<Set, MofFault>
-    ensures { Meets (λ set. set) result (vector_set_of kind.now (view value.now)) }
+    ensures { MeetsWalk (λ set. set) result (vector_set_of kind.now (view value.now)) }
 {
     if is(kind, "Reals") {
         sized(alloc, &Set::Reals { dimension: 0 }, value)
@@ -95,7 +95,7 @@ fn vector_set(alloc: Global, kind: &str, value: &Value) -> Result<Set, MofFault>
 
 // The set with the dimension that stands in the file.
 fn sized(alloc: Global, set: &Set, value: &Value) -> Result<Set, MofFault>
-    ensures { Meets (λ set. set) result
+    ensures { MeetsWalk (λ set. set) result
         (sized (λ n. resized n set.now) (view value.now)) }
 {
     let dimension = integer_field(alloc, "dimension", value)?;

@@ -29,11 +29,11 @@ TermFits t = Fits t.1
 abbrev pub ConstantFits : Function → Type 0
 ConstantFits f = Fits f.constant
 
-abbrev pub TermsFit : Function → Type 0
-TermsFit f = All TermFits (terms_of f)
+abbrev pub EachTermFits : Function → Type 0
+EachTermFits f = All TermFits (terms_of f)
 
 abbrev pub FunctionFits : Function → Type 0
-FunctionFits f = ConstantFits f × TermsFit f
+FunctionFits f = ConstantFits f × EachTermFits f
 
 abbrev pub UserFuncFits : UserFunc → Type 0
 UserFuncFits (Plain var) = ⊤

@@ -2,7 +2,7 @@
 ghost use Rattle.std.specs.Prelude.{◌≡◌, ◌+◌, ◌∷◌, ◌++◌, [], All, OnOk, IfOk, map};
 ghost use Rattle.serde_json.specs.Data.{array};
 ghost use Rattle.serde_json.specs.View.{items_of, view};
-ghost use Rattle.mof_write.specs.Sayable.{ConstantFits, FunctionFits, TermFits, TermsFit};
+ghost use Rattle.mof_write.specs.Sayable.{ConstantFits, EachTermFits, FunctionFits, TermFits};
 ghost use Rattle.mof_write.specs.Values.{count_data, number_data, object_of, word};
 ghost use Rattle.mof_write.specs.Written.{naming, vector_affine_data, vector_term_data, vector_terms};
 
@@ -61,7 +61,7 @@ fn constants(alloc: Global, funcs: &[Aff]) -> Result<Vec<Value>, Memory>
 fn vector_terms(alloc: Global, model: &UserModel, funcs: &[Aff]) -> Result<Vec<Value>, Memory>
     ensures value { IfOk result (λ values. map view values.items
         ≡ vector_terms (naming model.now.model) 0 funcs.now) }
-    ensures fits { OnOk result (All TermsFit funcs.now) }
+    ensures fits { OnOk result (All EachTermFits funcs.now) }
 {
     let mut values = Vec::new(alloc);
     for (place, func) in funcs.iter().enumerate() {

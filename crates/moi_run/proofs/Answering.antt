@@ -6,11 +6,11 @@ use Rattle.io_face.specs.Sink.{Adds, AddsPrefix}
 use Rattle.io_face.specs.declared.sink.SinkFault.{SinkFault}
 use Rattle.io_face.specs.declared.sink.SinkFault.TheVariants as fault
 use Rattle.moi_run.specs.Answering.{Hears, HearsBy, PrintsText, WritesBy, is_refused}
-use Rattle.moi_run.specs.Tally.{Moves, Tally}
+use Rattle.moi_run.specs.RunState.{MovesByLine, RunState}
 use Rattle.moi_run.specs.declared.reply.Reply.{Reply}
 use Rattle.moi_run.specs.Status.{stop_of_sink}
-use Rattle.moi_run.specs.declared.stop.Stop.{Stop}
-use Rattle.moi_run.specs.declared.stop.Stop.TheVariants as stop
+use Rattle.moi_run.specs.declared.stop.RunStop.{RunStop}
+use Rattle.moi_run.specs.declared.stop.RunStop.TheVariants as stop
 use Rattle.report_core.specs.declared.answer.Answer.{Answer}
 use Rattle.report_core.specs.declared.answer.Answer.TheVariants.{ReadFault, TooLong}
 use Rattle.report_core.specs.declared.answer.Answer.TheVariants.{Memory as NoMemory}
@@ -31,8 +31,8 @@ prints_fault accepted e = cc
 prints_fault refusal e = cc
 prints_fault quit e = cc
 
-hears_of : (s new : Tally) (line : List ℕ) (answer : Answer) (refused : Bool)
-    (wrote : List ℕ → Type 0) → (answer ≢ NoMemory → Moves s line answer new)
+hears_of : (s new : RunState) (line : List ℕ) (answer : Answer) (refused : Bool)
+    (wrote : List ℕ → Type 0) → (answer ≢ NoMemory → MovesByLine s line answer new)
     → PrintsText answer refused wrote → Hears s line refused new wrote
 hears_of s new line answer refused wrote moves printed = record {
   answer = answer;
@@ -43,8 +43,8 @@ hears_of s new line answer refused wrote moves printed = record {
 }
 
 -- what became of the line, from its answer and what became of that
-pub line_heard : (result : Result Reply Stop) (s new : Tally) (line : List ℕ) (answer : Answer)
-    (old written : Option (List ℕ)) → (answer ≢ NoMemory → Moves s line answer new)
+pub line_heard : (result : Result Reply RunStop) (s new : RunState) (line : List ℕ) (answer : Answer)
+    (old written : Option (List ℕ)) → (answer ≢ NoMemory → MovesByLine s line answer new)
     → WritesBy result answer old written
     → HearsBy result s line new old written
 line_heard (Ok given) s new line answer old written moves wrote = (
@@ -57,16 +57,16 @@ line_heard (Err stop.WriteFault) s new line answer old written moves wrote =
     (wrote.0, hears_of s new line answer wrote.0 (AddsPrefix old written) moves wrote.1)
 line_heard (Err stop.ReadFault) s new line answer old written moves wrote =
     let is : answer ≡ ReadFault = wrote.0 in
-    (subst (λ a. Moves s line a new) is (moves (λ e. cc)), wrote.1)
+    (subst (λ a. MovesByLine s line a new) is (moves (λ e. cc)), wrote.1)
 line_heard (Err stop.TooLong) s new line answer old written moves wrote =
     let is : answer ≡ TooLong = wrote.0 in
-    (subst (λ a. Moves s line a new) is (moves (λ e. cc)), wrote.1)
+    (subst (λ a. MovesByLine s line a new) is (moves (λ e. cc)), wrote.1)
 line_heard (Err stop.Memory) s new line answer old written moves (inl same) = inl same
 line_heard (Err stop.Memory) s new line answer old written moves (inr begun) =
     inr (begun.0, new, hears_of s new line answer begun.0 (AddsPrefix old written) moves begun.1)
 
 -- the shelf counted no fault where the answer was written
-pub heard_sound : (result : Result Reply Stop) (answer : Answer) (old written : Option (List ℕ))
+pub heard_sound : (result : Result Reply RunStop) (answer : Answer) (old written : Option (List ℕ))
     (faults faults' : ℕ) → WritesBy result answer old written
     → (answer ≢ ReadFault → faults' ≡ faults) → OnOk result (faults' ≡ faults)
 heard_sound (Ok given) answer old written faults faults' wrote sound =
@@ -99,7 +99,7 @@ wrote_whole answer said text seen refused quits old new is prints ends same writ
 )
 
 -- or in part
-pub cut_short : (reason : SinkFault) (given : Stop) (answer said : Answer) (text seen : List ℕ)
+pub cut_short : (reason : SinkFault) (given : RunStop) (answer said : Answer) (text seen : List ℕ)
     (refused : Bool) (old new : Option (List ℕ)) → given ≡ stop_of_sink reason → answer ≡ said
     → Prints said text refused → seen ≡ text → AddsPrefix old new seen
     → WritesBy (Err given) answer old new

@@ -2,7 +2,7 @@
 use Rattle.std.proofs.Common.{◌≡◌, ◌≢◌, ℕ, ◌⊎◌, Bool, true, false, List, [], sym, ◌∙◌, subst, inl, inr, Option, Some}
 use Rattle.std.specs.Prelude.{if◌then◌else◌, Ok, Err}
 use Rattle.command_words.specs.declared.words.Invocation.TheVariants.{Check}
-use Rattle.certificate_check.specs.Verdict.{AsksFiles, IsVerdict}
+use Rattle.certificate_check.specs.Verdict.{AsksModelAndCertificate, IsVerdict}
 use Rattle.certificate_check.specs.VerdictLaws.{fails_by, too_long_by}
 use Rattle.io_face.specs.Fault.{HasFaulted}
 use Rattle.io_face.specs.Shelf.{AsksFor}
@@ -12,12 +12,12 @@ use Rattle.io_face.specs.Told.{Told}
 use Rattle.moi_run.specs.Answering.{PrintsText, WritesBy, is_refused}
 use Rattle.moi_run.specs.Run.{CheckOutcome, Runs, WritesVerdict}
 use Rattle.moi_run.specs.Status.{IsEnded, has_refused, status_of}
-use Rattle.moi_run.specs.Tally.{Tally}
+use Rattle.moi_run.specs.RunState.{RunState}
 use Rattle.moi_run.specs.declared.reply.Reply.{Reply}
 use Rattle.moi_run.specs.declared.status.Status.{Status}
 use Rattle.moi_run.specs.declared.status.Status.TheVariants as status
-use Rattle.moi_run.specs.declared.stop.Stop.{Stop}
-use Rattle.moi_run.specs.declared.stop.Stop.TheVariants as stop
+use Rattle.moi_run.specs.declared.stop.RunStop.{RunStop}
+use Rattle.moi_run.specs.declared.stop.RunStop.TheVariants as stop
 use Rattle.moi_run.proofs.Answering.{prints_memory}
 use Rattle.moi_run.proofs.Exits.{at_end, when_ended}
 use Rattle.moi_run.proofs.Written.{begun_whole}
@@ -62,11 +62,11 @@ module _ (shelf : Told) (faults faults' : ℕ) (model certificate : List ℕ)
   check_begins status.TooLong outcome = inl (nothing_begun outcome.1)
 
 pub runs_check : (model certificate : List ℕ) (end : Status) (left left' : Option (List ℕ))
-    (shelf : Told) (faults faults' : ℕ) (source : Type 0) (s new : Tally)
+    (shelf : Told) (faults faults' : ℕ) (source : Type 0) (s new : RunState)
     (old written : Option (List ℕ))
     → CheckOutcome end shelf faults faults' model certificate old written
     → (end ≢ status.Memory
-    → AsksFiles shelf model certificate (AsksFor s.asked new.asked))
+    → AsksModelAndCertificate shelf model certificate (AsksFor s.asked new.asked))
     → Runs (Some (Check model certificate)) end left left' shelf source (HasFaulted faults faults')
     s new (Adds old written) (AddsPrefix old written)
 runs_check model certificate end left left' shelf faults faults' source s new old written outcome
@@ -111,7 +111,7 @@ verdict_of : (shelf : Told) (model certificate : List ℕ) (answer : Answer) (wa
 verdict_of shelf model certificate answer was wrote verdict printed =
     record { answer = answer; verdict = verdict (prints_memory printed.prints); printed = printed }
 
-pub check_stopped : (reason : Stop) (end : Status) (shelf : Told) (faults faults' : ℕ)
+pub check_stopped : (reason : RunStop) (end : Status) (shelf : Told) (faults faults' : ℕ)
     (model certificate : List ℕ) (answer : Answer) (old new : Option (List ℕ))
     → end ≡ status_of reason
     → (answer ≢ NoMemory → IsVerdict shelf model certificate answer)
@@ -132,7 +132,7 @@ check_stopped reason end shelf faults faults' model certificate answer old new i
         → WritesVerdict shelf model certificate was (AddsPrefix old new)
     part was = verdict_of shelf model certificate answer was (AddsPrefix old new) verdict
 
-    by : (why : Stop) → WritesBy (Err why) answer old new
+    by : (why : RunStop) → WritesBy (Err why) answer old new
         → CheckOutcome (status_of why) shelf faults faults' model certificate old new
     by stop.ReadFault w = (this ReadFault w.0 (λ e. cc), cause w.0, w.1)
     by stop.TooLong w = (this TooLong w.0 (λ e. cc), w.1)
@@ -154,7 +154,7 @@ check_answered given end shelf faults faults' model certificate answer refused o
     (verdict_of shelf model certificate answer (is_refused given) (Adds old new) verdict wrote.0))
 
 -- memory ran out only where that is how it ended
-pub memory_told : (reason : Stop) (end : Status) (answer : Answer) (old new : Option (List ℕ))
+pub memory_told : (reason : RunStop) (end : Status) (answer : Answer) (old new : Option (List ℕ))
     → end ≡ status_of reason → WritesBy (Err reason) answer old new → end ≢ status.Memory
     → answer ≢ NoMemory
 memory_told stop.Memory end answer old new is wrote other e = absurd (other is)

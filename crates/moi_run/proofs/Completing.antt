@@ -6,13 +6,13 @@ use Rattle.std.proofs.lemmas.List.Elements.{All-get_or}
 use Rattle.command_words.specs.declared.words.Invocation.{Invocation}
 use Rattle.command_words.specs.declared.words.Invocation.TheVariants.{Generate, Plan, Run}
 use Rattle.edit_engine.specs.Lines.{heard}
-use Rattle.io_face.specs.Fault.{HasFaulted}
+use Rattle.io_face.specs.Fault.{CountsNoFault, HasFaulted}
 use Rattle.io_face.specs.Told.{Told}
-use Rattle.moi_run.specs.Commands.{AsksInVain, CanBeFetched, CanBeRead, HasReadFault, IsSound}
-use Rattle.moi_run.specs.Input.{IsWithinLimits, PassesLimit}
+use Rattle.moi_run.specs.Commands.{AsksInVain, CanAllBeFetched, CanBeRead, HasReadFault}
+use Rattle.moi_run.specs.Input.{IsInputWithinLimits, PassesLimit}
 use Rattle.moi_run.specs.Run.{HasTooLong, Runs}
 use Rattle.moi_run.specs.Status.{IsEnded}
-use Rattle.moi_run.specs.Tally.{Tally}
+use Rattle.moi_run.specs.RunState.{RunState}
 use Rattle.moi_run.specs.declared.status.Status.{Status}
 use Rattle.moi_run.specs.declared.status.Status.TheVariants as status
 use Rattle.line_reader.specs.Limits.{line_limit}
@@ -23,12 +23,12 @@ pub clash : (P Q : List ℕ → Type 0) (xs : List (List ℕ)) → All Q xs → 
 clash P Q xs all any h = h any.1 (subst Q any.3 (All-get_or Q xs any.0 any.1 any.2 all)) any.4
 
 -- no fault was counted
-unsound : (old new : ℕ) → IsSound old new → HasFaulted old new → ⊥
+unsound : (old new : ℕ) → CountsNoFault old new → HasFaulted old new → ⊥
 unsound old new sound (inl rose) = omega (arith, sound.0, sound.1, rose)
 unsound old new sound (inr stands) = omega (arith, sound.0, sound.1, stands)
 
 -- no limit was passed
-within : (bytes : List ℕ) → IsWithinLimits bytes → PassesLimit bytes → ⊥
+within : (bytes : List ℕ) → IsInputWithinLimits bytes → PassesLimit bytes → ⊥
 within bytes limits (inl long) =
     clash (λ line. line_limit < length line) (λ line. length line ≤ line_limit)
     (heard (lines bytes)) limits.each long (λ line short is_long. omega (arith, short, is_long))
@@ -40,7 +40,7 @@ within bytes limits (inr long) = elim limits.whole [
 module _ (shelf : Told) (reads reads' fetches fetches' : ℕ) where
   -- the shelf counted no fault, or is sure of what was asked
   not_in_vain : (said : Option Invocation) (left : Option (List ℕ))
-      → CanBeFetched said left shelf fetches fetches'
+      → CanAllBeFetched said left shelf fetches fetches'
       → HasFaulted fetches fetches' × (IsTrue shelf.sure → AsksInVain said left shelf) → ⊥
   not_in_vain said left fetched fault = elim fetched.there [
     | inl sound ↦ unsound fetches fetches' sound fault.0
@@ -48,7 +48,7 @@ module _ (shelf : Told) (reads reads' fetches fetches' : ℕ) where
   ]
 
   no_read_fault : (said : Option Invocation) (left : Option (List ℕ))
-      → CanBeRead said left reads reads' → CanBeFetched said left shelf fetches fetches'
+      → CanBeRead said left reads reads' → CanAllBeFetched said left shelf fetches fetches'
       → HasReadFault said (HasFaulted reads reads')
       (HasFaulted fetches fetches' × (IsTrue shelf.sure → AsksInVain said left shelf)) → ⊥
   no_read_fault None left read fetched fault = absurd read
@@ -62,7 +62,7 @@ module _ (shelf : Told) (reads reads' fetches fetches' : ℕ) where
       not_in_vain (Some command) left fetched fault
 
   no_limit : (said : Option Invocation) (left : Option (List ℕ))
-      → CanBeRead said left reads reads' → CanBeFetched said left shelf fetches fetches'
+      → CanBeRead said left reads reads' → CanAllBeFetched said left shelf fetches fetches'
       → HasTooLong said left shelf → ⊥
   no_limit None left read fetched long = absurd read
   no_limit (Some (Run setup)) None read fetched long = absurd (true≢false (sym read.0))
@@ -71,13 +71,13 @@ module _ (shelf : Told) (reads reads' fetches fetches' : ℕ) where
   no_limit (Some command) left read fetched long = fetched.short long
 
 pub completes : (said : Option Invocation) (end : Status) (left left' : Option (List ℕ)) (shelf : Told)
-    (reads reads' fetches fetches' writes writes' : ℕ) (s new : Tally)
+    (reads reads' fetches fetches' writes writes' : ℕ) (s new : RunState)
     (wrote begun : List ℕ → Type 0)
     → Runs said end left left' shelf (HasFaulted reads reads')
     (HasFaulted fetches fetches') s new wrote begun
     → (end ≡ status.Usage → said ≡ None) → (end ≡ status.WriteFault → HasFaulted writes writes')
-    → CanBeRead said left reads reads' → CanBeFetched said left shelf fetches fetches'
-    → IsSound writes writes' → IsEnded end ⊎ (end ≡ status.Memory)
+    → CanBeRead said left reads reads' → CanAllBeFetched said left shelf fetches fetches'
+    → CountsNoFault writes writes' → IsEnded end ⊎ (end ≡ status.Memory)
 completes said end left left' shelf reads reads' fetches fetches' writes writes' s new wrote begun
     runs usage write read fetched sound = by end refl
   where

@@ -7,11 +7,11 @@ use Rattle.io_face.specs.SinkLaws.{Adds-append}
 use Rattle.moi_run.specs.Answering.{BeginsAnswers, Hears, HearsBy, StopsAtFile, StopsAtWrite, WritesAnswers}
 use Rattle.moi_run.specs.Run.{EachOutcome}
 use Rattle.moi_run.specs.Status.{status_of}
-use Rattle.moi_run.specs.Tally.{IsStill, Moves, Tally}
+use Rattle.moi_run.specs.RunState.{IsStill, MovesByLine, RunState}
 use Rattle.moi_run.specs.declared.status.Status.{Status}
 use Rattle.moi_run.specs.declared.status.Status.TheVariants.{Memory}
-use Rattle.moi_run.specs.declared.stop.Stop.{Stop}
-use Rattle.moi_run.specs.declared.stop.Stop.TheVariants as stop
+use Rattle.moi_run.specs.declared.stop.RunStop.{RunStop}
+use Rattle.moi_run.specs.declared.stop.RunStop.TheVariants as stop
 use Rattle.moi_run.proofs.Exits.{stays_at_fault, stays_at_limit}
 use Rattle.moi_run.proofs.Moving.{still}
 use Rattle.moi_run.proofs.Written.{answers_begun, part_more, whole_more}
@@ -27,7 +27,7 @@ lines_around f lines i d low =
     (get_or lines i d ∷ drop (i + 1) lines)
 
 pub each_more : {X : Type 0} (f : X → List ℕ) (lines : List X) (i : ℕ) (d : X) → i < length lines
-    → (start s new : Tally) (refused any was : Bool) (old mid written : Option (List ℕ))
+    → (start s new : RunState) (refused any was : Bool) (old mid written : Option (List ℕ))
     → any ≡ was
     → WritesAnswers start (map f (take i lines)) refused s (Adds old mid)
     → Hears s (f (get_or lines i d)) was new (Adds mid written)
@@ -42,7 +42,7 @@ each_more f lines i d low start s new refused any was old mid written same answe
 -- ---- all were answered
 
 pub each_begins : (refused : Bool) (answer : Status) (lines done more : List (List ℕ))
-    (start s new : Tally) (old written : Option (List ℕ)) → lines ≡ done ++ more
+    (start s new : RunState) (old written : Option (List ℕ)) → lines ≡ done ++ more
     → WritesAnswers start done refused s (Adds old written) → ((answer ≡ Memory → ⊥) → IsStill s new)
     → BeginsAnswers start lines answer new (AddsPrefix old written)
 each_begins refused answer lines done more start s new old written front answered stands = record {
@@ -57,10 +57,10 @@ each_begins refused answer lines done more start s new old written front answere
 
 -- ---- the answer to a line stopped the work
 
-pub stops_at : {stopped : Answer} {lines done : List (List ℕ)} {start s new : Tally}
+pub stops_at : {stopped : Answer} {lines done : List (List ℕ)} {start s new : RunState}
     {refused : Bool} (line : List ℕ) (more : List (List ℕ)) (old mid written : Option (List ℕ))
     → lines ≡ done ++ line ∷ more → WritesAnswers start done refused s (Adds old mid)
-    → Moves s line stopped new → written ≡ mid
+    → MovesByLine s line stopped new → written ≡ mid
     → StopsAtFile start lines stopped new (Adds old written)
 stops_at {done} {start} {s} {refused} line more old mid written front
     answered moves same = record {
@@ -75,7 +75,7 @@ stops_at {done} {start} {s} {refused} line more old mid written front
     }
 
 -- the sink did in the midst of it
-pub cut_at : {lines done : List (List ℕ)} {start s new : Tally} {refused was : Bool}
+pub cut_at : {lines done : List (List ℕ)} {start s new : RunState} {refused was : Bool}
     (line : List ℕ) (more : List (List ℕ)) (old mid written : Option (List ℕ))
     → lines ≡ done ++ line ∷ more → WritesAnswers start done refused s (Adds old mid)
     → Hears s line was new (AddsPrefix mid written)
@@ -105,8 +105,8 @@ cut_at {done} {start} {s} {refused} {was} line more old mid written front answer
   };
 }
 
-pub each_at_stop : (reason : Stop) (answer : Status) (lines done : List (List ℕ)) (line : List ℕ)
-    (more : List (List ℕ)) (start s new : Tally) (refused : Bool)
+pub each_at_stop : (reason : RunStop) (answer : Status) (lines done : List (List ℕ)) (line : List ℕ)
+    (more : List (List ℕ)) (start s new : RunState) (refused : Bool)
     (old mid written : Option (List ℕ))
     → answer ≡ status_of reason → lines ≡ done ++ line ∷ more
     → WritesAnswers start done refused s (Adds old mid)
@@ -116,7 +116,7 @@ each_at_stop reason answer lines done line more start s new refused old mid writ
     answered heard =
     subst (λ a. EachOutcome a lines start new (Adds old written)) (sym is) (by reason heard)
   where
-    by : (why : Stop) → HearsBy (Err why) s line new mid written
+    by : (why : RunStop) → HearsBy (Err why) s line new mid written
         → EachOutcome (status_of why) lines start new (Adds old written)
     by stop.ReadFault at = stops_at line more old mid written front answered at.0 at.1
     by stop.TooLong at = stops_at line more old mid written front answered at.0 at.1
@@ -125,7 +125,7 @@ each_at_stop reason answer lines done line more start s new refused old mid writ
 
 -- the lines before it, and a part of its answer
 pub begins_in : {answer : Status} {lines done : List (List ℕ)} {line : List ℕ}
-    {start s after new : Tally} {refused was : Bool} (more : List (List ℕ))
+    {start s after new : RunState} {refused was : Bool} (more : List (List ℕ))
     (old mid written : Option (List ℕ)) → lines ≡ done ++ line ∷ more
     → WritesAnswers start done refused s (Adds old mid)
     → Hears s line was after (AddsPrefix mid written) → ((answer ≡ Memory → ⊥) → IsStill after new)
@@ -141,8 +141,8 @@ begins_in {done} {line} {after} {refused} {was} more old mid
       stands = stands;
     }
 
-pub each_begins_at_stop : (reason : Stop) (answer : Status) (lines done : List (List ℕ))
-    (line : List ℕ) (more : List (List ℕ)) (start s new : Tally) (refused : Bool)
+pub each_begins_at_stop : (reason : RunStop) (answer : Status) (lines done : List (List ℕ))
+    (line : List ℕ) (more : List (List ℕ)) (start s new : RunState) (refused : Bool)
     (old mid written : Option (List ℕ))
     → answer ≡ status_of reason → lines ≡ done ++ line ∷ more
     → WritesAnswers start done refused s (Adds old mid)
@@ -156,7 +156,7 @@ each_begins_at_stop reason answer lines done line more start s new refused old m
     before same = each_begins refused answer lines done (line ∷ more) start s new old written front
         (subst (λ w. WritesAnswers start done refused s (Adds old w)) (sym same) answered)
 
-    by : (why : Stop) → answer ≡ status_of why → HearsBy (Err why) s line new mid written
+    by : (why : RunStop) → answer ≡ status_of why → HearsBy (Err why) s line new mid written
         → BeginsAnswers start lines answer new (AddsPrefix old written)
     by stop.ReadFault is at = before at.1 (λ _. stays_at_fault s new line at.0)
     by stop.TooLong is at = before at.1 (λ _. stays_at_limit s new line at.0)

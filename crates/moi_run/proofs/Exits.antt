@@ -13,16 +13,16 @@ use Rattle.io_face.specs.Sink.{Adds}
 use Rattle.io_face.specs.Told.{Told, told_by}
 use Rattle.moi_run.specs.Answering.{Hears, HearsBy, StopsAtFile, StopsAtWrite, WritesBy, is_quit, is_refused}
 use Rattle.moi_run.specs.Input.{AnswersTaken, AnswersWithinLimits, Ends, PassesLimit}
-use Rattle.moi_run.specs.Run.{FetchFails, HasCause, Outcome}
+use Rattle.moi_run.specs.Run.{FetchFails, HasCause, RunOutcome}
 use Rattle.moi_run.specs.Status.{IsEnded, has_refused, status_of, stop_of_read}
-use Rattle.moi_run.specs.Tally.{IsStill, Moves, Tally, tally_of}
+use Rattle.moi_run.specs.RunState.{IsStill, MovesByLine, RunState, run_state_of}
 use Rattle.moi_run.specs.declared.reply.Reply.{Reply}
 use Rattle.moi_run.specs.declared.reply.Reply.TheVariants as reply
 use Rattle.moi_run.specs.declared.status.Status.{Status}
 use Rattle.moi_run.specs.declared.status.Status.TheVariants as status
 use Rattle.moi_run.specs.declared.status.Status.TheVariants.{Done, Memory, SomeRefused, Usage, WriteFault}
-use Rattle.moi_run.specs.declared.stop.Stop.{Stop}
-use Rattle.moi_run.specs.declared.stop.Stop.TheVariants as stop
+use Rattle.moi_run.specs.declared.stop.RunStop.{RunStop}
+use Rattle.moi_run.specs.declared.stop.RunStop.TheVariants as stop
 use Rattle.report_core.specs.declared.answer.Answer.{Answer}
 use Rattle.report_core.specs.declared.answer.Answer.TheVariants.{ReadFault, TooLong}
 use Rattle.line_reader.specs.ReadingLaws.{told_always, told_weaker}
@@ -50,32 +50,33 @@ fails_within told told' first old new same low fails = subst (λ t. FetchFails t
       missing = fails.missing;
     }
 
-pub heard_told : (result : Result Reply Stop) (told told' : Told) (s new : Session)
+pub heard_told : (result : Result Reply RunStop) (told told' : Told) (s new : Session)
     (asked asked' : Option (List (List ℕ))) (line : List ℕ) (old written : Option (List ℕ))
     → told' ≡ told
-    → HearsBy result (tally_of s told' asked) line (tally_of new told' asked') old written
-    → HearsBy result (tally_of s told asked) line (tally_of new told asked') old written
+    → HearsBy result (run_state_of s told' asked) line (run_state_of new told' asked') old written
+    → HearsBy result (run_state_of s told asked) line (run_state_of new told asked') old written
 heard_told result told told' s new asked asked' line old written same heard =
-    subst (λ t. HearsBy result (tally_of s t asked) line (tally_of new t asked') old written) same
+    subst (λ t. HearsBy result (run_state_of s t asked) line (run_state_of new t asked') old written) same
     heard
 
 -- a line that was answered, by whether its reply is a refusal
 pub heard_whole : (given : Reply) (told told' : Told) (s new : Session)
     (asked asked' : Option (List (List ℕ))) (line : List ℕ) (old written : Option (List ℕ))
     (was : Bool) → told' ≡ told → was ≡ is_refused given
-    → HearsBy (Ok given) (tally_of s told' asked) line (tally_of new told' asked') old written
-    → Hears (tally_of s told asked) line was (tally_of new told asked') (Adds old written)
+    → HearsBy (Ok given) (run_state_of s told' asked) line (run_state_of new told' asked') old written
+    → Hears (run_state_of s told asked) line was (run_state_of new told asked') (Adds old written)
     × (is_quit given ≡ says_quit line)
 heard_whole given told told' s new asked asked' line old written was same is heard =
     let came = heard_told (Ok given) told told' s new asked asked' line old written same heard in (
       subst
-          (λ b. Hears (tally_of s told asked) line b (tally_of new told asked') (Adds old written))
+          (λ b. Hears (run_state_of s told asked) line b (run_state_of new told asked') (Adds old written))
           (sym is) came.0,
       came.1,
     )
 
 -- the machine is as it was where the shelf stopped the work
-pub stays_at_fault : (s new : Tally) (line : List ℕ) → Moves s line ReadFault new → IsStill s new
+pub stays_at_fault : (s new : RunState) (line : List ℕ) → MovesByLine s line ReadFault new
+    → IsStill s new
 stays_at_fault s new line moves =
     let steps = moves.steps in record {
       machine = steps.1
@@ -84,7 +85,8 @@ stays_at_fault s new line moves =
       calls = omega (arith, moves.rises, moves.few);
     }
 
-pub stays_at_limit : (s new : Tally) (line : List ℕ) → Moves s line TooLong new → IsStill s new
+pub stays_at_limit : (s new : RunState) (line : List ℕ) → MovesByLine s line TooLong new
+    → IsStill s new
 stays_at_limit s new line moves =
     let steps = moves.steps in record {
       machine = steps.1
@@ -94,7 +96,7 @@ stays_at_limit s new line moves =
     }
 
 -- a line whose answer is a fault of the shelf
-pub line_fails : (result : Result Reply Stop) (s new : Machine) (line : List ℕ) (answer : Answer)
+pub line_fails : (result : Result Reply RunStop) (s new : Machine) (line : List ℕ) (answer : Answer)
     (old written : Option (List ℕ)) (faults faults' : ℕ)
     → Answered s line answer new → WritesBy result answer old written
     → (answer ≡ ReadFault → HasFaulted faults faults') → result ≡ Err stop.ReadFault
@@ -123,12 +125,12 @@ when_ended P Q none some SomeRefused ended h = some h
 when_ended P Q none some _ ended h = absurd ended
 
 pub outcome_at_end : (source shelf : Type 0) (refused : Bool) (answer : Status)
-    (all left : Option (List ℕ)) (start s : Tally) (wrote : List ℕ → Type 0)
+    (all left : Option (List ℕ)) (start s : RunState) (wrote : List ℕ → Type 0)
     → answer ≡ (if refused then SomeRefused else Done)
     → IfSome all (λ bytes. Ends bytes left refused start s wrote)
-    → IfSome all (λ bytes. Outcome source shelf answer bytes left start s wrote)
+    → IfSome all (λ bytes. RunOutcome source shelf answer bytes left start s wrote)
 outcome_at_end source shelf refused answer all left start s wrote =
-    at_end (λ a. IfSome all (λ bytes. Outcome source shelf a bytes left start s wrote))
+    at_end (λ a. IfSome all (λ bytes. RunOutcome source shelf a bytes left start s wrote))
     (λ b. IfSome all (λ bytes. Ends bytes left b start s wrote)) (λ h. h)
     (λ h. h) refused answer
 
@@ -153,15 +155,15 @@ at_read P read.TooLong answer is fault long memory = subst P (sym is) (long refl
 at_read P read.Memory answer is fault long memory = subst P (sym is) memory
 
 pub outcome_at_read : (source shelf : Type 0) (reason : ReadStop) (answer : Status)
-    (all left : Option (List ℕ)) (start s : Tally) (wrote : List ℕ → Type 0)
+    (all left : Option (List ℕ)) (start s : RunState) (wrote : List ℕ → Type 0)
     → answer ≡ status_of (stop_of_read reason)
     → (reason ≡ read.ReadFault → source)
     → (reason ≡ read.ReadFault → IfSome all (λ bytes. AnswersTaken bytes left start s wrote))
     → (reason ≡ read.TooLong → IfSome all (λ bytes. PassesLimit bytes × AnswersWithinLimits bytes
     start s wrote))
-    → IfSome all (λ bytes. Outcome source shelf answer bytes left start s wrote)
+    → IfSome all (λ bytes. RunOutcome source shelf answer bytes left start s wrote)
 outcome_at_read source shelf reason answer all left start s wrote is cause fault long =
-    at_read (λ a. IfSome all (λ bytes. Outcome source shelf a bytes left start s wrote)) reason
+    at_read (λ a. IfSome all (λ bytes. RunOutcome source shelf a bytes left start s wrote)) reason
     answer is (λ e. told_weaker _ _ all (λ bytes taken. inl (cause e, taken)) (fault e))
     (λ e. told_weaker _ _ all (λ bytes passes. inl passes) (long e))
     (told_always _ all (λ bytes. tt))
@@ -175,7 +177,7 @@ cause_at_read source shelf sink reason answer is cause =
 -- ---- the answer to a line stopped it
 
 -- what holds by the reason holds by the status
-at_stop : (P : Status → Type 0) (reason : Stop) (answer : Status) → answer ≡ status_of reason
+at_stop : (P : Status → Type 0) (reason : RunStop) (answer : Status) → answer ≡ status_of reason
     → (reason ≡ stop.ReadFault → P status.ReadFault)
     → (reason ≡ stop.WriteFault → P WriteFault)
     → (reason ≡ stop.TooLong → P status.TooLong) → P Memory → P answer
@@ -184,8 +186,8 @@ at_stop P stop.WriteFault answer is fault write long memory = subst P (sym is) (
 at_stop P stop.TooLong answer is fault write long memory = subst P (sym is) (long refl)
 at_stop P stop.Memory answer is fault write long memory = subst P (sym is) memory
 
-pub outcome_at_stop : (source shelf : Type 0) (reason : Stop) (answer : Status)
-    (all left : Option (List ℕ)) (start s : Tally) (wrote : List ℕ → Type 0)
+pub outcome_at_stop : (source shelf : Type 0) (reason : RunStop) (answer : Status)
+    (all left : Option (List ℕ)) (start s : RunState) (wrote : List ℕ → Type 0)
     → answer ≡ status_of reason
     → (reason ≡ stop.ReadFault → shelf)
     → (reason ≡ stop.ReadFault → IfSome all (λ bytes. StopsAtFile start (heard (lines bytes))
@@ -194,38 +196,39 @@ pub outcome_at_stop : (source shelf : Type 0) (reason : Stop) (answer : Status)
     s wrote))
     → (reason ≡ stop.TooLong → IfSome all (λ bytes. StopsAtFile start (heard (lines bytes))
     TooLong s wrote))
-    → IfSome all (λ bytes. Outcome source shelf answer bytes left start s wrote)
+    → IfSome all (λ bytes. RunOutcome source shelf answer bytes left start s wrote)
 outcome_at_stop source shelf reason answer all left start s wrote is cause fault write long =
-    at_stop (λ a. IfSome all (λ bytes. Outcome source shelf a bytes left start s wrote)) reason
+    at_stop (λ a. IfSome all (λ bytes. RunOutcome source shelf a bytes left start s wrote)) reason
     answer is (λ e. told_weaker _ _ all (λ bytes stops. inr (cause e, stops)) (fault e))
     write
     (λ e. told_weaker _ _ all (λ bytes stops. inr stops) (long e))
     (told_always _ all (λ bytes. tt))
 
-pub cause_at_stop : (source shelf sink : Type 0) (reason : Stop) (answer : Status)
+pub cause_at_stop : (source shelf sink : Type 0) (reason : RunStop) (answer : Status)
     → answer ≡ status_of reason → (reason ≡ stop.ReadFault → shelf)
     → (reason ≡ stop.WriteFault → sink) → HasCause source shelf sink answer
 cause_at_stop source shelf sink reason answer is fetch write =
     at_stop (HasCause source shelf sink) reason answer is (λ e. inr (fetch e)) write (λ _. tt) tt
 
-pub no_usage_at_stop : (reason : Stop) (answer : Status) → answer ≡ status_of reason
+pub no_usage_at_stop : (reason : RunStop) (answer : Status) → answer ≡ status_of reason
     → answer ≡ Usage → ⊥
 no_usage_at_stop stop.ReadFault answer is usage = cc
 no_usage_at_stop _ answer is usage = cc
 
 -- the work didn't end
-pub no_end_at_stop : (reason : Stop) (answer : Status) → answer ≡ status_of reason → IsEnded answer
+pub no_end_at_stop : (reason : RunStop) (answer : Status) → answer ≡ status_of reason
+    → IsEnded answer
     → ⊥
 no_end_at_stop reason answer is ended = by reason (subst IsEnded is ended)
   where
-    by : (why : Stop) → IsEnded (status_of why) → ⊥
+    by : (why : RunStop) → IsEnded (status_of why) → ⊥
     by stop.ReadFault ended = ended
     by stop.WriteFault ended = ended
     by stop.TooLong ended = ended
     by stop.Memory ended = ended
 
 -- which reason a status tells
-pub reason_by : (reason : Stop) (answer : Status) → answer ≡ status_of reason → (told : Stop)
+pub reason_by : (reason : RunStop) (answer : Status) → answer ≡ status_of reason → (told : RunStop)
     → answer ≡ status_of told → reason ≡ told
 reason_by stop.ReadFault answer is stop.ReadFault same = refl
 reason_by stop.WriteFault answer is stop.WriteFault same = refl

@@ -14,7 +14,7 @@ use Rattle.edit_engine.specs.ServedLaws.{Serves-append, Serves-none, Serves-one,
 use Rattle.io_face.specs.Shelf.{AsksFor}
 use Rattle.io_face.specs.Told.{Told}
 use Rattle.io_face.specs.ToldLaws.{asks_more, asks_none}
-use Rattle.moi_run.specs.Tally.{IsStill, Moves, MovesThrough, Tally, tally_of}
+use Rattle.moi_run.specs.RunState.{IsStill, MovesByLine, MovesThrough, RunState, run_state_of}
 use Rattle.report_core.specs.declared.answer.Answer.{Answer}
 use Rattle.report_core.specs.declared.answer.Answer.TheVariants.{Memory, Printed, Quit, ReadFault, Refused, Silent, TooLong}
 
@@ -34,7 +34,8 @@ pub moved : (old new : SessionValue) (told : Told) (asked asked' : Option (List 
     (answer : Answer) → Answered (machine_of old told) line answer (machine_of new told)
     → TakesFew answer old.cache.lazy new.cache.lazy
     → (answer ≢ Memory → AsksFor asked asked' (line_asks (machine_of old told) line))
-    → answer ≢ Memory → Moves (tally_of old told asked) line answer (tally_of new told asked')
+    → answer ≢ Memory
+    → MovesByLine (run_state_of old told asked) line answer (run_state_of new told asked')
 moved old new told asked asked' line answer answered few asks other =
     let calls = takes_calls answer old.cache.lazy new.cache.lazy few other in
     record {
@@ -46,7 +47,7 @@ moved old new told asked asked' line answer answered few asks other =
 
 -- ---- lines
 
-pub through_none : (s : Tally) → MovesThrough s [] [] s
+pub through_none : (s : RunState) → MovesThrough s [] [] s
 through_none s = record {
   answers = [];
   asked = [];
@@ -57,9 +58,9 @@ through_none s = record {
   asks = asks_none s.asked;
 }
 
-pub through_more : {s middle new : Tally} {lines : List (List ℕ)} {line text part : List ℕ}
+pub through_more : {s middle new : RunState} {lines : List (List ℕ)} {line text part : List ℕ}
     {answer : Answer} {was : Bool} → MovesThrough s lines text middle
-    → Moves middle line answer new → Prints answer part was
+    → MovesByLine middle line answer new → Prints answer part was
     → MovesThrough s (lines ++ line ∷ []) (text ++ part) new
 through_more {s} {middle} {new} {lines} {line} {text} {part} {answer} {was} before moves prints =
     record {
@@ -83,5 +84,5 @@ through_more {s} {middle} {new} {lines} {line} {text} {part} {answer} {was} befo
           (line_asks middle.machine line) before.asks moves.asks;
     }
 
-pub still : (s : Tally) → IsStill s s
+pub still : (s : RunState) → IsStill s s
 still s = record { machine = refl; calls = refl }

@@ -6,14 +6,14 @@ use Rattle.aff_core.specs.declared.sense.Sense.{Sense}
 use Rattle.aff_core.specs.declared.sense.Sense.TheVariants.{Min}
 use Rattle.edit_engine.specs.Lines.{is_load, says_load}
 use Rattle.generated_script.specs.Generator.{after, draw, step}
-use Rattle.generated_script.specs.Numbers.{Numbers}
+use Rattle.generated_script.specs.ScriptNumbers.{ScriptNumbers}
 use Rattle.generated_script.specs.Parts.{part_at}
 use Rattle.generated_script.specs.Script.{bounded, cost_term, drawn_term, objective_line, text_of}
 use Rattle.name_index.specs.Name.{name_of_token}
 use Rattle.script_core.specs.Changes.{row_set_form}
 use Rattle.script_core.specs.Keyword.{keyword_of}
 use Rattle.script_core.specs.Line.{answer_of, form_of, line_form, line_said, reading_of}
-use Rattle.script_core.specs.Reading.{Tokens, makes_with}
+use Rattle.script_core.specs.Reading.{TokenList, makes_with}
 use Rattle.script_core.specs.Rows.{objective_form, row_form}
 use Rattle.script_core.specs.Sets.{last_named_relation_of, relation_of}
 use Rattle.script_core.specs.Solver.{optimize_form}
@@ -44,14 +44,14 @@ quiet_edit edit (Some function) = refl
 
 -- ---- by the first word
 
-quiet_var : (tokens : Tokens) → IsQuiet (variable_form tokens)
+quiet_var : (tokens : TokenList) → IsQuiet (variable_form tokens)
 unfolding variable_form
 quiet_var [] = refl
 quiet_var (variable ∷ tokens) =
     quiet_behind (name_of_token variable) _
     (λ name. quiet_behind (creation_set_of tokens) _ (λ set. refl))
 
-quiet_row : (tokens : Tokens) → IsQuiet (row_form tokens)
+quiet_row : (tokens : TokenList) → IsQuiet (row_form tokens)
 unfolding row_form
 quiet_row [] = refl
 quiet_row (row ∷ []) = refl
@@ -61,12 +61,12 @@ quiet_row (row ∷ word ∷ tokens) =
     (λ relation. quiet_behind (function_terms_of relation.1) _
     (λ terms. quiet_edit _ (function_of terms))))
 
-quiet_objective : (sense : Sense) (tokens : Tokens) → IsQuiet (objective_form sense tokens)
+quiet_objective : (sense : Sense) (tokens : TokenList) → IsQuiet (objective_form sense tokens)
 unfolding objective_form
 quiet_objective sense tokens =
     quiet_behind (terms_of tokens) _ (λ terms. quiet_edit _ (function_of terms))
 
-quiet_set : (tokens : Tokens) → IsQuiet (row_set_form tokens)
+quiet_set : (tokens : TokenList) → IsQuiet (row_set_form tokens)
 unfolding row_set_form
 quiet_set tokens = quiet_behind (last_named_relation_of tokens) _ (λ row. refl)
 
@@ -111,7 +111,8 @@ either : {A : Type 0} (b : Bool) (P : A → Type 0) (x y : A) → P x → P y �
 either true P x y h k = h
 either false P x y h k = k
 
-pub line_loads_nothing : (n : Numbers) (k s : ℕ) → says_load (text_of n (part_at n k) s) ≡ false
+pub line_loads_nothing : (n : ScriptNumbers) (k s : ℕ)
+    → says_load (text_of n (part_at n k) s) ≡ false
 unfolding text_of part_at
 line_loads_nothing n k s =
     either (nat_lt k n.vars) (λ part. says_load (text_of n part s) ≡ false) _ _

@@ -9,10 +9,10 @@ use Rattle.command_words.specs.declared.words.Setup.{Setup}
 use Rattle.edit_engine.specs.Held.{SessionValue, machine_of, set_up, state_of}
 use Rattle.edit_engine.specs.Lines.{Answers, heard, is_load, next, none, says_load}
 use Rattle.edit_engine.specs.LinesLaws.{IsStopped, stops_by}
-use Rattle.cache_layer.specs.State.{with_table}
+use Rattle.cache_layer.specs.CacheState.{with_table}
 use Rattle.edit_engine.specs.Script.{Machine, machine_by}
-use Rattle.certificate_check.specs.Verdict.{AsksFiles}
-use Rattle.generated_script.specs.Numbers.{Numbers}
+use Rattle.certificate_check.specs.Verdict.{AsksModelAndCertificate}
+use Rattle.generated_script.specs.ScriptNumbers.{ScriptNumbers}
 use Rattle.io_face.specs.Fault.{HasFaulted}
 use Rattle.io_face.specs.Shelf.{AsksFor}
 use Rattle.io_face.specs.Sink.{Adds, AddsPrefix}
@@ -24,9 +24,9 @@ use Rattle.item_core.specs.Table.{target_table}
 use Rattle.moi_run.specs.Answering.{BeginsAnswers, StopsAtFile, WritesAnswers}
 use Rattle.moi_run.specs.Commands.{AsksInVain, IfCheck, IfGenerate, LoadsFile, lines_for, solve_lines, start_by, start_for}
 use Rattle.moi_run.specs.Input.{Ends}
-use Rattle.moi_run.specs.Run.{EachOutcome, FetchFails, HasCause, Outcome, Runs, RunsEach}
+use Rattle.moi_run.specs.Run.{EachOutcome, FetchFails, HasCause, RunOutcome, Runs, RunsEach}
 use Rattle.moi_run.specs.Status.{IsEnded, has_refused}
-use Rattle.moi_run.specs.Tally.{IsStill, Tally, tally_of}
+use Rattle.moi_run.specs.RunState.{IsStill, RunState, run_state_of}
 use Rattle.moi_run.specs.declared.status.Status.{Status}
 use Rattle.moi_run.specs.declared.status.Status.TheVariants as status
 use Rattle.moi_run.proofs.Completing.{clash}
@@ -59,7 +59,7 @@ abbrev Unfetched : List (List ℕ) → Told → FetchFault → Type 0
 Unfetched ls shelf reason =
     (name : List ℕ) × Any (LoadsFile name) ls × MayGive shelf name (Err reason)
 
-unfetched : (s new : Tally) (ls : List (List ℕ)) (wrote : List ℕ → Type 0) (shelf : Told)
+unfetched : (s new : RunState) (ls : List (List ℕ)) (wrote : List ℕ → Type 0) (shelf : Told)
     (stopped : Answer) (reason : FetchFault) → s.machine.shelf ≡ shelf
     → (stops : StopsAtFile s ls stopped new wrote)
     → IsStopped stops.after.machine (line_said stops.line) reason new.machine.state → Unfetched ls shelf reason
@@ -71,14 +71,14 @@ unfetched s new ls wrote shelf stopped reason same stops told = (
       told.gave,
 )
 
-unfetched_at_fault : (s new : Tally) (ls : List (List ℕ)) (wrote : List ℕ → Type 0)
+unfetched_at_fault : (s new : RunState) (ls : List (List ℕ)) (wrote : List ℕ → Type 0)
     (shelf : Told) → s.machine.shelf ≡ shelf → StopsAtFile s ls ReadFault new wrote
     → Unfetched ls shelf fetch.Failed
 unfetched_at_fault s new ls wrote shelf same stops =
     unfetched s new ls wrote shelf ReadFault fetch.Failed same stops
     (stops_by stops.after.machine new.machine stops.line ReadFault stops.moves.steps)
 
-unfetched_at_limit : (s new : Tally) (ls : List (List ℕ)) (wrote : List ℕ → Type 0)
+unfetched_at_limit : (s new : RunState) (ls : List (List ℕ)) (wrote : List ℕ → Type 0)
     (shelf : Told) → s.machine.shelf ≡ shelf → StopsAtFile s ls TooLong new wrote
     → Unfetched ls shelf fetch.TooLong
 unfetched_at_limit s new ls wrote shelf same stops =
@@ -87,15 +87,15 @@ unfetched_at_limit s new ls wrote shelf same stops =
 
 -- ---- what the outcome says, by the status
 
-ends_by : (source shelf : Type 0) (end : Status) (left left' : Option (List ℕ)) (s new : Tally)
+ends_by : (source shelf : Type 0) (end : Status) (left left' : Option (List ℕ)) (s new : RunState)
     (wrote : List ℕ → Type 0) → IsEnded end
-    → IfSome left (λ bytes. Outcome source shelf end bytes left' s new wrote)
+    → IfSome left (λ bytes. RunOutcome source shelf end bytes left' s new wrote)
     → IfSome left (λ bytes. Ends bytes left' (has_refused end) s new wrote)
 ends_by source shelf end left left' s new wrote =
-    when_ended (λ e. IfSome left (λ bytes. Outcome source shelf e bytes left' s new wrote))
+    when_ended (λ e. IfSome left (λ bytes. RunOutcome source shelf e bytes left' s new wrote))
     (λ b. IfSome left (λ bytes. Ends bytes left' b s new wrote)) (λ o. o) (λ o. o) end
 
-each_ends_by : (end : Status) (ls : List (List ℕ)) (s new : Tally) (wrote : List ℕ → Type 0)
+each_ends_by : (end : Status) (ls : List (List ℕ)) (s new : RunState) (wrote : List ℕ → Type 0)
     → IsEnded end → EachOutcome end ls s new wrote → WritesAnswers s ls (has_refused end) new wrote
 each_ends_by end ls s new wrote =
     when_ended (λ e. EachOutcome e ls s new wrote) (λ b. WritesAnswers s ls b new wrote)
@@ -111,8 +111,8 @@ told_lines Q (Some bytes) told = told
 -- ---- `run`
 
 script_fault : (setup : Setup) (left left' : Option (List ℕ)) (shelf : Told) (faults faults' : ℕ)
-    (source : Type 0) (s new : Tally) (wrote : List ℕ → Type 0) → s.machine.shelf ≡ shelf
-    → IfSome left (λ bytes. Outcome source (FetchFails shelf faults faults') status.ReadFault bytes
+    (source : Type 0) (s new : RunState) (wrote : List ℕ → Type 0) → s.machine.shelf ≡ shelf
+    → IfSome left (λ bytes. RunOutcome source (FetchFails shelf faults faults') status.ReadFault bytes
     left' s new wrote)
     → source ⊎ FetchFails shelf faults faults'
     → source ⊎ (HasFaulted faults faults'
@@ -129,10 +129,10 @@ script_fault setup (Some bytes) left' shelf faults faults' source s new wrote sa
     inr (stops.0.counted, λ sure. (file.0, file.1, file.2 sure))
 
 pub runs_script : (setup : Setup) (end : Status) (left left' : Option (List ℕ)) (shelf : Told)
-    (faults faults' : ℕ) (source sink : Type 0) (s middle new : Tally)
+    (faults faults' : ℕ) (source sink : Type 0) (s middle new : RunState)
     (wrote begun : List ℕ → Type 0)
     → middle ≡ start_by (Some setup) s → s.machine.shelf ≡ shelf → new.machine.pivots ≡ middle.machine.pivots
-    → IfSome left (λ bytes. Outcome source (FetchFails shelf faults faults') end bytes left'
+    → IfSome left (λ bytes. RunOutcome source (FetchFails shelf faults faults') end bytes left'
     middle new wrote)
     → IfSome left (λ bytes. BeginsAnswers middle (heard (lines bytes)) end new begun)
     → HasCause source (FetchFails shelf faults faults') sink end
@@ -140,12 +140,12 @@ pub runs_script : (setup : Setup) (end : Status) (left left' : Option (List ℕ)
     new wrote begun
 runs_script setup end left left' shelf faults faults' source sink s middle new wrote begun is same
     pivots outcome begins cause =
-    let start : Tally = start_by (Some setup) s in
+    let start : RunState = start_by (Some setup) s in
     let fetch : Type 0 = FetchFails shelf faults faults' in
     let came : Status → List ℕ → Type 0 =
-    λ how bytes. Outcome source fetch how bytes left' start new wrote in
+    λ how bytes. RunOutcome source fetch how bytes left' start new wrote in
     let by : IfSome left (came end) =
-    subst (λ m. IfSome left (λ bytes. Outcome source fetch end bytes left' m new wrote))
+    subst (λ m. IfSome left (λ bytes. RunOutcome source fetch end bytes left' m new wrote))
     is outcome in
     let at : (how : Status) → end ≡ how → IfSome left (came how) =
     λ (how : Status) (e : end ≡ how). subst (λ t. IfSome left (came t)) e by in
@@ -156,7 +156,7 @@ runs_script setup end left left' shelf faults faults' source sink s middle new w
       text = λ ended. told_lines _ left (told_weaker Ended _ left (λ bytes e. e.answered)
           (ends ended));
       verdict = λ ended. tt;
-      pivots = λ ended. pivots ∙ ap (λ (m : Tally). m.machine.pivots) is;
+      pivots = λ ended. pivots ∙ ap (λ (m : RunState). m.machine.pivots) is;
       to_the_end = λ ended. told_weaker Ended _ left (λ bytes e. e.to_the_end) (ends ended);
       within_limits = λ ended. told_weaker Ended _ left (λ bytes e. e.within_limits) (ends ended);
       prefix = told_lines _ left
@@ -194,7 +194,7 @@ pub set_up_is : (setup : Setup) (old new : SessionValue) (shelf : Told) (asked :
     → state_of new ≡ with_table (state_of old) (target_table setup.target)
     → new.group ≡ old.group → new.pivots ≡ setup.pivots
     → new.cache.lazy.solver.leaves.calls ≡ old.cache.lazy.solver.leaves.calls
-    → tally_of new shelf asked ≡ start_by (Some setup) (tally_of old shelf asked)
+    → run_state_of new shelf asked ≡ start_by (Some setup) (run_state_of old shelf asked)
 set_up_is setup old new shelf asked state group pivots calls =
     let machine : machine_of new shelf
     ≡ set_up (machine_of old shelf) (target_table setup.target) setup.pivots =
@@ -203,18 +203,18 @@ set_up_is setup old new shelf asked state group pivots calls =
 
 -- ---- given lines
 
-pub runs_each : (ls : List (List ℕ)) (setup : Setup) (end : Status) (s middle new : Tally)
+pub runs_each : (ls : List (List ℕ)) (setup : Setup) (end : Status) (s middle new : RunState)
     (wrote begun : List ℕ → Type 0) → middle ≡ start_by (Some setup) s → new.machine.pivots ≡ middle.machine.pivots
     → EachOutcome end ls middle new wrote → BeginsAnswers middle ls end new begun
     → RunsEach ls setup end s new wrote begun
 runs_each ls setup end s middle new wrote begun is pivots outcome begins = record {
   outcome = subst (λ m. EachOutcome end ls m new wrote) is outcome;
   prefix = subst (λ m. BeginsAnswers m ls end new begun) is begins;
-  pivots = λ ended. pivots ∙ ap (λ (m : Tally). m.machine.pivots) is;
+  pivots = λ ended. pivots ∙ ap (λ (m : RunState). m.machine.pivots) is;
 }
 
 pub runs_plan : (setup : Setup) (end : Status) (left left' : Option (List ℕ)) (shelf : Told)
-    (source fetch : Type 0) (s new : Tally) (wrote begun : List ℕ → Type 0)
+    (source fetch : Type 0) (s new : RunState) (wrote begun : List ℕ → Type 0)
     → RunsEach (codes "plan" ∷ []) setup end s new wrote begun → (end ≢ status.ReadFault)
     → (end ≢ status.TooLong)
     → Runs (Some (Plan setup)) end left left' shelf source fetch s new wrote begun
@@ -238,7 +238,7 @@ runs_plan setup end left left' shelf source fetch s new wrote begun runs no_faul
     }
 
 pub runs_solve : (setup : Setup) (model : List ℕ) (end : Status) (left left' : Option (List ℕ))
-    (shelf : Told) (faults faults' : ℕ) (source : Type 0) (s new : Tally)
+    (shelf : Told) (faults faults' : ℕ) (source : Type 0) (s new : RunState)
     (wrote begun : List ℕ → Type 0) → s.machine.shelf ≡ shelf
     → RunsEach (solve_lines model) setup end s new wrote begun
     → (end ≡ status.ReadFault → FetchFails shelf faults faults')
@@ -246,7 +246,7 @@ pub runs_solve : (setup : Setup) (model : List ℕ) (end : Status) (left left' :
     new wrote begun
 runs_solve setup model end left left' shelf faults faults' source s new wrote begun
     same runs fails =
-    let start : Tally = start_by (Some setup) s in
+    let start : RunState = start_by (Some setup) s in
     let at : (how : Status) → end ≡ how → EachOutcome how (solve_lines model) start new wrote =
     λ (how : Status) (e : end ≡ how). subst (λ t. EachOutcome t (solve_lines model) start new wrote)
     e runs.outcome in
@@ -273,11 +273,11 @@ runs_solve setup model end left left' shelf faults faults' source s new wrote be
 
 -- ---- nothing was done
 
-pub each_without_memory : (ls : List (List ℕ)) (setup : Setup) (s new : Tally)
+pub each_without_memory : (ls : List (List ℕ)) (setup : Setup) (s new : RunState)
     (old : Option (List ℕ)) → RunsEach ls setup status.Memory s new (Adds old old)
     (AddsPrefix old old)
 each_without_memory ls setup s new old =
-    let start : Tally = start_by (Some setup) s in
+    let start : RunState = start_by (Some setup) s in
     record {
       outcome = tt;
       prefix = each_begins false status.Memory ls [] ls start start new old old refl
@@ -299,7 +299,8 @@ always_check (Some (Solve setup model)) Q h = tt
 always_check (Some (Check model certificate)) Q h = h model certificate
 always_check (Some (Generate numbers)) Q h = tt
 
-pub always_generate : (said : Option Invocation) (Q : Numbers → Type 0) → ((n : Numbers) → Q n)
+pub always_generate : (said : Option Invocation) (Q : ScriptNumbers → Type 0)
+    → ((n : ScriptNumbers) → Q n)
     → IfGenerate said Q
 always_generate None Q h = tt
 always_generate (Some (Run setup)) Q h = tt
@@ -310,15 +311,15 @@ always_generate (Some (Generate numbers)) Q h = h numbers
 
 -- memory ran out before the first line, or the words are of no command
 runs_nothing : (said : Option Invocation) (end : Status) (left left' : Option (List ℕ)) (shelf : Told)
-    (source fetch : Type 0) (s new : Tally) (old : Option (List ℕ)) → (IsEnded end → ⊥)
+    (source fetch : Type 0) (s new : RunState) (old : Option (List ℕ)) → (IsEnded end → ⊥)
     → (end ≢ status.ReadFault) → (end ≢ status.WriteFault) → (end ≢ status.TooLong)
     → (end ≢ status.Memory → IsStill (start_for said s) new)
     → (end ≢ status.Memory → IfCheck said
-    (λ model certificate. AsksFiles shelf model certificate (AsksFor s.asked new.asked)))
+    (λ model certificate. AsksModelAndCertificate shelf model certificate (AsksFor s.asked new.asked)))
     → Runs said end left left' shelf source fetch s new (Adds old old) (AddsPrefix old old)
 runs_nothing said end left left' shelf source fetch s new old no_end no_fault no_write no_limit
     stands asks =
-    let start : Tally = start_for said s in
+    let start : RunState = start_for said s in
     record {
       text = λ ended. absurd (no_end ended);
       verdict = λ ended. absurd (no_end ended);
@@ -338,14 +339,14 @@ runs_nothing said end left left' shelf source fetch s new old no_end no_fault no
     }
 
 pub runs_without_memory : (said : Option Invocation) (left left' : Option (List ℕ)) (shelf : Told)
-    (source fetch : Type 0) (s new : Tally) (old : Option (List ℕ))
+    (source fetch : Type 0) (s new : RunState) (old : Option (List ℕ))
     → Runs said status.Memory left left' shelf source fetch s new (Adds old old)
     (AddsPrefix old old)
 runs_without_memory said left left' shelf source fetch s new old =
     runs_nothing said status.Memory left left' shelf source fetch s new old (λ ended. ended)
     (λ e. cc) (λ e. cc) (λ e. cc) (λ ne. absurd (ne refl)) (λ ne. absurd (ne refl))
 
-pub runs_of_none : (left : Option (List ℕ)) (shelf : Told) (source fetch : Type 0) (s : Tally)
+pub runs_of_none : (left : Option (List ℕ)) (shelf : Told) (source fetch : Type 0) (s : RunState)
     (old : Option (List ℕ)) → Runs None status.Usage left left shelf source fetch s s (Adds old old)
     (AddsPrefix old old)
 runs_of_none left shelf source fetch s old =
@@ -354,7 +355,7 @@ runs_of_none left shelf source fetch s old =
 
 -- ---- lines that ask for no file
 
-no_fetch : (ls : List (List ℕ)) (end : Status) (s new : Tally) (wrote : List ℕ → Type 0)
+no_fetch : (ls : List (List ℕ)) (end : Status) (s new : RunState) (wrote : List ℕ → Type 0)
     → All (λ line. says_load line ≡ false) ls → EachOutcome end ls s new wrote
     → (end ≢ status.ReadFault) × (end ≢ status.TooLong)
 no_fetch ls end s new wrote quiet outcome = (
@@ -372,7 +373,7 @@ no_fetch ls end s new wrote quiet outcome = (
         clash (LoadsFile file.0) (λ line. says_load line ≡ false) ls quiet file.1
         (λ line no loads. true≢false (sym (loads_file file.0 line loads) ∙ no))
 
-pub plan_fetches_nothing : (end : Status) (s new : Tally) (wrote : List ℕ → Type 0)
+pub plan_fetches_nothing : (end : Status) (s new : RunState) (wrote : List ℕ → Type 0)
     → EachOutcome end (codes "plan" ∷ []) s new wrote → (end ≢ status.ReadFault)
     × (end ≢ status.TooLong)
 plan_fetches_nothing end s new wrote =
@@ -383,7 +384,7 @@ plan_fetches_nothing end s new wrote =
 
 -- what holds of a command holds of the one that the words say
 pub said_runs : {said other : Option Invocation} {end : Status} {left left' : Option (List ℕ)}
-    {shelf : Told} {source fetch : Type 0} {s new : Tally} {wrote begun : List ℕ → Type 0}
+    {shelf : Told} {source fetch : Type 0} {s new : RunState} {wrote begun : List ℕ → Type 0}
     → other ≡ said → Runs other end left left' shelf source fetch s new wrote begun
     → Runs said end left left' shelf source fetch s new wrote begun
 said_runs {said} {other} {end} {left} {left'} {shelf} {source} {fetch} {s} {new} {wrote} {begun} is
@@ -405,15 +406,15 @@ usage_at_memory None some = absurd (true≢false (sym some))
 usage_at_memory (Some command) some = (λ e. cc, λ none. cc)
 
 pub command_runs : {given command : Invocation} {end : Status} {left left' : Option (List ℕ)}
-    {shelf : Told} {source fetch : Type 0} {s new : Tally} {wrote begun : List ℕ → Type 0}
+    {shelf : Told} {source fetch : Type 0} {s new : RunState} {wrote begun : List ℕ → Type 0}
     → given ≡ command → Runs (Some given) end left left' shelf source fetch s new wrote begun
     → Runs (Some command) end left left' shelf source fetch s new wrote begun
 command_runs is runs = said_runs (ap Some is) runs
 
 -- ---- a generated script
 
-pub runs_generated : (n : Numbers) (end : Status) (left left' : Option (List ℕ)) (shelf : Told)
-    (source fetch : Type 0) (s new : Tally) (wrote begun : List ℕ → Type 0)
+pub runs_generated : (n : ScriptNumbers) (end : Status) (left left' : Option (List ℕ)) (shelf : Told)
+    (source fetch : Type 0) (s new : RunState) (wrote begun : List ℕ → Type 0)
     → (IsEnded end → new.machine.pivots ≡ 100000)
     → (end ≢ status.ReadFault) × (end ≢ status.TooLong)
     → Runs (Some (Generate n)) end left left' shelf source fetch s new wrote begun

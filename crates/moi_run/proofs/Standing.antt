@@ -14,16 +14,16 @@ use Rattle.std.proofs.KnownBytes.{prepend_known-nil}
 use Rattle.edit_engine.specs.Lines.{heard, says_quit}
 use Rattle.edit_engine.specs.LinesLaws.{heard-append, heard_at_last, heard_at_quit}
 use Rattle.io_face.specs.Sink.{Adds}
-use Rattle.io_face.specs.Source.{Takes}
+use Rattle.io_face.specs.Source.{Takes, TakesAtMost}
 use Rattle.io_face.specs.SourceLaws.{Takes-all, Takes-append}
 use Rattle.moi_run.specs.Answering.{Hears, WritesAnswers}
 use Rattle.moi_run.specs.Input.{AnswersTaken, AnswersWithinLimits, Ends, PassesLimit, has_quit}
-use Rattle.moi_run.specs.Tally.{Tally}
+use Rattle.moi_run.specs.RunState.{RunState}
 use Rattle.moi_run.proofs.Written.{answers_nothing, same_lines, whole_more}
 use Rattle.line_reader.specs.Limits.{line_limit, input_limit}
 use Rattle.line_reader.specs.Lines.{ended_lines, stripped_parts, is_short}
 use Rattle.line_reader.specs.LinesLaws.{lines-ended, lines-unended, ended_lines-ended, ended_lines-unended, stripped_parts-ended, stripped_parts-unended}
-use Rattle.line_reader.specs.Reading.{Buffered, allowance, rest_of, GivesLine, GivesLastLine, GivesNothing, LosesPart, IsTooLong, TakesAtMost}
+use Rattle.line_reader.specs.Reading.{Buffered, allowance, rest_of, GivesLine, GivesLastLine, GivesNothing, LosesPart, IsTooLong}
 
 -- a cut behind a front that it leaves whole
 take_over : (front rest : List ℕ) (n : ℕ) → length front ≤ n
@@ -77,8 +77,8 @@ given_more {all} {left} {left'} {reader} {reader'} {given} {done} {line} front g
 
 -- the lines done are some of the input's, none is too long or ends the run, and their answers are
 -- written
-pub record Standing (all : Option (List ℕ)) (start : Tally) (reader : Buffered)
-    (left : Option (List ℕ)) (s : Tally) (refused : Bool)
+pub record Standing (all : Option (List ℕ)) (start : RunState) (reader : Buffered)
+    (left : Option (List ℕ)) (s : RunState) (refused : Bool)
     (old new : Option (List ℕ)) : Type 0 where
   pub given : List ℕ
   pub done : List (List ℕ)
@@ -86,7 +86,7 @@ pub record Standing (all : Option (List ℕ)) (start : Tally) (reader : Buffered
   pub no_quit : list_any says_quit done ≡ false
   pub answered : WritesAnswers start done refused s (Adds old new)
 
-pub standing_at_start : (start : Tally) (reader : Buffered) (left old : Option (List ℕ))
+pub standing_at_start : (start : RunState) (reader : Buffered) (left old : Option (List ℕ))
     → reader.held ≡ [] → reader.room ≡ input_limit
     → Standing left start reader left start false old old
 standing_at_start start reader left old none whole = record {
@@ -115,7 +115,7 @@ told_left Q all (Some rest) front is h = subst (λ o. IfSome o Q) (sym is) (h re
 -- ---- the work ends
 
 -- at the end of the input, of which this text was left
-ends_behind : {all left : Option (List ℕ)} {start s : Tally} {reader : Buffered} {given : List ℕ}
+ends_behind : {all left : Option (List ℕ)} {start s : RunState} {reader : Buffered} {given : List ℕ}
     {done total : List (List ℕ)} {refused : Bool} {wrote : List ℕ → Type 0}
     (left' : Option (List ℕ)) (text : List ℕ) → GivenAs all reader left given done
     → list_any says_quit done ≡ false → rest_of reader left ≡ prepend_known text left'
@@ -150,8 +150,8 @@ ends_behind {all} {left} {start} {s} {reader} {given} {done} {total} {refused} {
     })
 
 -- after whole lines
-pub ends_at_end : (all : Option (List ℕ)) (start : Tally) (reader : Buffered)
-    (left left' : Option (List ℕ)) (s : Tally) (refused : Bool) (old new : Option (List ℕ))
+pub ends_at_end : (all : Option (List ℕ)) (start : RunState) (reader : Buffered)
+    (left left' : Option (List ℕ)) (s : RunState) (refused : Bool) (old new : Option (List ℕ))
     → Standing all start reader left s refused old new → GivesNothing reader left left'
     → IfSome all (λ bytes. Ends bytes left' refused start s (Adds old new))
 ends_at_end all start reader left left' s refused old new standing gives =
@@ -160,8 +160,8 @@ ends_at_end all start reader left left' s refused old new standing gives =
     standing.answered
 
 -- after a last line that no newline ends
-pub ends_at_last : (all : Option (List ℕ)) (start : Tally) (reader : Buffered)
-    (left left' : Option (List ℕ)) (s s' : Tally) (refused was : Bool)
+pub ends_at_last : (all : Option (List ℕ)) (start : RunState) (reader : Buffered)
+    (left left' : Option (List ℕ)) (s s' : RunState) (refused was : Bool)
     (old mid new : Option (List ℕ)) (line seen : List ℕ)
     → GivesLastLine reader left left' line → seen ≡ line
     → Standing all start reader left s refused old mid → Hears s seen was s' (Adds mid new)
@@ -191,8 +191,8 @@ has_quit_behind given done line more ended_on quit =
     or_true false = refl
 
 -- at the line that ends the run
-pub ends_at_quit : (all : Option (List ℕ)) (start : Tally) (reader reader' : Buffered)
-    (left left' : Option (List ℕ)) (s s' : Tally) (refused was : Bool)
+pub ends_at_quit : (all : Option (List ℕ)) (start : RunState) (reader reader' : Buffered)
+    (left left' : Option (List ℕ)) (s s' : RunState) (refused was : Bool)
     (old mid new : Option (List ℕ)) (line : List ℕ)
     → Standing all start reader left s refused old mid → GivesLine reader left reader' left' line
     → says_quit line ≡ true → Hears s line was s' (Adds mid new)
@@ -228,8 +228,8 @@ ends_at_quit all start reader reader' left left' s s' refused was old mid new li
 -- ---- the work stops
 
 -- reading failed
-pub stops_at_fault : (all : Option (List ℕ)) (start : Tally) (reader : Buffered)
-    (left left' : Option (List ℕ)) (s : Tally) (refused : Bool) (old new : Option (List ℕ))
+pub stops_at_fault : (all : Option (List ℕ)) (start : RunState) (reader : Buffered)
+    (left left' : Option (List ℕ)) (s : RunState) (refused : Bool) (old new : Option (List ℕ))
     → Standing all start reader left s refused old new → LosesPart reader left left'
     → IfSome all (λ bytes. AnswersTaken bytes left' start s (Adds old new))
 stops_at_fault all start reader left left' s refused old new standing loses =
@@ -275,8 +275,8 @@ take_while_short (line ∷ done) more short =
     (All-tail (λ l. length l ≤ line_limit) line done short))
 
 -- a line or the input is too long
-pub stops_at_limit : (all : Option (List ℕ)) (start : Tally) (reader : Buffered)
-    (left : Option (List ℕ)) (s : Tally) (refused : Bool) (old new : Option (List ℕ))
+pub stops_at_limit : (all : Option (List ℕ)) (start : RunState) (reader : Buffered)
+    (left : Option (List ℕ)) (s : RunState) (refused : Bool) (old new : Option (List ℕ))
     → Standing all start reader left s refused old new
     → IfSome (rest_of reader left) (IsTooLong (allowance reader))
     → IfSome all (λ bytes. PassesLimit bytes × AnswersWithinLimits bytes start s (Adds old new))
@@ -322,8 +322,8 @@ stops_at_limit all start reader left s refused old new standing too_long =
 -- ---- however it ends
 
 -- at most one byte past the limit of the input was taken
-pub taken_in_all : (all : Option (List ℕ)) (start : Tally) (reader : Buffered)
-    (left left' : Option (List ℕ)) (s : Tally) (refused : Bool) (old new : Option (List ℕ))
+pub taken_in_all : (all : Option (List ℕ)) (start : RunState) (reader : Buffered)
+    (left left' : Option (List ℕ)) (s : RunState) (refused : Bool) (old new : Option (List ℕ))
     → Standing all start reader left s refused old new → TakesAtMost (reader.room + 1) left left'
     → TakesAtMost (input_limit + 1) all left'
 taken_in_all all start reader left left' s refused old new standing takes =

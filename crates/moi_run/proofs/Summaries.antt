@@ -8,7 +8,7 @@ use Rattle.command_words.specs.declared.words.Invocation.{Invocation}
 use Rattle.edit_engine.specs.Lines.{Prints, accepted, is_load, quit, refusal, says_load, silent}
 use Rattle.edit_engine.specs.LinesLaws.{stops_by}
 use Rattle.edit_engine.specs.Script.{Answered, Machine, Steps}
-use Rattle.generated_script.specs.Numbers.{Numbers}
+use Rattle.generated_script.specs.ScriptNumbers.{ScriptNumbers}
 use Rattle.generated_script.specs.Parts.{line_count}
 use Rattle.generated_script.specs.Script.{ScriptFrom, after_line, line_at, script_line, state_before}
 use Rattle.io_face.specs.Sink.{Adds, AddsPrefix}
@@ -19,8 +19,8 @@ use Rattle.moi_run.specs.Generated.{AnswersEach, BeginsSummary, GenerateOutcome,
 use Rattle.moi_run.specs.Status.{IsEnded, has_refused, status_of, stop_of_sink}
 use Rattle.moi_run.specs.declared.status.Status.{Status}
 use Rattle.moi_run.specs.declared.status.Status.TheVariants as status
-use Rattle.moi_run.specs.declared.stop.Stop.{Stop}
-use Rattle.moi_run.specs.declared.stop.Stop.TheVariants as stop
+use Rattle.moi_run.specs.declared.stop.RunStop.{RunStop}
+use Rattle.moi_run.specs.declared.stop.RunStop.TheVariants as stop
 use Rattle.moi_run.proofs.Exits.{when_ended}
 use Rattle.moi_run.proofs.Quiet.{line_loads_nothing}
 use Rattle.moi_run.proofs.Running.{always_generate}
@@ -33,7 +33,7 @@ use Rattle.run_summary.specs.declared.tally.Tally.{Tally}
 
 -- ---- one line more
 
-abbrev pub first_lines : Numbers → ℕ → List (List ℕ)
+abbrev pub first_lines : ScriptNumbers → ℕ → List (List ℕ)
 first_lines n k = map (line_at n) (range_with_len 0 k)
 
 each_more : {s middle new : Machine} {lines : List (List ℕ)} {answers : List Answer}
@@ -65,7 +65,7 @@ steps_of s new line ReadFault is answered = answered
 steps_of s new line TooLong is answered = answered
 
 -- an answer that goes on
-line_more : (n : Numbers) (k : ℕ) (start s new : Machine) (answers : List Answer)
+line_more : (n : ScriptNumbers) (k : ℕ) (start s new : Machine) (answers : List Answer)
     (answer : Answer) → AnswersEach start (first_lines n k) answers s
     → Answered s (line_at n k) answer new → stop_of_answer answer ≡ None
     → AnswersEach start (first_lines n (k + 1)) (answers ++ answer ∷ []) new
@@ -77,7 +77,7 @@ line_more n k start s new answers answer each answered goes =
 -- ---- an answer that stops the work
 
 -- where no file is asked for, it is that memory ran out
-stopped_by_memory : (s new : Machine) (line : List ℕ) (answer : Answer) (why : Stop)
+stopped_by_memory : (s new : Machine) (line : List ℕ) (answer : Answer) (why : RunStop)
     → stop_of_answer answer ≡ Some why → Answered s line answer new → says_load line ≡ false
     → why ≡ stop.Memory
 unfolding says_load
@@ -91,11 +91,11 @@ stopped_by_memory s new line (Printed text) why is answered quiet = cc
 stopped_by_memory s new line (Refused text) why is answered quiet = cc
 stopped_by_memory s new line Quit why is answered quiet = cc
 
-memory_is : (end : Status) (why : Stop) → end ≡ status_of why → why ≡ stop.Memory
+memory_is : (end : Status) (why : RunStop) → end ≡ status_of why → why ≡ stop.Memory
     → end ≡ status.Memory
 memory_is end why is memory = is ∙ ap status_of memory
 
-pub without_memory : (end : Status) (n : Numbers) (s new : Machine) (old : Option (List ℕ))
+pub without_memory : (end : Status) (n : ScriptNumbers) (s new : Machine) (old : Option (List ℕ))
     → end ≡ status.Memory → GenerateOutcome end n s new old old
 without_memory end n s new old is =
     subst (λ e. GenerateOutcome e n s new old old) (sym is) (inl refl)
@@ -108,14 +108,14 @@ no_usage_of_memory end is other = cc
 
 -- ---- the summary
 
-summed : (n : Numbers) (s new : Machine) (answers : List Answer) (refused : Bool)
+summed : (n : ScriptNumbers) (s new : Machine) (answers : List Answer) (refused : Bool)
     (wrote : List ℕ → Type 0) → AnswersEach s (first_lines n (line_count n)) answers new
     → refused ≡ nat_lt 0 (tally_of answers).refused → wrote (summary_text (tally_of answers))
     → WritesSummary s n refused new wrote
 summed n s new answers refused wrote each any written =
     record { answers = answers; each = each; any = any; written = written }
 
-summed_by : (end : Status) (n : Numbers) (s new : Machine) (answers : List Answer)
+summed_by : (end : Status) (n : ScriptNumbers) (s new : Machine) (answers : List Answer)
     (old written : Option (List ℕ)) → AnswersEach s (first_lines n (line_count n)) answers new
     → SummaryOutcome end (tally_of answers) old written → GenerateOutcome end n s new old written
 summed_by status.Done n s new answers old written each outcome =
@@ -131,7 +131,7 @@ summed_by status.Memory n s new answers old written each (inr begun) =
     inr (_, summed n s new answers _ (AddsPrefix old written) each refl begun)
 summed_by status.TooLong n s new answers old written each outcome = absurd outcome
 
-script_summed : (end : Status) (n : Numbers) (k : ℕ) (s new : Machine) (answers : List Answer)
+script_summed : (end : Status) (n : ScriptNumbers) (k : ℕ) (s new : Machine) (answers : List Answer)
     (tally : Tally) (old written : Option (List ℕ)) → AnswersEach s (first_lines n k) answers new
     → tally ≡ tally_of answers → k ≡ line_count n → SummaryOutcome end tally old written
     → GenerateOutcome end n s new old written
@@ -153,7 +153,7 @@ summary_ended false end tally text old written is any whole added =
     subst (λ e. SummaryOutcome e tally old written) (sym is)
     (sym any, subst (Adds old written) whole added)
 
-pub summary_cut : (reason : SinkFault) (given : Stop) (end : Status) (tally : Tally)
+pub summary_cut : (reason : SinkFault) (given : RunStop) (end : Status) (tally : Tally)
     (text : List ℕ) (old written : Option (List ℕ)) → given ≡ stop_of_sink reason
     → end ≡ status_of given → text ≡ summary_text tally → AddsPrefix old written text
     → SummaryOutcome end tally old written
@@ -168,13 +168,13 @@ summary_cut reason given end tally text old written from is whole begun =
     by fault.Memory = inr part
 
 -- the status of a fault of the sink is its own
-pub write_fault_of : (reason : SinkFault) (given : Stop) (end : Status) → given ≡ stop_of_sink reason
+pub write_fault_of : (reason : SinkFault) (given : RunStop) (end : Status) → given ≡ stop_of_sink reason
     → end ≡ status_of given → end ≡ status.WriteFault → reason ≡ fault.Failed
 write_fault_of fault.Failed given end from is write = refl
 write_fault_of fault.Memory given end from is write =
     let same : end ≡ status.Memory = is ∙ ap status_of from in cc
 
-pub no_usage_of_sink : (reason : SinkFault) (given : Stop) (end : Status)
+pub no_usage_of_sink : (reason : SinkFault) (given : RunStop) (end : Status)
     → given ≡ stop_of_sink reason → end ≡ status_of given → end ≢ status.Usage
 no_usage_of_sink fault.Failed given end from is usage =
     let same : end ≡ status.WriteFault = is ∙ ap status_of from in cc
@@ -189,23 +189,23 @@ no_write_fault_at_end false end is write = cc
 -- ---- one turn of the loop
 
 -- the first lines were answered, and this is their tally
-pub record SumsUp (n : Numbers) (k : ℕ) (start s : Machine) (tally : Tally) : Type 0 where
+pub record SumsUp (n : ScriptNumbers) (k : ℕ) (start s : Machine) (tally : Tally) : Type 0 where
   pub answers : List Answer
   pub each : AnswersEach start (first_lines n k) answers s
   pub tallied : tally ≡ tally_of answers
 
-sums_nothing : (n : Numbers) (start : Machine) (tally : Tally) → tally ≡ tally_of []
+sums_nothing : (n : ScriptNumbers) (start : Machine) (tally : Tally) → tally ≡ tally_of []
     → SumsUp n 0 start start tally
 sums_nothing n start tally is = record { answers = []; each = none; tallied = is }
 
-sums_begin : (n : Numbers) (lines : ScriptFrom) (start : Machine) (tally : Tally)
+sums_begin : (n : ScriptNumbers) (lines : ScriptFrom) (start : Machine) (tally : Tally)
     → lines ≡ record { numbers = n; next = 0 } → tally ≡ tally_of []
     → SumsUp n lines.next start start tally
 sums_begin n lines start tally first is =
     subst (λ k. SumsUp n k start start tally) (sym (ap (λ (s : ScriptFrom). s.next) first))
     (sums_nothing n start tally is)
 
-sums_more : (n : Numbers) (k : ℕ) (start s new : Machine) (tally tally' : Tally)
+sums_more : (n : ScriptNumbers) (k : ℕ) (start s new : Machine) (tally tally' : Tally)
     (line : List ℕ) (answer : Answer) → SumsUp n k start s tally → line ≡ line_at n k
     → Answered s line answer new → stop_of_answer answer ≡ None → tally' ≡ one_more tally answer
     → SumsUp n (k + 1) start new tally'
@@ -217,14 +217,14 @@ sums_more n k start s new tally tally' line answer sums is answered goes counted
       ∙ counted_more sums.answers answer;
 }
 
-sums_end : (end : Status) (n : Numbers) (k : ℕ) (s new : Machine) (tally : Tally)
+sums_end : (end : Status) (n : ScriptNumbers) (k : ℕ) (s new : Machine) (tally : Tally)
     (old written : Option (List ℕ)) → SumsUp n k s new tally → k ≡ line_count n
     → SummaryOutcome end tally old written → GenerateOutcome end n s new old written
 sums_end end n k s new tally old written sums all outcome =
     script_summed end n k s new sums.answers tally old written sums.each sums.tallied all outcome
 
 -- what the next line is
-some_line : (n : Numbers) (k : ℕ) (line : List ℕ) → Some line ≡ script_line n k
+some_line : (n : ScriptNumbers) (k : ℕ) (line : List ℕ) → Some line ≡ script_line n k
     → (k < line_count n) × (line ≡ line_at n k)
 some_line n k line is = elim (cases_lt k (line_count n)) [
   | inl low ↦ (
@@ -242,7 +242,7 @@ some_line n k line is = elim (cases_lt k (line_count n)) [
     some_none : (a : List ℕ) → Some a ≡ None → ⊥
     some_none a e = cc
 
-no_line : (n : Numbers) (k : ℕ) → None ≡ script_line n k → line_count n ≤ k
+no_line : (n : ScriptNumbers) (k : ℕ) → None ≡ script_line n k → line_count n ≤ k
 no_line n k is = elim (cases_lt k (line_count n)) [
   | inl low ↦ absurd (none_some (line_at n k) (is ∙ cond-true (nat_lt k (line_count n)) (Some (line_at n k)) None
       (lt-ltb k (line_count n) low)))
@@ -259,13 +259,13 @@ line_behind s low =
     (lt-ltb s.next (line_count s.numbers) low)
 
 -- a line was taken, and the next is behind it
-pub record TakesLine (n : Numbers) (lines lines' : ScriptFrom) (line : List ℕ) : Type 0 where
+pub record TakesLine (n : ScriptNumbers) (lines lines' : ScriptFrom) (line : List ℕ) : Type 0 where
   pub low : lines.next < line_count n
   pub line_is : line ≡ line_at n lines.next
   pub numbers : lines'.numbers ≡ n
   pub moved : lines'.next ≡ lines.next + 1
 
-pub takes_line : (n : Numbers) (lines lines' : ScriptFrom) (line : List ℕ) → lines.numbers ≡ n
+pub takes_line : (n : ScriptNumbers) (lines lines' : ScriptFrom) (line : List ℕ) → lines.numbers ≡ n
     → Some line ≡ script_line lines.numbers lines.next → lines' ≡ after_line lines
     → TakesLine n lines lines' line
 takes_line n lines lines' line same is moved =
@@ -282,7 +282,7 @@ takes_line n lines lines' line same is moved =
     }
 
 -- a line of the script asks for no file
-pub script_loads_nothing : (n : Numbers) (k : ℕ) (line : List ℕ) → line ≡ line_at n k
+pub script_loads_nothing : (n : ScriptNumbers) (k : ℕ) (line : List ℕ) → line ≡ line_at n k
     → says_load line ≡ false
 script_loads_nothing n k line is =
     ap says_load is ∙ line_loads_nothing n k (state_before n k)
@@ -290,7 +290,7 @@ script_loads_nothing n k line is =
 -- ---- the turns, in the terms of the loop
 
 -- what the loop knows of its tally and its place
-pub record Stands (n : Numbers) (lines : ScriptFrom) (start s : Machine) (tally : Tally)
+pub record Stands (n : ScriptNumbers) (lines : ScriptFrom) (start s : Machine) (tally : Tally)
     : Type 0 where
   pub numbers : lines.numbers ≡ n
   pub within : lines.next ≤ line_count n
@@ -299,7 +299,7 @@ pub record Stands (n : Numbers) (lines : ScriptFrom) (start s : Machine) (tally 
   pub refused : tally.refused ≤ tally.lines
   pub calls : tally.calls ≤ tally.lines * 2 ^ 64
 
-pub stands_first : (n : Numbers) (lines : ScriptFrom) (start : Machine) (tally : Tally)
+pub stands_first : (n : ScriptNumbers) (lines : ScriptFrom) (start : Machine) (tally : Tally)
     → lines ≡ record { numbers = n; next = 0 } → tally ≡ tally_of [] → Stands n lines start start tally
 stands_first n lines start tally first is =
     let next : lines.next ≡ 0 = ap (λ (s : ScriptFrom). s.next) first in
@@ -315,7 +315,7 @@ stands_first n lines start tally first is =
       calls = omega (arith, calls);
     }
 
-pub stands_next : (n : Numbers) (lines lines' : ScriptFrom) (start s new : Machine)
+pub stands_next : (n : ScriptNumbers) (lines lines' : ScriptFrom) (start s new : Machine)
     (tally tally' : Tally) (line seen : List ℕ) (answer : Answer)
     → Stands n lines start s tally → TakesLine n lines lines' line → seen ≡ line
     → Answered s seen answer new → None ≡ stop_of_answer answer → tally' ≡ one_more tally answer
@@ -338,15 +338,15 @@ stands_next n lines lines' start s new tally tally' line seen answer stands took
     }
 
 -- an answer stopped the work: memory ran out
-pub ends_without_memory : (n : Numbers) (lines lines' : ScriptFrom) (s new : Machine)
-    (line seen : List ℕ) (answer : Answer) (why : Stop) (end : Status)
+pub ends_without_memory : (n : ScriptNumbers) (lines lines' : ScriptFrom) (s new : Machine)
+    (line seen : List ℕ) (answer : Answer) (why : RunStop) (end : Status)
     → TakesLine n lines lines' line → seen ≡ line → Answered s seen answer new
     → Some why ≡ stop_of_answer answer → end ≡ status_of why → end ≡ status.Memory
 ends_without_memory n lines lines' s new line seen answer why end took same answered stops is =
     memory_is end why is (stopped_by_memory s new seen answer why (sym stops) answered
     (script_loads_nothing n lines.next seen (same ∙ took.line_is)))
 
-pub stands_last : (end : Status) (n : Numbers) (lines : ScriptFrom) (start s : Machine)
+pub stands_last : (end : Status) (n : ScriptNumbers) (lines : ScriptFrom) (start s : Machine)
     (tally : Tally) (old written : Option (List ℕ)) → Stands n lines start s tally
     → None ≡ script_line lines.numbers lines.next → SummaryOutcome end tally old written
     → GenerateOutcome end n start s old written
@@ -359,7 +359,7 @@ stands_last end n lines start s tally old written stands past_end outcome =
 
 -- ---- the clauses of the command
 
-module _ (n : Numbers) (s new : Machine) (old written : Option (List ℕ)) where
+module _ (n : ScriptNumbers) (s new : Machine) (old written : Option (List ℕ)) where
   pub summary_ends : (end : Status) → IsEnded end → GenerateOutcome end n s new old written
       → WritesSummary s n (has_refused end) new (Adds old written)
   summary_ends = when_ended (λ e. GenerateOutcome e n s new old written)

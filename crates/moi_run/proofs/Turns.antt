@@ -10,10 +10,10 @@ use Rattle.io_face.specs.SourceLaws.{Takes-all}
 use Rattle.moi_run.specs.Answering.{BeginsAnswers, Hears, HearsBy, StopsAtFile, StopsAtWrite}
 use Rattle.moi_run.specs.Input.{Ends}
 use Rattle.moi_run.specs.Status.{status_of}
-use Rattle.moi_run.specs.Tally.{IsStill, Moves, Tally}
+use Rattle.moi_run.specs.RunState.{IsStill, MovesByLine, RunState}
 use Rattle.moi_run.specs.declared.status.Status.{Status}
 use Rattle.moi_run.specs.declared.status.Status.TheVariants.{Memory}
-use Rattle.moi_run.specs.declared.stop.Stop.{Stop}
+use Rattle.moi_run.specs.declared.stop.RunStop.{RunStop}
 use Rattle.moi_run.proofs.Each.{begins_in, cut_at, each_begins, each_begins_at_stop, stops_at}
 use Rattle.moi_run.proofs.Standing.{GivenAs, Standing, ends_at_last, ends_at_quit, given_more, told_left}
 use Rattle.moi_run.proofs.Written.{whole_more}
@@ -27,8 +27,8 @@ use Rattle.line_reader.specs.declared.line_reader.ReadStop.{ReadStop}
 
 -- ---- between two lines
 
-pub begins_so_far : (all : Option (List ℕ)) (start : Tally) (reader : Buffered)
-    (left : Option (List ℕ)) (s new : Tally) (refused : Bool) (old written : Option (List ℕ))
+pub begins_so_far : (all : Option (List ℕ)) (start : RunState) (reader : Buffered)
+    (left : Option (List ℕ)) (s new : RunState) (refused : Bool) (old written : Option (List ℕ))
     (end : Status)
     → Standing all start reader left s refused old written → (end ≢ Memory → IsStill s new)
     → IfSome all (λ bytes. BeginsAnswers start (heard (lines bytes)) end new
@@ -77,8 +77,8 @@ reached done line more bytes no_quit is = (
   ap heard is ∙ heard-append done (line ∷ more) no_quit,
 )
 
-reached_in_turn : (next : Next) (all : Option (List ℕ)) (start : Tally) (reader reader' : Buffered)
-    (left left' : Option (List ℕ)) (s : Tally) (refused : Bool) (old mid : Option (List ℕ))
+reached_in_turn : (next : Next) (all : Option (List ℕ)) (start : RunState) (reader reader' : Buffered)
+    (left left' : Option (List ℕ)) (s : RunState) (refused : Bool) (old mid : Option (List ℕ))
     (line seen : List ℕ) → Gives next reader left reader' left' line seen
     → (standing : Standing all start reader left s refused old mid)
     → IfSome all (Reached standing.done seen)
@@ -107,8 +107,8 @@ reached_in_turn came.LastLine all start reader reader' left left' s refused old 
     ∙ ap (λ ls. done ++ ls) (lines-unended seen now.unended now.some)))
 
 -- within the answer to the line, or after it
-pub begins_in_turn : (next : Next) (all : Option (List ℕ)) (start : Tally) (reader reader' : Buffered)
-    (left left' : Option (List ℕ)) (s after new : Tally) (refused was : Bool)
+pub begins_in_turn : (next : Next) (all : Option (List ℕ)) (start : RunState) (reader reader' : Buffered)
+    (left left' : Option (List ℕ)) (s after new : RunState) (refused was : Bool)
     (old mid written : Option (List ℕ)) (line seen : List ℕ) (end : Status)
     → Gives next reader left reader' left' line seen
     → Standing all start reader left s refused old mid
@@ -124,8 +124,8 @@ begins_in_turn next all start reader reader' left left' s after new refused was 
     standing)
 
 -- where its answer stopped the work
-pub begins_at_stop : (reason : Stop) (answer : Status) (next : Next) (all : Option (List ℕ))
-    (start : Tally) (reader reader' : Buffered) (left left' : Option (List ℕ)) (s s' : Tally)
+pub begins_at_stop : (reason : RunStop) (answer : Status) (next : Next) (all : Option (List ℕ))
+    (start : RunState) (reader reader' : Buffered) (left left' : Option (List ℕ)) (s s' : RunState)
     (refused : Bool) (old mid written : Option (List ℕ)) (line seen : List ℕ) → answer ≡ status_of
     reason → HearsBy (Err reason) s seen s' mid written
     → Gives next reader left reader' left' line seen
@@ -141,11 +141,11 @@ begins_at_stop reason answer next all start reader reader' left left' s s' refus
     standing)
 
 -- where it asks for a file and the shelf stopped the work
-pub stops_in_turn : (next : Next) (all : Option (List ℕ)) (start : Tally) (reader reader' : Buffered)
-    (left left' : Option (List ℕ)) (s new : Tally) (refused : Bool)
+pub stops_in_turn : (next : Next) (all : Option (List ℕ)) (start : RunState) (reader reader' : Buffered)
+    (left left' : Option (List ℕ)) (s new : RunState) (refused : Bool)
     (old mid written : Option (List ℕ)) (line seen : List ℕ) (stopped : Answer)
     → Gives next reader left reader' left' line seen
-    → Standing all start reader left s refused old mid → Moves s seen stopped new
+    → Standing all start reader left s refused old mid → MovesByLine s seen stopped new
     → written ≡ mid
     → IfSome all (λ bytes. StopsAtFile start (heard (lines bytes)) stopped new (Adds old written))
 unfolding Reached
@@ -157,8 +157,8 @@ stops_in_turn next all start reader reader' left left' s new refused old mid wri
     standing)
 
 -- where the sink stopped the work in the midst of its answer
-pub cut_in_turn : (next : Next) (all : Option (List ℕ)) (start : Tally) (reader reader' : Buffered)
-    (left left' : Option (List ℕ)) (s new : Tally) (refused was : Bool)
+pub cut_in_turn : (next : Next) (all : Option (List ℕ)) (start : RunState) (reader reader' : Buffered)
+    (left left' : Option (List ℕ)) (s new : RunState) (refused was : Bool)
     (old mid written : Option (List ℕ)) (line seen : List ℕ)
     → Gives next reader left reader' left' line seen
     → Standing all start reader left s refused old mid
@@ -173,8 +173,8 @@ cut_in_turn next all start reader reader' left left' s new refused was old mid w
     standing)
 
 -- where it ends the run
-pub ends_in_turn : (next : Next) (all : Option (List ℕ)) (start : Tally) (reader reader' : Buffered)
-    (left left' : Option (List ℕ)) (s s' : Tally) (refused was : Bool)
+pub ends_in_turn : (next : Next) (all : Option (List ℕ)) (start : RunState) (reader reader' : Buffered)
+    (left left' : Option (List ℕ)) (s s' : RunState) (refused was : Bool)
     (old mid new : Option (List ℕ)) (line seen : List ℕ)
     → Gives next reader left reader' left' line seen
     → Standing all start reader left s refused old mid → says_quit seen ≡ true
@@ -192,8 +192,8 @@ ends_in_turn came.LastLine all start reader reader' left left' s s' refused was 
     (gives.last refl) gives.same standing hears
 
 -- where the work goes on
-pub standing_after_turn : (next : Next) (all : Option (List ℕ)) (start : Tally)
-    (reader reader' : Buffered) (left left' : Option (List ℕ)) (s s' : Tally) (refused was : Bool)
+pub standing_after_turn : (next : Next) (all : Option (List ℕ)) (start : RunState)
+    (reader reader' : Buffered) (left left' : Option (List ℕ)) (s s' : RunState) (refused was : Bool)
     (old mid new : Option (List ℕ)) (line seen : List ℕ)
     → Gives next reader left reader' left' line seen
     → (next ≡ came.LastLine → ⊥) → Standing all start reader left s refused old mid

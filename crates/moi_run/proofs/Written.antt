@@ -6,7 +6,7 @@ use Rattle.edit_engine.specs.LinesLaws.{Answers-append, Answers-none, Answers-on
 use Rattle.io_face.specs.Sink.{Adds, AddsPrefix}
 use Rattle.io_face.specs.SinkLaws.{Adds-empty, Adds-append}
 use Rattle.moi_run.specs.Answering.{Hears, WritesAnswers}
-use Rattle.moi_run.specs.Tally.{Tally}
+use Rattle.moi_run.specs.RunState.{RunState}
 use Rattle.moi_run.proofs.Moving.{through_more, through_none}
 
 -- a whole text begins itself
@@ -30,7 +30,7 @@ begun_more old mid new text part adds begun = (
 )
 
 -- the answer to a line behind those to others
-answered_more : {start s s' : Tally} {done : List (List ℕ)} {refused was : Bool} {line : List ℕ}
+answered_more : {start s s' : RunState} {done : List (List ℕ)} {refused was : Bool} {line : List ℕ}
     (first second both : List ℕ → Type 0)
     → ((text part : List ℕ) → first text → second part → both (text ++ part))
     → WritesAnswers start done refused s first → Hears s line was s' second
@@ -42,21 +42,21 @@ answered_more first second both join answered hears = record {
   moves = through_more answered.moves hears.moves hears.prints;
 }
 
-pub whole_more : {start s s' : Tally} {done : List (List ℕ)} {refused was : Bool} {line : List ℕ}
+pub whole_more : {start s s' : RunState} {done : List (List ℕ)} {refused was : Bool} {line : List ℕ}
     (old mid new : Option (List ℕ))
     → WritesAnswers start done refused s (Adds old mid) → Hears s line was s' (Adds mid new)
     → WritesAnswers start (done ++ line ∷ []) (refused || was) s' (Adds old new)
 whole_more old mid new =
     answered_more (Adds old mid) (Adds mid new) (Adds old new) (Adds-append old mid new)
 
-pub part_more : {start s s' : Tally} {done : List (List ℕ)} {refused was : Bool} {line : List ℕ}
+pub part_more : {start s s' : RunState} {done : List (List ℕ)} {refused was : Bool} {line : List ℕ}
     (old mid new : Option (List ℕ))
     → WritesAnswers start done refused s (Adds old mid) → Hears s line was s' (AddsPrefix mid new)
     → WritesAnswers start (done ++ line ∷ []) (refused || was) s' (AddsPrefix old new)
 part_more old mid new =
     answered_more (Adds old mid) (AddsPrefix mid new) (AddsPrefix old new) (begun_more old mid new)
 
-pub answers_begun : {start s : Tally} {done : List (List ℕ)} {refused : Bool}
+pub answers_begun : {start s : RunState} {done : List (List ℕ)} {refused : Bool}
     (old new : Option (List ℕ)) → WritesAnswers start done refused s (Adds old new)
     → WritesAnswers start done refused s (AddsPrefix old new)
 answers_begun old new answered =
@@ -67,7 +67,7 @@ answers_begun old new answered =
       moves = answered.moves;
     }
 
-pub hears_begun : {s s' : Tally} {line : List ℕ} {was : Bool} (old new : Option (List ℕ))
+pub hears_begun : {s s' : RunState} {line : List ℕ} {was : Bool} (old new : Option (List ℕ))
     → Hears s line was s' (Adds old new) → Hears s line was s' (AddsPrefix old new)
 hears_begun old new hears =
     record {
@@ -78,7 +78,7 @@ hears_begun old new hears =
       written = begun_whole old new hears.text hears.written;
     }
 
-pub answers_nothing : (s : Tally) (old : Option (List ℕ))
+pub answers_nothing : (s : RunState) (old : Option (List ℕ))
     → WritesAnswers s [] false s (Adds old old)
 answers_nothing s old = record {
   text = [];
@@ -88,7 +88,7 @@ answers_nothing s old = record {
 }
 
 -- the answers to these lines are those to lines that are the same
-pub same_lines : {start s : Tally} {refused : Bool} {wrote : List ℕ → Type 0}
+pub same_lines : {start s : RunState} {refused : Bool} {wrote : List ℕ → Type 0}
     (done done' : List (List ℕ)) → done' ≡ done → WritesAnswers start done refused s wrote
     → WritesAnswers start done' refused s wrote
 same_lines {start} {s} {refused} {wrote} done done' same =

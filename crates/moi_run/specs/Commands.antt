@@ -2,8 +2,8 @@
 --
 --     lines_for, input_for    the lines that a command answers, and what it reads
 --     start_for               the machine with which it begins
---     Asks                    the files that it asks for
-use Rattle.std.specs.Prelude.{◌≡◌, ℕ, ◌^◌, ◌-◌, ◌<◌, ◌⊎◌, List, [], ◌∷◌, ◌++◌, Any, Option, Some, None, Ok, Err, codes, option_map, IfSome, IsSome, IsTrue, String}
+--     MayAskFor               the files that it asks for
+use Rattle.std.specs.Prelude.{◌≡◌, ℕ, ◌⊎◌, List, [], ◌∷◌, ◌++◌, Any, Option, Some, None, Ok, Err, codes, option_map, IfSome, IsSome, IsTrue, String}
 use Rattle.std.specs.declared.alloc.Global.{Global}
 use Rattle.std.specs.Str.Lines.{lines}
 use Rattle.command_words.specs.declared.words.Invocation.{Invocation}
@@ -15,14 +15,15 @@ use Rattle.edit_engine.specs.Held.{set_up}
 use Rattle.edit_engine.specs.Lines.{heard}
 use Rattle.edit_engine.specs.Script.{Machine}
 use Rattle.certificate_check.specs.Verdict.{MakesModel}
-use Rattle.generated_script.specs.Numbers.{Numbers}
+use Rattle.generated_script.specs.ScriptNumbers.{ScriptNumbers}
+use Rattle.io_face.specs.Fault.{CountsNoFault}
 use Rattle.io_face.specs.Shelf.{Gives}
 use Rattle.io_face.specs.Told.{Told}
 use Rattle.io_face.specs.declared.shelf.FetchFault.TheVariants.{Failed, TooLong}
 use Rattle.item_core.specs.Table.{target_table}
 use Rattle.item_core.specs.declared.table.Target.TheVariants.{Standard}
-use Rattle.moi_run.specs.Input.{IsWithinLimits}
-use Rattle.moi_run.specs.Tally.{Tally}
+use Rattle.moi_run.specs.Input.{IsInputWithinLimits}
+use Rattle.moi_run.specs.RunState.{RunState}
 use Rattle.name_index.specs.Escape.{escaped}
 use Rattle.script_core.specs.Line.{line_said}
 use Rattle.script_core.specs.declared.command.Command.TheVariants as line
@@ -69,13 +70,13 @@ setup_for (Some (Check model certificate)) = None
 setup_for (Some (Generate numbers)) = Some generate_setup
 setup_for None = None
 
-abbrev pub start_by : Option Setup → Tally → Tally
+abbrev pub start_by : Option Setup → RunState → RunState
 start_by None s = s
 start_by (Some setup) s =
     record s { machine = set_up s.machine (target_table setup.target) setup.pivots }
 
 -- the machine with which the command begins, by that of its session
-abbrev pub start_for : Option Invocation → Tally → Tally
+abbrev pub start_for : Option Invocation → RunState → RunState
 start_for said s = start_by (setup_for said) s
 
 -- the machine with which a generated script begins, by that of its session
@@ -90,20 +91,20 @@ LoadsFile name text = line_said text ≡ Ok (line.Load name)
 
 -- the command may ask for the file of this name: a line that it answers, where they are known, loads
 -- it; or it is the model's that `check` names, or where that makes a model the certificate's
-abbrev pub Asks : Told → Option Invocation → Option (List ℕ) → List ℕ → Type 0
-Asks shelf (Some (Check model certificate)) left name =
+abbrev pub MayAskFor : Told → Option Invocation → Option (List ℕ) → List ℕ → Type 0
+MayAskFor shelf (Some (Check model certificate)) left name =
     (name ≡ model) ⊎ ((name ≡ certificate) × MakesModel shelf model)
-Asks shelf (Some (Generate numbers)) left name = ⊥
-Asks shelf said left name = IfSome (lines_for said left) (Any (LoadsFile name))
+MayAskFor shelf (Some (Generate numbers)) left name = ⊥
+MayAskFor shelf said left name = IfSome (lines_for said left) (Any (LoadsFile name))
 
 -- it may ask for a file that the shelf, where it tells its files, doesn't have, or that is too long
 abbrev pub AsksInVain : Option Invocation → Option (List ℕ) → Told → Type 0
 AsksInVain said left shelf =
-    (name : List ℕ) × Asks shelf said left name × Gives shelf.files name (Err Failed)
+    (name : List ℕ) × MayAskFor shelf said left name × Gives shelf.files name (Err Failed)
 
 abbrev pub AsksTooMuch : Option Invocation → Option (List ℕ) → Told → Type 0
 AsksTooMuch said left shelf =
-    (name : List ℕ) × Asks shelf said left name × Gives shelf.files name (Err TooLong)
+    (name : List ℕ) × MayAskFor shelf said left name × Gives shelf.files name (Err TooLong)
 
 -- ---- counts of faults
 
@@ -116,26 +117,22 @@ HasReadFault (Some (Check model certificate)) source shelf = shelf
 HasReadFault (Some (Generate numbers)) source shelf = ⊥
 HasReadFault None source shelf = ⊥
 
--- no fault is counted between two counts, which stand short of the last
-abbrev pub IsSound : ℕ → ℕ → Type 0
-IsSound old new = (new ≡ old) × (new < 2 ^ 64 - 1)
-
 -- ---- when it ends well
 
 -- the source tells an input that is within the limits, and has no fault; or the command doesn't
 -- read it
 abbrev pub CanBeRead : Option Invocation → Option (List ℕ) → ℕ → ℕ → Type 0
 CanBeRead (Some (Run setup)) left old new =
-    IsSome left × IfSome left IsWithinLimits × IsSound old new
+    IsSome left × IfSome left IsInputWithinLimits × CountsNoFault old new
 CanBeRead (Some command) left old new = Unit {0}
 CanBeRead None left old new = ⊥
 
 -- the shelf tells its files, none that the command may ask for is too long, and the shelf has no
 -- fault, or is sure and has each
-pub record CanBeFetched (said : Option Invocation) (left : Option (List ℕ)) (shelf : Told)
+pub record CanAllBeFetched (said : Option Invocation) (left : Option (List ℕ)) (shelf : Told)
     (old new : ℕ) : Type 0 where
   pub short : AsksTooMuch said left shelf → ⊥
-  pub there : IsSound old new ⊎ (IsTrue shelf.sure × (AsksInVain said left shelf → ⊥))
+  pub there : CountsNoFault old new ⊎ (IsTrue shelf.sure × (AsksInVain said left shelf → ⊥))
 
 -- ---- commands of some kinds
 
@@ -156,6 +153,6 @@ IfCheck (Some (Check model certificate)) holds = holds model certificate
 IfCheck said holds = Unit {0}
 
 -- a generated script, and what holds of its numbers
-abbrev pub IfGenerate : Option Invocation → (Numbers → Type 0) → Type 0
+abbrev pub IfGenerate : Option Invocation → (ScriptNumbers → Type 0) → Type 0
 IfGenerate (Some (Generate numbers)) holds = holds numbers
 IfGenerate said holds = Unit {0}

@@ -4,15 +4,15 @@ use Rattle.std.specs.Prelude.{◌≡◌, ℕ, ◌⊎◌, Bool, true, false, List
 use Rattle.command_words.specs.declared.words.Invocation.{Invocation}
 use Rattle.edit_engine.specs.Lines.{Prints}
 use Rattle.edit_engine.specs.Script.{Machine, Steps}
-use Rattle.generated_script.specs.Numbers.{Numbers}
+use Rattle.generated_script.specs.ScriptNumbers.{ScriptNumbers}
 use Rattle.generated_script.specs.Script.{script}
 use Rattle.io_face.specs.Sink.{Adds, AddsPrefix}
 use Rattle.moi_run.specs.Commands.{IfGenerate, generate_start}
 use Rattle.moi_run.specs.Status.{IsEnded, has_refused}
 use Rattle.moi_run.specs.declared.status.Status.{Status}
 use Rattle.moi_run.specs.declared.status.Status.TheVariants as status
-use Rattle.moi_run.specs.declared.stop.Stop.{Stop}
-use Rattle.moi_run.specs.declared.stop.Stop.TheVariants as stop
+use Rattle.moi_run.specs.declared.stop.RunStop.{RunStop}
+use Rattle.moi_run.specs.declared.stop.RunStop.TheVariants as stop
 use Rattle.report_core.specs.declared.answer.Answer.{Answer}
 use Rattle.report_core.specs.declared.answer.Answer.TheVariants.{Memory, ReadFault, TooLong}
 use Rattle.run_summary.specs.Summary.{is_refusal, printed_of, summary_text, tally_of}
@@ -29,7 +29,7 @@ pub data AnswersEach : Machine → List (List ℕ) → List Answer → Machine �
 
 -- the lines of the script were answered, one of them was refused or not, and this machine is left;
 -- and what is said of the summary
-pub record WritesSummary (s : Machine) (numbers : Numbers) (refused : Bool) (new : Machine)
+pub record WritesSummary (s : Machine) (numbers : ScriptNumbers) (refused : Bool) (new : Machine)
     (wrote : List ℕ → Type 0) : Type 0 where
   pub answers : List Answer
   pub each : AnswersEach s (script numbers) answers new
@@ -37,7 +37,7 @@ pub record WritesSummary (s : Machine) (numbers : Numbers) (refused : Bool) (new
   pub written : wrote (summary_text (tally_of answers))
 
 -- the same, or nothing was written
-abbrev pub MayWriteSummary : Machine → Numbers → Machine → (List ℕ → Type 0) → Type 0
+abbrev pub MayWriteSummary : Machine → ScriptNumbers → Machine → (List ℕ → Type 0) → Type 0
 MayWriteSummary s numbers new wrote =
     wrote [] ⊎ ((refused : Bool) × WritesSummary s numbers refused new wrote)
 
@@ -55,7 +55,7 @@ BeginsSummary said s new wrote =
     IfGenerate said (λ n. MayWriteSummary (generate_start s) n new wrote)
 
 -- how the run of a generated script ended, by its status
-abbrev pub GenerateOutcome : Status → Numbers → Machine → Machine → Option (List ℕ)
+abbrev pub GenerateOutcome : Status → ScriptNumbers → Machine → Machine → Option (List ℕ)
     → Option (List ℕ) → Type 0
 GenerateOutcome status.Done numbers s new old written =
     WritesSummary s numbers false new (Adds old written)
@@ -85,7 +85,7 @@ SummaryOutcome status.Memory tally old written =
 SummaryOutcome status.TooLong tally old written = ⊥
 
 -- why an answer stops the work, if it does
-abbrev pub stop_of_answer : Answer → Option Stop
+abbrev pub stop_of_answer : Answer → Option RunStop
 stop_of_answer ReadFault = Some stop.ReadFault
 stop_of_answer TooLong = Some stop.TooLong
 stop_of_answer Memory = Some stop.Memory

@@ -1,5 +1,5 @@
 pub mod Status
-pub mod Tally
+pub mod RunState
 pub mod Answering
 pub mod Input
 pub mod Commands

@@ -5,7 +5,7 @@ use Rattle.command_words.specs.declared.words.Invocation.{Invocation}
 use Rattle.command_words.specs.declared.words.Invocation.TheVariants.{Check, Generate, Plan, Run, Solve}
 use Rattle.command_words.specs.declared.words.Setup.{Setup}
 use Rattle.edit_engine.specs.Lines.{heard}
-use Rattle.certificate_check.specs.Verdict.{AsksFiles, IsVerdict}
+use Rattle.certificate_check.specs.Verdict.{AsksModelAndCertificate, IsVerdict}
 use Rattle.io_face.specs.Fault.{HasFaulted}
 use Rattle.io_face.specs.Shelf.{AsksFor, Gives}
 use Rattle.io_face.specs.Sink.{Adds, AddsPrefix}
@@ -13,9 +13,9 @@ use Rattle.io_face.specs.Told.{Told}
 use Rattle.io_face.specs.declared.shelf.FetchFault.TheVariants.{Failed}
 use Rattle.moi_run.specs.Answering.{BeginsAnswers, PrintsText, StopsAtFile, StopsAtWrite, WritesAnswers}
 use Rattle.moi_run.specs.Commands.{AsksInVain, AsksTooMuch, HasReadFault, IfCheck, input_for, lines_for, setup_for, solve_lines, start_by, start_for}
-use Rattle.moi_run.specs.Input.{AnswersTaken, AnswersWithinLimits, Ends, IsReadToEnd, IsWithinLimits, PassesLimit}
+use Rattle.moi_run.specs.Input.{AnswersTaken, AnswersWithinLimits, Ends, IsInputWithinLimits, IsReadToEnd, PassesLimit}
 use Rattle.moi_run.specs.Status.{IsEnded, has_refused}
-use Rattle.moi_run.specs.Tally.{Tally}
+use Rattle.moi_run.specs.RunState.{RunState}
 use Rattle.moi_run.specs.declared.status.Status.{Status}
 use Rattle.moi_run.specs.declared.status.Status.TheVariants as status
 use Rattle.report_core.specs.declared.answer.Answer.{Answer}
@@ -24,23 +24,23 @@ use Rattle.report_core.specs.declared.answer.Answer.TheVariants.{ReadFault, TooL
 -- ---- of lines
 
 -- how the run of an input ended, by its status; a fault is the source's or the shelf's
-abbrev pub Outcome : Type 0 → Type 0 → Status → List ℕ → Option (List ℕ) → Tally → Tally
+abbrev pub RunOutcome : Type 0 → Type 0 → Status → List ℕ → Option (List ℕ) → RunState → RunState
     → (List ℕ → Type 0) → Type 0
-Outcome source shelf status.Done bytes left s new wrote = Ends bytes left false s new wrote
-Outcome source shelf status.SomeRefused bytes left s new wrote = Ends bytes left true s new wrote
-Outcome source shelf status.Usage bytes left s new wrote = ⊥
-Outcome source shelf status.ReadFault bytes left s new wrote =
+RunOutcome source shelf status.Done bytes left s new wrote = Ends bytes left false s new wrote
+RunOutcome source shelf status.SomeRefused bytes left s new wrote = Ends bytes left true s new wrote
+RunOutcome source shelf status.Usage bytes left s new wrote = ⊥
+RunOutcome source shelf status.ReadFault bytes left s new wrote =
     (source × AnswersTaken bytes left s new wrote)
     ⊎ (shelf × StopsAtFile s (heard (lines bytes)) ReadFault new wrote)
-Outcome source shelf status.WriteFault bytes left s new wrote =
+RunOutcome source shelf status.WriteFault bytes left s new wrote =
     StopsAtWrite s (heard (lines bytes)) new wrote
-Outcome source shelf status.Memory bytes left s new wrote = Unit {0}
-Outcome source shelf status.TooLong bytes left s new wrote =
+RunOutcome source shelf status.Memory bytes left s new wrote = Unit {0}
+RunOutcome source shelf status.TooLong bytes left s new wrote =
     (PassesLimit bytes × AnswersWithinLimits bytes s new wrote)
     ⊎ StopsAtFile s (heard (lines bytes)) TooLong new wrote
 
 -- how the run of given lines ended
-abbrev pub EachOutcome : Status → List (List ℕ) → Tally → Tally → (List ℕ → Type 0) → Type 0
+abbrev pub EachOutcome : Status → List (List ℕ) → RunState → RunState → (List ℕ → Type 0) → Type 0
 EachOutcome status.Done lines s new wrote = WritesAnswers s lines false new wrote
 EachOutcome status.SomeRefused lines s new wrote = WritesAnswers s lines true new wrote
 EachOutcome status.Usage lines s new wrote = ⊥
@@ -50,7 +50,7 @@ EachOutcome status.Memory lines s new wrote = Unit {0}
 EachOutcome status.TooLong lines s new wrote = StopsAtFile s lines TooLong new wrote
 
 -- how given lines were run, after the session was told the options
-pub record RunsEach (lines : List (List ℕ)) (setup : Setup) (end : Status) (s new : Tally)
+pub record RunsEach (lines : List (List ℕ)) (setup : Setup) (end : Status) (s new : RunState)
     (wrote begun : List ℕ → Type 0) : Type 0 where
   pub outcome : EachOutcome end lines (start_by (Some setup) s) new wrote
   pub prefix : BeginsAnswers (start_by (Some setup) s) lines end new begun
@@ -80,7 +80,7 @@ HasCause source shelf sink status.TooLong = Unit {0}
 -- those before the one at which the shelf stopped it; of `check` nothing, and the verdict tells at
 -- which file
 abbrev pub AtReadFault : Told → Option Invocation → Type 0 → Type 0 → Option (List ℕ)
-    → Option (List ℕ) → Tally → Tally → (List ℕ → Type 0) → Type 0
+    → Option (List ℕ) → RunState → RunState → (List ℕ → Type 0) → Type 0
 AtReadFault told (Some (Run setup)) source shelf left left' s new wrote = IfSome left (λ bytes.
     (source × AnswersTaken bytes left' s new wrote)
     ⊎ (shelf × StopsAtFile s (heard (lines bytes)) ReadFault new wrote))
@@ -93,7 +93,7 @@ AtReadFault told (Some (Generate numbers)) source shelf left left' s new wrote =
 AtReadFault told None source shelf left left' s new wrote = ⊥
 
 -- the same where a limit did
-abbrev pub AtLimit : Told → Option Invocation → Option (List ℕ) → Tally → Tally
+abbrev pub AtLimit : Told → Option Invocation → Option (List ℕ) → RunState → RunState
     → (List ℕ → Type 0) → Type 0
 AtLimit told (Some (Run setup)) left s new wrote = IfSome left (λ bytes.
     (PassesLimit bytes × AnswersWithinLimits bytes s new wrote)
@@ -108,7 +108,7 @@ AtLimit told None left s new wrote = ⊥
 
 -- what is written where the sink stopped the work: the answers of all lines before one, and a part
 -- of that to it
-abbrev pub AtWriteFault : Option Invocation → Option (List ℕ) → Tally → Tally
+abbrev pub AtWriteFault : Option Invocation → Option (List ℕ) → RunState → RunState
     → (List ℕ → Type 0) → Type 0
 AtWriteFault said left s new wrote =
     IfSome (lines_for said left) (λ lines. StopsAtWrite s lines new wrote)
@@ -145,7 +145,7 @@ CheckOutcome status.TooLong shelf faults faults' model certificate old new =
 
 -- how a command ran, in the terms of the clauses of `run`
 pub record Runs (said : Option Invocation) (end : Status) (left left' : Option (List ℕ))
-    (shelf : Told) (source fetch : Type 0) (s new : Tally) (wrote begun : List ℕ → Type 0)
+    (shelf : Told) (source fetch : Type 0) (s new : RunState) (wrote begun : List ℕ → Type 0)
     : Type 0 where
   pub text : IsEnded end → IfSome (lines_for said left)
       (λ lines. WritesAnswers (start_for said s) lines (has_refused end) new wrote)
@@ -154,11 +154,11 @@ pub record Runs (said : Option Invocation) (end : Status) (left left' : Option (
   pub pivots : IsEnded end → IfSome (setup_for said) (λ setup. new.machine.pivots ≡ setup.pivots)
   pub to_the_end : IsEnded end
       → IfSome (input_for said left) (λ bytes. IsReadToEnd bytes left')
-  pub within_limits : IsEnded end → IfSome (input_for said left) IsWithinLimits
+  pub within_limits : IsEnded end → IfSome (input_for said left) IsInputWithinLimits
   pub prefix : IfSome (lines_for said left)
       (λ lines. BeginsAnswers (start_for said s) lines end new begun)
   pub asks : end ≢ status.Memory → IfCheck said
-      (λ model certificate. AsksFiles shelf model certificate (AsksFor s.asked new.asked))
+      (λ model certificate. AsksModelAndCertificate shelf model certificate (AsksFor s.asked new.asked))
   pub verdict_prefix : IfCheck said (λ model certificate. begun []
       ⊎ ((refused : Bool) × WritesVerdict shelf model certificate refused begun))
   pub read_fault : end ≡ status.ReadFault

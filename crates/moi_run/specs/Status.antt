@@ -4,8 +4,8 @@ use Rattle.io_face.specs.declared.sink.SinkFault.{SinkFault}
 use Rattle.io_face.specs.declared.sink.SinkFault.TheVariants as fault
 use Rattle.moi_run.specs.declared.status.Status.{Status}
 use Rattle.moi_run.specs.declared.status.Status.TheVariants.{Done, SomeRefused, Usage, ReadFault, WriteFault, Memory, TooLong}
-use Rattle.moi_run.specs.declared.stop.Stop.{Stop}
-use Rattle.moi_run.specs.declared.stop.Stop.TheVariants as stop
+use Rattle.moi_run.specs.declared.stop.RunStop.{RunStop}
+use Rattle.moi_run.specs.declared.stop.RunStop.TheVariants as stop
 use Rattle.line_reader.specs.declared.line_reader.ReadStop.{ReadStop}
 use Rattle.line_reader.specs.declared.line_reader.ReadStop.TheVariants as read
 
@@ -24,16 +24,16 @@ abbrev pub has_refused : Status → Bool
 has_refused SomeRefused = true
 has_refused status = false
 
-abbrev pub stop_of_read : ReadStop → Stop
+abbrev pub stop_of_read : ReadStop → RunStop
 stop_of_read read.ReadFault = stop.ReadFault
 stop_of_read read.TooLong = stop.TooLong
 stop_of_read read.Memory = stop.Memory
 
-abbrev pub stop_of_sink : SinkFault → Stop
+abbrev pub stop_of_sink : SinkFault → RunStop
 stop_of_sink fault.Failed = stop.WriteFault
 stop_of_sink fault.Memory = stop.Memory
 
-abbrev pub status_of : Stop → Status
+abbrev pub status_of : RunStop → Status
 status_of stop.ReadFault = ReadFault
 status_of stop.WriteFault = WriteFault
 status_of stop.Memory = Memory

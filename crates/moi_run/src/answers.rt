@@ -7,12 +7,12 @@ ghost use Rattle.io_face.specs.Sink.{Adds, AddsPrefix};
 ghost use Rattle.io_face.specs.Told.{told_by};
 ghost use Rattle.moi_run.specs.Answering.{BeginsAnswers, HearsBy};
 ghost use Rattle.moi_run.specs.Run.{EachOutcome, FetchFails, RunsEach};
-ghost use Rattle.moi_run.specs.Tally.{tally_of};
+ghost use Rattle.moi_run.specs.RunState.{run_state_of};
 ghost use Rattle.moi_run.specs.Status.{IsEnded};
 
 use crate::reply::{Reply, write_answer};
 use crate::status::Status;
-use crate::stop::Stop;
+use crate::stop::RunStop;
 use bridge_face::Bridge;
 use command_words::Setup;
 use edit_engine::Session;
@@ -24,10 +24,10 @@ pub(crate) fn answer_line<B: Bridge, H: Shelf, O: Sink>(
     line: &[u8],
     shelf: &mut H,
     output: &mut O,
-) -> Result<Reply, Stop>
+) -> Result<Reply, RunStop>
     ensures heard { let told = told_by (H.files shelf.old) (H.sure shelf.old) in
-        let before = tally_of session.old told (H.asked shelf.old) in
-        let after = tally_of session.new told (H.asked shelf.new) in
+        let before = run_state_of session.old told (H.asked shelf.old) in
+        let after = run_state_of session.new told (H.asked shelf.new) in
         HearsBy result before line.now after
         (O.written output.old) (O.written output.new) }
     ensures pivots { session.new.pivots ≡ session.old.pivots }
@@ -35,13 +35,13 @@ pub(crate) fn answer_line<B: Bridge, H: Shelf, O: Sink>(
     ensures sure { H.sure shelf.new ≡ H.sure shelf.old }
     ensures fetches { H.faults shelf.old ≤ H.faults shelf.new }
     ensures writes { O.faults output.old ≤ O.faults output.new }
-    ensures read_fault { IsErrOf result Stop.ReadFault
+    ensures read_fault { IsErrOf result RunStop.ReadFault
         → FetchFails (told_by (H.files shelf.old) (H.sure shelf.old)) (H.faults shelf.old)
         (H.faults shelf.new) }
     ensures unasked { says_load line.now ≡ false → shelf.new ≡ shelf.old }
     ensures sound_fetches { OnOk result (H.faults shelf.new ≡ H.faults shelf.old) }
     ensures sound_writes { OnOk result (O.faults output.new ≡ O.faults output.old) }
-    ensures write_fault { IsErrOf result Stop.WriteFault
+    ensures write_fault { IsErrOf result RunStop.WriteFault
         → HasFaulted (O.faults output.old) (O.faults output.new) }
 {
     let answer = session.line(line, shelf);
@@ -58,8 +58,8 @@ pub(crate) fn answer_with<B: Bridge, H: Shelf, O: Sink>(
 ) -> Status
     requires detached { (state_of session.old).attached ≡ false }
     ensures runs { let told = told_by (H.files shelf.old) (H.sure shelf.old) in
-        let before = tally_of session.old told (H.asked shelf.old) in
-        let after = tally_of session.new told (H.asked shelf.new) in
+        let before = run_state_of session.old told (H.asked shelf.old) in
+        let after = run_state_of session.new told (H.asked shelf.new) in
         RunsEach (map (λ line. line.now) lines.now) setup result before
         after (Adds (O.written output.old) (O.written output.new))
         (AddsPrefix (O.written output.old) (O.written output.new)) }
@@ -88,13 +88,13 @@ fn answer_each<B: Bridge, H: Shelf, O: Sink>(
     session: &mut Session<B>,
 ) -> Status
     ensures outcome { let told = told_by (H.files shelf.old) (H.sure shelf.old) in
-        let before = tally_of session.old told (H.asked shelf.old) in
-        let after = tally_of session.new told (H.asked shelf.new) in
+        let before = run_state_of session.old told (H.asked shelf.old) in
+        let after = run_state_of session.new told (H.asked shelf.new) in
         EachOutcome result (map (λ line. line.now) lines.now) before
         after (Adds (O.written output.old) (O.written output.new)) }
     ensures prefix { let told = told_by (H.files shelf.old) (H.sure shelf.old) in
-        let before = tally_of session.old told (H.asked shelf.old) in
-        let after = tally_of session.new told (H.asked shelf.new) in
+        let before = run_state_of session.old told (H.asked shelf.old) in
+        let after = run_state_of session.new told (H.asked shelf.new) in
         BeginsAnswers before (map (λ line. line.now) lines.now) result
         after
         (AddsPrefix (O.written output.old) (O.written output.new)) }

@@ -1,6 +1,6 @@
 //! The certificate of a file, held against the model of a file.
 ghost use Rattle.std.specs.Prelude.{◌≡◌, ◌≢◌};
-ghost use Rattle.certificate_check.specs.Verdict.{AsksFiles};
+ghost use Rattle.certificate_check.specs.Verdict.{AsksModelAndCertificate};
 ghost use Rattle.io_face.specs.Fault.{HasFaulted};
 ghost use Rattle.io_face.specs.Shelf.{AsksFor};
 ghost use Rattle.io_face.specs.Told.{told_by};
@@ -28,7 +28,7 @@ pub(crate) fn answer_check<H: Shelf, O: Sink>(
     ensures write_fault { result ≡ Status.WriteFault
         → HasFaulted (O.faults output.old) (O.faults output.new) }
     ensures asks { result ≢ Status.Memory
-        → AsksFiles (told_by (H.files shelf.old) (H.sure shelf.old)) model.now certificate.now
+        → AsksModelAndCertificate (told_by (H.files shelf.old) (H.sure shelf.old)) model.now certificate.now
         (AsksFor (H.asked shelf.old) (H.asked shelf.new)) }
     ensures sound_fetches { IsEnded result → H.faults shelf.new ≡ H.faults shelf.old }
     ensures sound_writes { IsEnded result → O.faults output.new ≡ O.faults output.old }

@@ -1,21 +1,21 @@
 //! The commands, by the words.
 ghost use Rattle.std.specs.Prelude.{◌≡◌, ◌≢◌, ℕ, Bool, ◌+◌, ◌↔◌, ◌⊎◌, [], None, Some, false, IfSome, IsTrue};
-ghost use Rattle.cache_layer.specs.Cached.{Stands, model_in};
+ghost use Rattle.cache_layer.specs.Cached.{StandsAttached, model_in};
 ghost use Rattle.edit_engine.specs.Held.{machine_of, state_of};
-ghost use Rattle.certificate_check.specs.Verdict.{AsksFiles};
-ghost use Rattle.io_face.specs.Fault.{HasFaulted};
+ghost use Rattle.certificate_check.specs.Verdict.{AsksModelAndCertificate};
+ghost use Rattle.io_face.specs.Fault.{CountsNoFault, HasFaulted};
 ghost use Rattle.io_face.specs.Shelf.{AsksFor};
 ghost use Rattle.io_face.specs.Sink.{Adds, AddsPrefix};
 ghost use Rattle.io_face.specs.Told.{told_by};
 ghost use Rattle.moi_run.specs.Answering.{BeginsAnswers, WritesAnswers};
-ghost use Rattle.moi_run.specs.Commands.{AsksInVain, CanBeFetched, CanBeRead, FetchesNothing, HasReadFault, IfCheck, IfGenerate, IsSound, ReadsNothing, generate_start, input_for, lines_for, said_by, setup_for, start_for};
+ghost use Rattle.moi_run.specs.Commands.{AsksInVain, CanAllBeFetched, CanBeRead, FetchesNothing, HasReadFault, IfCheck, IfGenerate, ReadsNothing, generate_start, input_for, lines_for, said_by, setup_for, start_for};
 ghost use Rattle.moi_run.specs.Generated.{BeginsSummary, EndsWithSummary, MayWriteSummary, WritesSummary};
-ghost use Rattle.moi_run.specs.Input.{IsReadToEnd, IsWithinLimits};
+ghost use Rattle.moi_run.specs.Input.{IsInputWithinLimits, IsReadToEnd};
 ghost use Rattle.moi_run.specs.Run.{AtLimit, AtReadFault, AtWriteFault, HasTooLong, Runs, WritesVerdict};
 ghost use Rattle.moi_run.specs.Status.{IsEnded, has_refused};
-ghost use Rattle.moi_run.specs.Tally.{tally_of};
+ghost use Rattle.moi_run.specs.RunState.{run_state_of};
 ghost use Rattle.line_reader.specs.Limits.{input_limit};
-ghost use Rattle.line_reader.specs.Reading.{TakesAtMost};
+ghost use Rattle.io_face.specs.Source.{TakesAtMost};
 
 use crate::answers::answer_with;
 use crate::check::answer_check;
@@ -56,8 +56,8 @@ pub fn run<B: Bridge, H: Shelf, I: Source, O: Sink>(
     // lines ask were asked for, in turn, and no others.
     ensures text { let said = said_by words.now in
         let told = told_by (H.files shelf.old) (H.sure shelf.old) in
-        let before = tally_of session.old told (H.asked shelf.old) in
-        let after = tally_of session.new told (H.asked shelf.new) in
+        let before = run_state_of session.old told (H.asked shelf.old) in
+        let after = run_state_of session.new told (H.asked shelf.new) in
         IsEnded result → IfSome (lines_for said (I.left input.old)) (λ lines.
         WritesAnswers (start_for said before) lines (has_refused result) after
         (Adds (O.written output.old) (O.written output.new))) }
@@ -67,7 +67,7 @@ pub fn run<B: Bridge, H: Shelf, I: Source, O: Sink>(
         → IfSome (input_for (said_by words.now) (I.left input.old)) (λ bytes.
         IsReadToEnd bytes (I.left input.new)) }
     ensures within_limits { IsEnded result
-        → IfSome (input_for (said_by words.now) (I.left input.old)) IsWithinLimits }
+        → IfSome (input_for (said_by words.now) (I.left input.old)) IsInputWithinLimits }
 
     // Or the lines of the generated script were answered, and the summary was written.
     ensures summary { let said = said_by words.now in
@@ -85,7 +85,7 @@ pub fn run<B: Bridge, H: Shelf, I: Source, O: Sink>(
     // The model's file was asked for, and after it the certificate's, where the model was made.
     ensures asks { let told = told_by (H.files shelf.old) (H.sure shelf.old) in
         result ≢ Status.Memory → IfCheck (said_by words.now) (λ model certificate.
-        AsksFiles told model certificate (AsksFor (H.asked shelf.old) (H.asked shelf.new))) }
+        AsksModelAndCertificate told model certificate (AsksFor (H.asked shelf.old) (H.asked shelf.new))) }
 
     // Where the work ended, no fault was counted: each that is counted is reported.
     ensures sound_reads { IsEnded result → I.faults input.new ≡ I.faults input.old }
@@ -96,8 +96,8 @@ pub fn run<B: Bridge, H: Shelf, I: Source, O: Sink>(
     // text, or that of the verdict. At most one byte past the limit of the input was taken.
     ensures prefix { let said = said_by words.now in
         let told = told_by (H.files shelf.old) (H.sure shelf.old) in
-        let before = tally_of session.old told (H.asked shelf.old) in
-        let after = tally_of session.new told (H.asked shelf.new) in
+        let before = run_state_of session.old told (H.asked shelf.old) in
+        let after = run_state_of session.new told (H.asked shelf.new) in
         IfSome (lines_for said (I.left input.old)) (λ lines.
         BeginsAnswers (start_for said before) lines result after
         (AddsPrefix (O.written output.old) (O.written output.new))) }
@@ -124,8 +124,8 @@ pub fn run<B: Bridge, H: Shelf, I: Source, O: Sink>(
         × (IsTrue (H.sure shelf.old) → AsksInVain said (I.left input.old) told)) }
     ensures at_read_fault { let said = said_by words.now in
         let told = told_by (H.files shelf.old) (H.sure shelf.old) in
-        let before = tally_of session.old told (H.asked shelf.old) in
-        let after = tally_of session.new told (H.asked shelf.new) in
+        let before = run_state_of session.old told (H.asked shelf.old) in
+        let after = run_state_of session.new told (H.asked shelf.new) in
         result ≡ Status.ReadFault → AtReadFault told said
         (HasFaulted (I.faults input.old) (I.faults input.new))
         (HasFaulted (H.faults shelf.old) (H.faults shelf.new)) (I.left input.old)
@@ -137,8 +137,8 @@ pub fn run<B: Bridge, H: Shelf, I: Source, O: Sink>(
         → HasFaulted (O.faults output.old) (O.faults output.new) }
     ensures at_write_fault { let said = said_by words.now in
         let told = told_by (H.files shelf.old) (H.sure shelf.old) in
-        let before = tally_of session.old told (H.asked shelf.old) in
-        let after = tally_of session.new told (H.asked shelf.new) in
+        let before = run_state_of session.old told (H.asked shelf.old) in
+        let after = run_state_of session.new told (H.asked shelf.new) in
         result ≡ Status.WriteFault → AtWriteFault said (I.left input.old)
         (start_for said before) after
         (Adds (O.written output.old) (O.written output.new)) }
@@ -149,8 +149,8 @@ pub fn run<B: Bridge, H: Shelf, I: Source, O: Sink>(
         (told_by (H.files shelf.old) (H.sure shelf.old)) }
     ensures at_limit { let said = said_by words.now in
         let told = told_by (H.files shelf.old) (H.sure shelf.old) in
-        let before = tally_of session.old told (H.asked shelf.old) in
-        let after = tally_of session.new told (H.asked shelf.new) in
+        let before = run_state_of session.old told (H.asked shelf.old) in
+        let after = run_state_of session.new told (H.asked shelf.new) in
         result ≡ Status.TooLong → AtLimit told said (I.left input.old)
         (start_for said before) after
         (Adds (O.written output.old) (O.written output.new)) }
@@ -164,14 +164,14 @@ pub fn run<B: Bridge, H: Shelf, I: Source, O: Sink>(
     ensures complete { let said = said_by words.now in
         let told = told_by (H.files shelf.old) (H.sure shelf.old) in
         CanBeRead said (I.left input.old) (I.faults input.old) (I.faults input.new)
-        → CanBeFetched said (I.left input.old) told (H.faults shelf.old) (H.faults shelf.new)
-        → IsSound (O.faults output.old) (O.faults output.new)
+        → CanAllBeFetched said (I.left input.old) told (H.faults shelf.old) (H.faults shelf.new)
+        → CountsNoFault (O.faults output.old) (O.faults output.new)
         → IsEnded result ⊎ (result ≡ Status.Memory) }
 
     // While a solver is attached, the fresh bridging of the session's model stands: the solver's
     // model, read through the map of addresses, is its leaves.
     ensures stands { let cache = session.new.cache in
-        Stands cache.attached cache.lazy (model_in cache) }
+        StandsAttached cache.attached cache.lazy (model_in cache) }
 {
     let status = obey_words(alloc, words, shelf, input, output, session);
     // what this ensures: what stands in the session's cache
@@ -193,8 +193,8 @@ fn obey_words<B: Bridge, H: Shelf, I: Source, O: Sink>(
     ensures untouched { result ≡ Status.Usage → (shelf.new ≡ shelf.old)
         × (input.new ≡ input.old) × (output.new ≡ output.old) × (session.new ≡ session.old) }
     ensures runs { let told = told_by (H.files shelf.old) (H.sure shelf.old) in
-        let before = tally_of session.old told (H.asked shelf.old) in
-        let after = tally_of session.new told (H.asked shelf.new) in
+        let before = run_state_of session.old told (H.asked shelf.old) in
+        let after = run_state_of session.new told (H.asked shelf.new) in
         Runs (said_by words.now) result (I.left input.old) (I.left input.new) told
         (HasFaulted (I.faults input.old) (I.faults input.new))
         (HasFaulted (H.faults shelf.old) (H.faults shelf.new)) before
@@ -238,8 +238,8 @@ fn obey<B: Bridge, H: Shelf, I: Source, O: Sink>(
 ) -> Status
     requires detached { (state_of session.old).attached ≡ false }
     ensures runs { let told = told_by (H.files shelf.old) (H.sure shelf.old) in
-        let before = tally_of session.old told (H.asked shelf.old) in
-        let after = tally_of session.new told (H.asked shelf.new) in
+        let before = run_state_of session.old told (H.asked shelf.old) in
+        let after = run_state_of session.new told (H.asked shelf.new) in
         Runs (Some command) result (I.left input.old) (I.left input.new) told
         (HasFaulted (I.faults input.old) (I.faults input.new))
         (HasFaulted (H.faults shelf.old) (H.faults shelf.new)) before

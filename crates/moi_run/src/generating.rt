@@ -8,7 +8,7 @@ ghost use Rattle.moi_run.specs.Generated.{GenerateOutcome, SummaryOutcome, stop_
 ghost use Rattle.moi_run.specs.Status.{IsEnded};
 
 use crate::status::Status;
-use crate::stop::Stop;
+use crate::stop::RunStop;
 use bridge_face::Bridge;
 use edit_engine::{Answer, Session};
 use generated_script::{Recipe, ScriptLines};
@@ -85,13 +85,13 @@ fn sum_up_answers<B: Bridge, H: Shelf, O: Sink>(
 }
 
 // Why an answer stops the work, if it does.
-fn stop_of_answer(answer: &Answer) -> Option<Stop>
+fn stop_of_answer(answer: &Answer) -> Option<RunStop>
     ensures { result ≡ stop_of_answer answer.now }
 {
     match answer {
-        Answer::ReadFault => Some(Stop::ReadFault),
-        Answer::TooLong => Some(Stop::TooLong),
-        Answer::Memory => Some(Stop::Memory),
+        Answer::ReadFault => Some(RunStop::ReadFault),
+        Answer::TooLong => Some(RunStop::TooLong),
+        Answer::Memory => Some(RunStop::Memory),
         Answer::Silent | Answer::Printed(_) | Answer::Refused(_) | Answer::Quit => None,
     }
 }
@@ -110,6 +110,6 @@ fn write_summary<O: Sink>(alloc: Global, tally: &Tally, output: &mut O) -> Statu
     };
     match write_all(output, text.as_slice()) {
         Ok(()) => Status::ended(tally.any_refused()),
-        Err(fault) => Status::from(Stop::from(fault)),
+        Err(fault) => Status::from(RunStop::from(fault)),
     }
 }

@@ -8,16 +8,16 @@ ghost use Rattle.io_face.specs.Fault.{HasFaulted};
 ghost use Rattle.io_face.specs.Sink.{Adds, AddsPrefix};
 ghost use Rattle.io_face.specs.Told.{told_by};
 ghost use Rattle.moi_run.specs.Answering.{BeginsAnswers};
-ghost use Rattle.moi_run.specs.Run.{FetchFails, HasCause, Outcome, Runs};
-ghost use Rattle.moi_run.specs.Tally.{tally_of};
+ghost use Rattle.moi_run.specs.Run.{FetchFails, HasCause, RunOutcome, Runs};
+ghost use Rattle.moi_run.specs.RunState.{run_state_of};
 ghost use Rattle.moi_run.specs.Status.{IsEnded};
 ghost use Rattle.line_reader.specs.Limits.{input_limit};
-ghost use Rattle.line_reader.specs.Reading.{TakesAtMost};
+ghost use Rattle.io_face.specs.Source.{TakesAtMost};
 
 use crate::answers::answer_line;
 use crate::reply::Reply;
 use crate::status::Status;
-use crate::stop::Stop;
+use crate::stop::RunStop;
 use bridge_face::Bridge;
 use command_words::Setup;
 use edit_engine::Session;
@@ -36,8 +36,8 @@ pub(crate) fn answer_script<B: Bridge, H: Shelf, I: Source, O: Sink>(
 ) -> Status
     requires detached { (state_of session.old).attached ≡ false }
     ensures runs { let told = told_by (H.files shelf.old) (H.sure shelf.old) in
-        let before = tally_of session.old told (H.asked shelf.old) in
-        let after = tally_of session.new told (H.asked shelf.new) in
+        let before = run_state_of session.old told (H.asked shelf.old) in
+        let after = run_state_of session.new told (H.asked shelf.new) in
         Runs (Some (Run setup)) result (I.left input.old) (I.left input.new) told
         (HasFaulted (I.faults input.old) (I.faults input.new))
         (HasFaulted (H.faults shelf.old) (H.faults shelf.new)) before
@@ -72,16 +72,16 @@ fn answer_lines<B: Bridge, H: Shelf, I: Source, O: Sink>(
     requires held { reader.old.held ≡ [] }
     requires room { reader.old.room ≡ input_limit }
     ensures outcome { let told = told_by (H.files shelf.old) (H.sure shelf.old) in
-        let before = tally_of session.old told (H.asked shelf.old) in
-        let after = tally_of session.new told (H.asked shelf.new) in
-        IfSome (I.left input.old) (λ bytes. Outcome
+        let before = run_state_of session.old told (H.asked shelf.old) in
+        let after = run_state_of session.new told (H.asked shelf.new) in
+        IfSome (I.left input.old) (λ bytes. RunOutcome
         (HasFaulted (I.faults input.old) (I.faults input.new))
         (FetchFails told (H.faults shelf.old) (H.faults shelf.new)) result bytes
         (I.left input.new) before after
         (Adds (O.written output.old) (O.written output.new))) }
     ensures prefix { let told = told_by (H.files shelf.old) (H.sure shelf.old) in
-        let before = tally_of session.old told (H.asked shelf.old) in
-        let after = tally_of session.new told (H.asked shelf.new) in
+        let before = run_state_of session.old told (H.asked shelf.old) in
+        let after = run_state_of session.new told (H.asked shelf.new) in
         IfSome (I.left input.old) (λ bytes. BeginsAnswers before
         (heard (lines bytes)) result after
         (AddsPrefix (O.written output.old) (O.written output.new))) }
@@ -100,7 +100,7 @@ fn answer_lines<B: Bridge, H: Shelf, I: Source, O: Sink>(
     'answering: loop {
         let next = match reader.next_line(input, &mut line) {
             Ok(next) => next,
-            Err(reason) => return Status::from(Stop::from(reason)),
+            Err(reason) => return Status::from(RunStop::from(reason)),
         };
         if let Next::End = next {
             return Status::ended(any_refused);

@@ -3,7 +3,7 @@ ghost use Rattle.std.specs.Prelude.{◌≡◌, ◌≤◌, IsErrOf, OnOk};
 ghost use Rattle.io_face.specs.Fault.{HasFaulted};
 ghost use Rattle.moi_run.specs.Answering.{WritesBy, is_refused};
 
-use crate::stop::Stop;
+use crate::stop::RunStop;
 use edit_engine::Answer;
 use io_face::{Sink, write_all};
 
@@ -27,9 +27,9 @@ impl Reply {
 }
 
 /// Writes what an answer prints. The answers that stop the work print nothing.
-pub(crate) fn write_answer<O: Sink>(answer: Answer, output: &mut O) -> Result<Reply, Stop>
+pub(crate) fn write_answer<O: Sink>(answer: Answer, output: &mut O) -> Result<Reply, RunStop>
     ensures written { WritesBy result answer (O.written output.old) (O.written output.new) }
-    ensures cause { IsErrOf result Stop.WriteFault
+    ensures cause { IsErrOf result RunStop.WriteFault
         → HasFaulted (O.faults output.old) (O.faults output.new) }
     ensures count { O.faults output.old ≤ O.faults output.new }
     ensures sound { OnOk result (O.faults output.new ≡ O.faults output.old) }
@@ -38,15 +38,15 @@ pub(crate) fn write_answer<O: Sink>(answer: Answer, output: &mut O) -> Result<Re
         Answer::Silent => Ok(Reply::Accepted),
         Answer::Printed(text) => match write_all(output, text.as_slice()) {
             Ok(()) => Ok(Reply::Accepted),
-            Err(fault) => Err(Stop::from(fault)),
+            Err(fault) => Err(RunStop::from(fault)),
         },
         Answer::Refused(text) => match write_all(output, text.as_slice()) {
             Ok(()) => Ok(Reply::Refused),
-            Err(fault) => Err(Stop::from(fault)),
+            Err(fault) => Err(RunStop::from(fault)),
         },
         Answer::Quit => Ok(Reply::Quit),
-        Answer::ReadFault => Err(Stop::ReadFault),
-        Answer::TooLong => Err(Stop::TooLong),
-        Answer::Memory => Err(Stop::Memory),
+        Answer::ReadFault => Err(RunStop::ReadFault),
+        Answer::TooLong => Err(RunStop::TooLong),
+        Answer::Memory => Err(RunStop::Memory),
     }
 }

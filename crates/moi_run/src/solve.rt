@@ -6,7 +6,7 @@ ghost use Rattle.io_face.specs.Sink.{Adds, AddsPrefix};
 ghost use Rattle.io_face.specs.Told.{told_by};
 ghost use Rattle.moi_run.specs.Commands.{load_line, solve_lines};
 ghost use Rattle.moi_run.specs.Run.{FetchFails, RunsEach};
-ghost use Rattle.moi_run.specs.Tally.{tally_of};
+ghost use Rattle.moi_run.specs.RunState.{run_state_of};
 ghost use Rattle.moi_run.specs.Status.{IsEnded};
 
 use crate::answers::answer_with;
@@ -31,8 +31,8 @@ pub(crate) fn answer_solve<B: Bridge, H: Shelf, O: Sink>(
 ) -> Status
     requires detached { (state_of session.old).attached ≡ false }
     ensures runs { let told = told_by (H.files shelf.old) (H.sure shelf.old) in
-        let before = tally_of session.old told (H.asked shelf.old) in
-        let after = tally_of session.new told (H.asked shelf.new) in
+        let before = run_state_of session.old told (H.asked shelf.old) in
+        let after = run_state_of session.new told (H.asked shelf.new) in
         RunsEach (solve_lines model.now) setup result before
         after (Adds (O.written output.old) (O.written output.new))
         (AddsPrefix (O.written output.old) (O.written output.new)) }

@@ -2,7 +2,7 @@
 ghost use Rattle.std.specs.Prelude.{◌≡◌, if◌then◌else◌};
 ghost use Rattle.moi_run.specs.Status.{exit_number, status_of};
 
-use crate::stop::Stop;
+use crate::stop::RunStop;
 
 /// How a run ended.
 #[derive(Clone, Copy, Debug, PartialEq, Eq)]
@@ -41,15 +41,15 @@ impl Status {
     }
 }
 
-impl From<Stop> for Status {
+impl From<RunStop> for Status {
     ghost from_gives = { λ stop status. status ≡ status_of stop };
 
-    fn from(stop: Stop) -> Status {
+    fn from(stop: RunStop) -> Status {
         match stop {
-            Stop::ReadFault => Status::ReadFault,
-            Stop::WriteFault => Status::WriteFault,
-            Stop::Memory => Status::Memory,
-            Stop::TooLong => Status::TooLong,
+            RunStop::ReadFault => Status::ReadFault,
+            RunStop::WriteFault => Status::WriteFault,
+            RunStop::Memory => Status::Memory,
+            RunStop::TooLong => Status::TooLong,
         }
     }
 }

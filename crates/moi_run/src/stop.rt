@@ -7,7 +7,7 @@ use line_reader::ReadStop;
 
 /// Why the work stops before its end.
 #[derive(Clone, Copy, Debug, PartialEq, Eq)]
-pub enum Stop {
+pub enum RunStop {
     ReadFault,
     WriteFault,
     /// Memory ran out.
@@ -16,25 +16,25 @@ pub enum Stop {
     TooLong,
 }
 
-impl From<ReadStop> for Stop {
+impl From<ReadStop> for RunStop {
     ghost from_gives = { λ reason stop. stop ≡ stop_of_read reason };
 
-    fn from(reason: ReadStop) -> Stop {
+    fn from(reason: ReadStop) -> RunStop {
         match reason {
-            ReadStop::ReadFault => Stop::ReadFault,
-            ReadStop::TooLong => Stop::TooLong,
-            ReadStop::Memory => Stop::Memory,
+            ReadStop::ReadFault => RunStop::ReadFault,
+            ReadStop::TooLong => RunStop::TooLong,
+            ReadStop::Memory => RunStop::Memory,
         }
     }
 }
 
-impl From<SinkFault> for Stop {
+impl From<SinkFault> for RunStop {
     ghost from_gives = { λ fault stop. stop ≡ stop_of_sink fault };
 
-    fn from(fault: SinkFault) -> Stop {
+    fn from(fault: SinkFault) -> RunStop {
         match fault {
-            SinkFault::Failed => Stop::WriteFault,
-            SinkFault::Memory => Stop::Memory,
+            SinkFault::Failed => RunStop::WriteFault,
+            SinkFault::Memory => RunStop::Memory,
         }
     }
 }

@@ -19,14 +19,14 @@ use Rattle.std.proofs.lemmas.Bool.{eqb-true}
 use Rattle.indexmap.specs.IndexSet.{insert_key, swap_remove_by}
 use Rattle.indexmap.proofs.MapLemmas.{swap_remove-default}
 use Rattle.name_index.specs.InStep.{InStep}
-use Rattle.name_index.specs.NameTable.{Numbers, IsFree, IsOneToOne, IsNameAt}
+use Rattle.name_index.specs.NameTable.{NumbersByName, IsNumberFree, IsOneToOne, IsNameAt}
 
 -- a table's names with their numbers, in its own order
 abbrev pub Entries : Type 0
 Entries = List (List ℕ × ℕ)
 
 -- the map that contracts see of the entries
-abbrev pub numbers_of : Entries → Numbers
+abbrev pub numbers_of : Entries → NumbersByName
 numbers_of es = map.from_entries es
 
 -- equal bytes, by either test
@@ -169,7 +169,7 @@ module _ (es : Entries) (ids : List ℕ) (step : InStep es ids) where
       name_at_from name id (get_at_position i name other id found at)
 
   -- a number that stands nowhere is no name's
-  free_from_absent : (id : ℕ) → list_any (nat_eq id) ids ≡ false → IsFree (numbers_of es) id
+  free_from_absent : (id : ℕ) → list_any (nat_eq id) ids ≡ false → IsNumberFree (numbers_of es) id
   free_from_absent id absent name got =
       let place = place_from_get name id got in
       stands_nowhere ids id absent place.0 (ap (λ l. slice_get l place.0) (sym step.in_step)
@@ -182,7 +182,8 @@ module _ (es : Entries) (ids : List ℕ) (step : InStep es ids) where
       (λ same. absurd (none-some name same), λ got. absurd (free_from_absent id absent name got))
 
   -- and a number that is no name's stands nowhere
-  pub absent_from_free : (id : ℕ) → IsFree (numbers_of es) id → list_any (nat_eq id) ids ≡ false
+  pub absent_from_free : (id : ℕ) → IsNumberFree (numbers_of es) id
+      → list_any (nat_eq id) ids ≡ false
   absent_from_free id free =
       elim (list_any (nat_eq id) ids) as (λ b. list_any (nat_eq id) ids ≡ b → b ≡ false) [
         | true ↦ λ stands. let place =
@@ -202,7 +203,8 @@ module _ (es : Entries) (ids : List ℕ) (step : InStep es ids) where
 
   -- a new name and a new number, appended
   pub add_in_step : (name : List ℕ) (id : ℕ) (more : Entries) (others : List ℕ)
-      → IsFree (numbers_of es) id → more ≡ es ++ (name, id) ∷ [] → others ≡ insert_key nat_eq ids id
+      → IsNumberFree (numbers_of es) id → more ≡ es ++ (name, id) ∷ []
+      → others ≡ insert_key nat_eq ids id
       → IsDistinct bytes_eq (keys_of more) → IsDistinct nat_eq others → InStep more others
   add_in_step name id more others free entries numbers names_distinct numbers_distinct =
       let last : others ≡ ids ++ id ∷ [] = numbers ∙ ap (λ b. cond b ids (ids ++ id ∷ []))

@@ -41,7 +41,7 @@ impl Model for NameTable {
 }
 
 impl NameTable {
-    ghost use Rattle.name_index.specs.NameTable.{IsFree, IsOneToOne, IsNameAt};
+    ghost use Rattle.name_index.specs.NameTable.{IsNumberFree, IsOneToOne, IsNameAt};
 
     /// An empty table, which takes no memory.
     pub fn new(alloc: Global) -> NameTable
@@ -68,7 +68,7 @@ impl NameTable {
     /// back and the table is as it was. With `spare` above 0 it can't be refused.
     pub fn add(&mut self, name: Name, id: u32) -> Result<(), (Name, Memory)>
         requires name_free { map.get self.old.numbers name ≡ None }
-        requires id_free { IsFree self.old.numbers id }
+        requires id_free { IsNumberFree self.old.numbers id }
         ensures ok { OnOk result (self.new.numbers ≡ map.insert self.old.numbers name id) }
         ensures returned { IfErr result (λ refused. refused.0 ≡ name) }
         ensures err { OnErr result (self.new.numbers ≡ self.old.numbers) }

@@ -15,7 +15,7 @@ use Rattle.numbered_list.specs.ChangeLaws.{AreChanges-rest, AreChanges-olds, IsA
 module _ {X : Type 0} (number_of : X → ℕ) where
   -- what is left of the changes gives, from the items now, what all gave from the items at the
   -- start
-  pub record SoFar (start now : List X) (changes left : List (Change X))
+  pub record ExchangedSoFar (start now : List X) (changes left : List (Change X))
       (i capacity least : ℕ) : Type 0 where
     pub rest : set_all number_of (drop i changes) now ≡ set_all number_of changes start
     pub still : olds number_of (drop i changes) now ≡ olds number_of (drop i changes) start
@@ -27,7 +27,7 @@ module _ {X : Type 0} (number_of : X → ℕ) where
 
   pub at_start : (start : List X) (changes : List (Change X)) (room : ℕ) → Rise number_of start
       → AreChanges number_of changes → length start + added number_of changes start ≤ room
-      → SoFar start start changes changes 0 room room
+      → ExchangedSoFar start start changes changes 0 room room
   at_start start changes room rise are enough = record {
     rest = refl;
     still = refl;
@@ -46,14 +46,14 @@ module _ {X : Type 0} (number_of : X → ℕ) where
   room_for (Some x) None n more capacity h some none = omega arith
 
   -- what the next change may rest on
-  pub record Next (now : List X) (change : Change X) (capacity : ℕ) : Type 0 where
+  pub record IsNextChange (now : List X) (change : Change X) (capacity : ℕ) : Type 0 where
     pub own : IsAt number_of change.number change.content
     pub room : IsSome change.content → IsNone (find number_of change.number now)
         → length now < capacity
 
   first_of : (now : List X) (c : Change X) (rest : List (Change X)) (capacity : ℕ)
       → AreChanges number_of (c ∷ rest) → length now + added number_of (c ∷ rest) now ≤ capacity
-      → Next now c capacity
+      → IsNextChange now c capacity
   first_of now c rest capacity are enough =
       record {
         own = IsAt-first number_of c rest are;
@@ -63,18 +63,18 @@ module _ {X : Type 0} (number_of : X → ℕ) where
       }
 
   pub next : (start now : List X) (changes left : List (Change X)) (i capacity least : ℕ)
-      (d : Change X) → SoFar start now changes left i capacity least → i < length changes
-      → Next now (slice_index_or left i d) capacity
+      (d : Change X) → ExchangedSoFar start now changes left i capacity least → i < length changes
+      → IsNextChange now (slice_index_or left i d) capacity
   next start now changes left i capacity least d so_far lt =
       let split = drop_more changes i d lt in
-      subst (λ c. Next now c capacity) (sym (as_it_was (old number_of start) changes left i d lt
+      subst (λ c. IsNextChange now c capacity) (sym (as_it_was (old number_of start) changes left i d lt
       so_far.past))
       (first_of now (slice_index_or changes i d) (drop (i + 1) changes) capacity
       (subst (AreChanges number_of) split so_far.are)
       (subst (λ cs. length now + added number_of cs now ≤ capacity) split so_far.fits))
 
   -- the state after the first of the changes that are left
-  pub record Stepped (start now : List X) (c : Change X) (rest : List (Change X)) (capacity : ℕ)
+  pub record ExchangedStep (start now : List X) (c : Change X) (rest : List (Change X)) (capacity : ℕ)
       (all : List X) : Type 0 where
     pub gives : set_all number_of rest (set_at number_of c.number c.content now) ≡ all
     pub found : find number_of c.number now ≡ find number_of c.number start
@@ -103,7 +103,7 @@ module _ {X : Type 0} (number_of : X → ℕ) where
       (all : List X) → set_all number_of (c ∷ rest) now ≡ all
       → olds number_of (c ∷ rest) now ≡ olds number_of (c ∷ rest) start → Rise number_of now
       → AreChanges number_of (c ∷ rest) → length now + added number_of (c ∷ rest) now ≤ capacity
-      → Stepped start now c rest capacity all
+      → ExchangedStep start now c rest capacity all
   stepped start now c rest capacity all gives still rise are enough =
       let own = IsAt-first number_of c rest are in
       let later = Rise-head changed_number c rest are.rising in
@@ -126,11 +126,11 @@ module _ {X : Type 0} (number_of : X → ℕ) where
   -- one more exchange: x is the change as it stands in the list
   pub one_more : (start now after : List X) (changes left : List (Change X))
       (i capacity more least : ℕ) (d : Change X) (new was : Option X)
-      → SoFar start now changes left i capacity least → i < length changes
+      → ExchangedSoFar start now changes left i capacity least → i < length changes
       → new ≡ (slice_index_or left i d).content
       → was ≡ find number_of (slice_index_or left i d).number now
       → after ≡ set_at number_of (slice_index_or left i d).number new now → capacity ≤ more
-      → SoFar start after changes (let given : Change
+      → ExchangedSoFar start after changes (let given : Change
       X = record { number = (slice_index_or left i d).number; content = was }
       in set left i given) (i + 1) more least
   one_more start now after changes left i capacity more least d new was so_far lt content before is
@@ -179,7 +179,8 @@ module _ {X : Type 0} (number_of : X → ℕ) where
     pub room : length now + added number_of left now ≤ capacity
 
   pub done : (start now : List X) (changes left : List (Change X)) (i capacity least : ℕ)
-      → SoFar start now changes left i capacity least → length changes ≤ i → Rise number_of start
+      → ExchangedSoFar start now changes left i capacity least → length changes ≤ i
+      → Rise number_of start
       → AreChanges number_of changes → length start + added number_of changes start ≤ least
       → Done start now changes left capacity
   done start now changes left i capacity least so_far end rise are enough =

@@ -14,7 +14,7 @@ use Rattle.std.proofs.lemmas.List.Sorted.{searchable_from_sorted}
 use Rattle.std.proofs.lemmas.Option.{slice_get-get_or, slice_get_read, get_or_from_slice_get}
 use Rattle.map_laws.specs.TestLaws.{equal_to, greater_than, less_than}
 use Rattle.numbered_list.specs.Numbered.{Rise, find, below, above, set_at}
-use Rattle.numbered_list.specs.Places.{IsFoundAt, IsMissingAt, IsPlaceOf}
+use Rattle.numbered_list.specs.Places.{IsFoundAt, IsMissingAt, IsNumberPlace}
 use Rattle.numbered_list.specs.Laws.{find-at, find-none}
 use Rattle.numbered_list.specs.SetLaws.{below-all, below-none, above-all, above-none}
 
@@ -136,7 +136,7 @@ module _ {X : Type 0} (number_of : X → ℕ) where
   -- what a binary search by numbers answers
   pub searched : (n : ℕ) (xs : List X) (r : Result ℕ ℕ) → Rise number_of xs
       → IsSearchInRange r (length xs) → IsBinarySearchResult (λ y. nat_cmp (number_of y) n) xs r
-      → IsPlaceOf number_of n xs r
+      → IsNumberPlace number_of n xs r
   searched n [] (Ok i) rise range equal = absurd (omega arith)
   searched n (x ∷ xs) (Ok i) rise range equal =
       found_at n (x ∷ xs) i (slice_index_or (x ∷ xs) i x) rise range

@@ -20,5 +20,5 @@ module _ {X : Type 0} (number_of : X → ℕ) where
     pub after : drop i xs ≡ above number_of n xs
 
   -- what a search for the number n answers
-  abbrev pub IsPlaceOf : ℕ → List X → Result ℕ ℕ → Type 0
-  IsPlaceOf n xs place = MatchResult place (IsFoundAt n xs) (IsMissingAt n xs)
+  abbrev pub IsNumberPlace : ℕ → List X → Result ℕ ℕ → Type 0
+  IsNumberPlace n xs place = MatchResult place (IsFoundAt n xs) (IsMissingAt n xs)

@@ -8,11 +8,11 @@ use std::marker::Model;
 
 /// The items that are left, in the order of their numbers.
 #[derive(Drop)]
-pub struct Items<'a, X> {
+pub struct NumberedItems<'a, X> {
     places: &'a [Change<X>],
 }
 
-impl<'a, X> Model for Items<'a, X> {
+impl<'a, X> Model for NumberedItems<'a, X> {
     ghost use Rattle.std.specs.Prelude.{List};
     ghost use Rattle.std.specs.Coded.{coded_list};
     ghost use Rattle.numbered_list.specs.Listed.{present};
@@ -24,16 +24,16 @@ impl<'a, X> Model for Items<'a, X> {
     ghost view = { λ a. present a.places.now };
 }
 
-impl<'a, X> Items<'a, X> {
+impl<'a, X> NumberedItems<'a, X> {
     // The items that stand at these places.
-    pub(crate) fn at(places: &'a [Change<X>]) -> Items<'a, X>
+    pub(crate) fn at(places: &'a [Change<X>]) -> NumberedItems<'a, X>
         ensures { result ≡ present places.now }
     {
-        Items { places }
+        NumberedItems { places }
     }
 }
 
-impl<'a, X> Iterator for Items<'a, X> {
+impl<'a, X> Iterator for NumberedItems<'a, X> {
     type Item = &'a X;
 
     ghost next_gives = { YieldsFirstRef (λ items. items) };
@@ -51,7 +51,7 @@ impl<'a, X> Iterator for Items<'a, X> {
     }
 }
 
-impl<'a, X> DoubleEndedIterator for Items<'a, X> {
+impl<'a, X> DoubleEndedIterator for NumberedItems<'a, X> {
     ghost next_back_gives = { YieldsLastRef (λ items. items) };
 
     fn next_back(&mut self) -> Option<&'a X> {

@@ -9,6 +9,6 @@ mod places;
 mod search;
 
 pub use change::Change;
-pub use items::Items;
+pub use items::NumberedItems;
 pub use list::Numbered;
 pub use search::HasNumber;

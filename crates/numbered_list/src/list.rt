@@ -6,7 +6,7 @@ ghost use Rattle.numbered_list.specs.Changes.{AreChanges, added, olds, set_all};
 
 use crate::places::{exchange_content, sweep_places};
 use crate::search::place_of;
-use crate::{Change, HasNumber, Items};
+use crate::{Change, HasNumber, NumberedItems};
 use std::alloc::{AllocError, Global};
 use std::fmt::{self, Debug};
 use std::marker::Model;
@@ -72,11 +72,11 @@ impl<X: HasNumber> Numbered<X> {
     }
 
     /// The items in the order of their numbers.
-    pub fn iter(&self) -> Items<'_, X>
+    pub fn iter(&self) -> NumberedItems<'_, X>
         ensures items { result ≡ self.now.items }
         ensures rising { Rise X.number_of self.now.items }
     {
-        Items::at(&self.places)
+        NumberedItems::at(&self.places)
     }
 
     /// The item with a number.

@@ -1,7 +1,7 @@
 //! Where a number stands.
 ghost use Rattle.std.specs.Prelude.{◌≡◌, ℕ, IsTrue};
 ghost use Rattle.numbered_list.specs.Numbered.{Rise};
-ghost use Rattle.numbered_list.specs.Places.{IsFoundAt, IsPlaceOf};
+ghost use Rattle.numbered_list.specs.Places.{IsFoundAt, IsNumberPlace};
 
 /// What has a number, by which it is found and in whose order it stands.
 pub trait HasNumber {
@@ -17,7 +17,7 @@ pub trait HasNumber {
 /// few steps whatever the length.
 pub(crate) fn place_of<X: HasNumber>(items: &[X], number: u32) -> Result<usize, usize>
     requires { Rise X.number_of items.now }
-    ensures { IsPlaceOf X.number_of number items.now result }
+    ensures { IsNumberPlace X.number_of number items.now result }
 {
     let ([first, ..], [.., last]) = (items, items) else {
         return Err(0);

@@ -15,8 +15,8 @@ use Rattle.item_core.specs.Kind.{kind_number}
 use Rattle.item_core.specs.KindOf.{kind_of_body}
 use Rattle.bridge_face.specs.ImageOf.{image_of}
 use Rattle.bridge_face.specs.Law.{is_objective, listed}
-use Rattle.bridge_face.specs.State.{State}
-use Rattle.bridge_plan.specs.Adds.{kept_of}
+use Rattle.bridge_face.specs.BridgeState.{BridgeState}
+use Rattle.bridge_plan.specs.AddsHeld.{kept_of}
 use Rattle.bridge_set.specs.Bridges.{kept_first}
 use Rattle.fresh_bridging.specs.CanLaws.{AreLawful}
 use Rattle.fresh_bridging.specs.Entries.{Entry, put_in}
@@ -27,7 +27,7 @@ use Rattle.address_laws.specs.ImageLaws.{child_objective, rows_alone}
 use Rattle.address_laws.specs.PutLaws.{objective_stays}
 use Rattle.tree_laws.specs.ObjectiveLaws.{CostsNothing, itself_one, none_at_all, none_below, none_below_each, none_below_in}
 use Rattle.tree_laws.specs.SeenLaws.{IsRowHere, child_groups_here, child_rows_here}
-use Rattle.objective_laws.specs.ObjectivePlace.{LeadsTo, ends, on}
+use Rattle.objective_laws.specs.ObjectivePlace.{BridgesLeadTo, ends, on}
 
 -- ---- the items of which one, at this address, is an objective
 
@@ -48,10 +48,10 @@ last_at (r ∷ rows) o h k = inr (
 -- ---- down a tree
 
 -- one leaf objective, at the address to which the bridges lead
-pub record Leads (states : List State) (at : Address) (items : List Item) : Type 0 where
+pub record LeadsToLeaf (states : List BridgeState) (at : Address) (items : List Item) : Type 0 where
   pub leaf : Address × Body
   pub alone : flat_map leaf_objectives items ≡ leaf ∷ []
-  pub leads : LeadsTo states at leaf.0
+  pub leads : BridgesLeadTo states at leaf.0
 
 -- others that are no objectives stand before them
 pub alone_behind : (xs ys : List Item) (leaf : Address × Body) → All CostsNothing xs
@@ -60,7 +60,7 @@ alone_behind xs ys leaf h alone =
     flat_map-append leaf_objectives xs ys ∙ ap₂ ◌++◌ (none_at_all xs h) alone
 
 module _ (setting : Setting) (costly : IsCostly (graph_of setting)) (choice : ℕ → Choice)
-    (chosen : AreChoices setting choice) (lawful : AreLawful setting) (states : List State) where
+    (chosen : AreChoices setting choice) (lawful : AreLawful setting) (states : List BridgeState) where
   abbrev RowThere : Item → Type 0
   RowThere c = IsRowHere setting costly choice chosen lawful c
 
@@ -68,8 +68,8 @@ module _ (setting : Setting) (costly : IsCostly (graph_of setting)) (choice : �
   abbrev pub Keep : List (ℕ × Item) → Type 0
   Keep ns = (n : ℕ × Item) → Contains ns n → kept_first states n.1.at ≡ Some (kept_of n)
 
-  abbrev pub End : List Item → Type 0
-  End is = (i : Item) → Contains is i → is_objective i.body ≡ true
+  abbrev pub ObjectivesEnd : List Item → Type 0
+  ObjectivesEnd is = (i : Item) → Contains is i → is_objective i.body ≡ true
       → kept_first states i.at ≡ None
 
   children_at : (item : Item) (is : IsRowHere setting costly choice chosen lawful item) (n : ℕ)
@@ -88,8 +88,8 @@ module _ (setting : Setting) (costly : IsCostly (graph_of setting)) (choice : �
 
     leads_down : {item : Item} {entries : List Entry}
         (tree : Bridged (rules_by choice) item entries) → RowThere item
-        → is_objective item.body ≡ true → Keep (nodes tree) → End (leaves tree)
-        → Leads states item.at (leaves tree)
+        → is_objective item.body ≡ true → Keep (nodes tree) → ObjectivesEnd (leaves tree)
+        → LeadsToLeaf states item.at (leaves tree)
     leads_down (natively {item} c) is o keep end = record {
       leaf = (item.at, item.body);
       alone = ap (λ l. l ++ []) (itself_one item o);
@@ -119,7 +119,7 @@ module _ (setting : Setting) (costly : IsCostly (graph_of setting)) (choice : �
     pub leads_in : (at : Address) {inner : List Entry} {items : List Item}
         (trees : EachBridgedIn (rules_by choice) inner items)
         → All (λ c. RowThere (put_in inner c)) items → OneAt at items → Keep (nodes_in trees)
-        → End (leaves_in trees) → Leads states at (leaves_in trees)
+        → ObjectivesEnd (leaves_in trees) → LeadsToLeaf states at (leaves_in trees)
     leads_in at none_in all h keep end = absurd h
     leads_in at (each_in {inner} {item} {items} first rest) all (inl h) keep end =
         let one =
@@ -134,7 +134,7 @@ module _ (setting : Setting) (costly : IsCostly (graph_of setting)) (choice : �
               ∙ ap₂ ◌++◌ one.alone (none_at_all (leaves_in rest)
               (none_below_in setting costly choice chosen lawful rest
               (All-tail (λ c. RowThere (put_in inner c)) item items all) h.2));
-          leads = subst (λ a. LeadsTo states a one.leaf.0) h.0 one.leads;
+          leads = subst (λ a. BridgesLeadTo states a one.leaf.0) h.0 one.leads;
         }
     leads_in at (each_in {inner} {item} {items} first rest) all (inr h) keep end =
         let one =

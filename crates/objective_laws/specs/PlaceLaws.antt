@@ -19,8 +19,8 @@ use Rattle.item_core.specs.declared.item.Body.{Body}
 use Rattle.item_core.specs.declared.item.Body.TheVariants.{PlainObj, AffineObj}
 use Rattle.item_core.specs.declared.item.Item.{Item}
 use Rattle.bridge_face.specs.Law.{is_objective}
-use Rattle.bridge_face.specs.State.{State}
-use Rattle.bridge_plan.specs.Adds.{kept_of}
+use Rattle.bridge_face.specs.BridgeState.{BridgeState}
+use Rattle.bridge_plan.specs.AddsHeld.{kept_of}
 use Rattle.bridge_set.specs.Bridges.{kept_first}
 use Rattle.fresh_bridging.specs.CanLaws.{AreLawful}
 use Rattle.fresh_bridging.specs.FreshBridging.{FreshBridging, leaves_of, nodes_of}
@@ -48,8 +48,8 @@ use Rattle.tree_laws.specs.LeafLaws.{SupportsNativeKinds}
 use Rattle.tree_laws.specs.ObjectiveLaws.{itself_one, none_below_each}
 use Rattle.tree_laws.specs.ObjectivePart.{none_here}
 use Rattle.tree_laws.specs.PrimalLaws.{groups_there, others_there, rows_no_objective}
-use Rattle.objective_laws.specs.DownLaws.{Leads, OneAt, alone_behind, last_at, leads_in}
-use Rattle.objective_laws.specs.ObjectivePlace.{LeadsTo}
+use Rattle.objective_laws.specs.DownLaws.{LeadsToLeaf, OneAt, alone_behind, last_at, leads_in}
+use Rattle.objective_laws.specs.ObjectivePlace.{BridgesLeadTo}
 
 -- ---- by address
 
@@ -127,7 +127,7 @@ none_place at b same =
 
 module _ (setting : Setting) (costly : IsCostly (graph_of setting)) (lawful : AreLawful setting)
     (native : SupportsNativeKinds setting) (model : ModelValue) (valid : IsValid model)
-    (bridging : FreshBridging setting model) (states : List State)
+    (bridging : FreshBridging setting model) (states : List BridgeState)
     (kept : (v : Address)
     → kept_first states v ≡ option_map kept_of (finite.get (nodes_of bridging) v)) where
   abbrev all_nodes : List (ℕ × Item)
@@ -201,7 +201,7 @@ module _ (setting : Setting) (costly : IsCostly (graph_of setting)) (lawful : Ar
   -- the model's one leaf objective
   with_one : (b : Body) → is_objective b ≡ true
       → objective_items model.objective ≡ objective_item b ∷ []
-      → Leads states (root_address root.Objective 0) (model_leaves bridging.made)
+      → LeadsToLeaf states (root_address root.Objective 0) (model_leaves bridging.made)
   unfolding model_leaves model_nodes
   with_one b o e =
       let one =
@@ -232,7 +232,7 @@ module _ (setting : Setting) (costly : IsCostly (graph_of setting)) (lawful : Ar
 
   module _ (places : AddressMap) (solver : Leaves) (at : Address) where
     abbrev Goal : Type 0
-    Goal = LeadsTo states (root_address root.Objective 0) at
+    Goal = BridgesLeadTo states (root_address root.Objective 0) at
 
     -- read through the map it has its place
     abbrev IsPlaced : LeafObjective → Type 0
@@ -240,9 +240,9 @@ module _ (setting : Setting) (costly : IsCostly (graph_of setting)) (lawful : Ar
         ≡ (leaves_of bridging).objective
 
     of_leads : (o : LeafObjective) → IsPlaced o
-        → Leads states (root_address root.Objective 0) (model_leaves bridging.made) → Goal
+        → LeadsToLeaf states (root_address root.Objective 0) (model_leaves bridging.made) → Goal
     of_leads o same one =
-        subst (LeadsTo states (root_address root.Objective 0))
+        subst (BridgesLeadTo states (root_address root.Objective 0))
         (sym (one_place at (read_objective places.vars.indices o) one.leaf
         (same ∙ ap (finite.from_entries {R = address_cmp}) one.alone))) one.leads
 

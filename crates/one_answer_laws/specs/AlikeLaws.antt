@@ -5,11 +5,11 @@ use Rattle.std.proofs.Common.{ap, subst, sym, ◌∙◌}
 use Rattle.bridge_graph.specs.Hypergraph.{IsCostly}
 use Rattle.bridged_report.specs.Lines.{bridged_text}
 use Rattle.cache_layer.specs.Outcome.{IsOptimized}
-use Rattle.cache_layer.specs.State.{Bridging, State, leaves}
+use Rattle.cache_layer.specs.CacheState.{Bridging, CacheState, leaves}
 use Rattle.cache_layer.specs.declared.fault.OptFault.{OptFault}
 use Rattle.cache_layer.specs.declared.fault.OptFault.TheVariants as opt
 use Rattle.certificates.specs.declared.certificate.Certificate.{Certificate}
-use Rattle.edit_engine.specs.Script.{Optimizes, Shows, optimize_answer}
+use Rattle.edit_engine.specs.Script.{Optimizes, ShowsLeaves, optimize_answer}
 use Rattle.fresh_bridging.specs.OnceLaws.{same_leaves}
 use Rattle.fresh_bridging.specs.TheRules.{graph_of}
 use Rattle.report_core.specs.declared.answer.Answer.{Answer}
@@ -25,7 +25,7 @@ use Rattle.one_answer_laws.specs.RenumberedTextLaws.{bridged-renumbered, certifi
 
 -- the same to the user: models that are valid and differ in their numbers alone, one table, the
 -- same families, and both solvers attached or neither
-pub record AreAlike (one other : State) : Type 0 where
+pub record AreAlike (one other : CacheState) : Type 0 where
   pub valid : IsValid one.model
   pub other_valid : IsValid other.model
   pub model : SameUpToNumbers one.model other.model
@@ -45,8 +45,8 @@ given_without_memory model given answer e fit same = fit (e ∙ ap (optimize_ans
 
 -- ---- one state
 
-module _ (s : State) (costly : IsCostly (graph_of s.setting)) where
-  optimized_at : (t : State) → s ≡ t → (pivots : ℕ) (x y : Result Certificate OptFault)
+module _ (s : CacheState) (costly : IsCostly (graph_of s.setting)) where
+  optimized_at : (t : CacheState) → s ≡ t → (pivots : ℕ) (x y : Result Certificate OptFault)
       → x ≢ Err opt.Memory → y ≢ Err opt.Memory → IsOptimized s pivots x → IsOptimized t pivots y
       → optimize_answer s.model x ≡ optimize_answer t.model y
   optimized_at t same pivots x y m n h k =
@@ -54,7 +54,7 @@ module _ (s : State) (costly : IsCostly (graph_of s.setting)) where
       (subst (λ r. IsOptimized r pivots y) (sym same) k))
       ∙ ap (λ r. optimize_answer r.model y) same
 
-  shown_at : (t : State) → s ≡ t → (b : Bridging s) (c : Bridging t)
+  shown_at : (t : CacheState) → s ≡ t → (b : Bridging s) (c : Bridging t)
       → bridged_text s.model (leaves b) ≡ bridged_text t.model (leaves c)
   shown_at t same b =
       subst
@@ -64,7 +64,7 @@ module _ (s : State) (costly : IsCostly (graph_of s.setting)) where
 
 -- ---- two states
 
-module _ (one other : State) (alike : AreAlike one other)
+module _ (one other : CacheState) (alike : AreAlike one other)
     (costly : IsCostly (graph_of one.setting)) where
   both : AreRenumbered one.model other.model
   both = renumbered_alike one.model other.model alike.valid alike.other_valid alike.model
@@ -76,7 +76,8 @@ module _ (one other : State) (alike : AreAlike one other)
     attached = alike.attached i;
   }
 
-  pub optimize_alike : (pivots : ℕ) (a b : Answer) (new after : State) → a ≢ Memory → b ≢ Memory
+  pub optimize_alike : (pivots : ℕ) (a b : Answer) (new after : CacheState) → a ≢ Memory
+      → b ≢ Memory
       → Optimizes one pivots a new → Optimizes other pivots b after → a ≡ b
   optimize_alike pivots a b new after m n h k =
       h.2
@@ -102,14 +103,15 @@ module _ (one other : State) (alike : AreAlike one other)
       (leaves (bridging_over both.second both.second_rises other c))
       (leaves_over both.second both.second_rises other c)
 
-  shown_alike : (attached : Bool) (a b : Answer) (new after : State) → Shows attached one a new
-      → Shows attached other b after → a ≡ b
+  shown_alike : (attached : Bool) (a b : Answer) (new after : CacheState)
+      → ShowsLeaves attached one a new
+      → ShowsLeaves attached other b after → a ≡ b
   shown_alike true a b new after h k =
       h.1.0 ∙ ap Printed (text_alike h.0 k.0) ∙ sym k.1.0
   shown_alike false a b new after h k = h.0 ∙ sym k.0
 
-  pub show_alike : (a b : Answer) (new after : State) → Shows one.attached one a new
-      → Shows other.attached other b after → a ≡ b
+  pub show_alike : (a b : Answer) (new after : CacheState) → ShowsLeaves one.attached one a new
+      → ShowsLeaves other.attached other b after → a ≡ b
   show_alike a b new after h k =
       shown_alike one.attached a b new after h
-      (subst (λ attached. Shows attached other b after) (sym alike.attached) k)
+      (subst (λ attached. ShowsLeaves attached other b after) (sym alike.attached) k)

@@ -16,7 +16,7 @@ use Rattle.script_core.specs.Changes.{coefficient_form, constant_form, delete_ro
 use Rattle.script_core.specs.Line.{answer_of, form_of, line_form, line_said, reading_of, word_alone}
 use Rattle.script_core.specs.Keyword.{keyword_of}
 use Rattle.script_core.specs.Names.{last_name_of, last_named_number_of, last_two_names_of, names_of}
-use Rattle.script_core.specs.Reading.{Tokens, makes, makes_with, says}
+use Rattle.script_core.specs.Reading.{TokenList, makes, makes_with, says}
 use Rattle.script_core.specs.Rows.{bound_form, objective_form, objective_variable_form, row_form, vector_bound_form, vector_row_form}
 use Rattle.script_core.specs.Sets.{last_named_relation_of, relation_of, vector_set_of}
 use Rattle.script_core.specs.Solver.{load_form, optimize_form}
@@ -62,14 +62,14 @@ with_function : {X : Type 0} (edit : X → Edit) (o : Option X) → ReadsSome (m
 with_function edit None = tt
 with_function edit (Some f) = tt
 
-no_cost : (c : Command) (tokens : Tokens) → ReadsSome (Some (reading.Says c))
+no_cost : (c : Command) (tokens : TokenList) → ReadsSome (Some (reading.Says c))
     → ReadsSome (word_alone c tokens)
 no_cost c [] h = h
 no_cost c (_ ∷ _) h = tt
 
 -- ---- forms of edits
 
-variable_some : (tokens : Tokens) → ReadsSome (variable_form tokens)
+variable_some : (tokens : TokenList) → ReadsSome (variable_form tokens)
 unfolding variable_form
 variable_some [] = tt
 variable_some (variable ∷ tokens) =
@@ -77,7 +77,7 @@ variable_some (variable ∷ tokens) =
     (λ name. creation_set_of tokens >>= (λ set. makes (AddGroup (name ∷ []) set)))
     (λ name. made (creation_set_of tokens) (λ set. AddGroup (name ∷ []) set))
 
-group_some : (tokens : Tokens) → ReadsSome (group_form tokens)
+group_some : (tokens : TokenList) → ReadsSome (group_form tokens)
 unfolding group_form
 group_some [] = tt
 group_some (word ∷ variables) =
@@ -85,7 +85,7 @@ group_some (word ∷ variables) =
     (λ names. vector_set_of word (length names) >>= (λ set. makes (AddGroup names set)))
     (λ names. made (vector_set_of word (length names)) (λ set. AddGroup names set))
 
-bound_some : (tokens : Tokens) → ReadsSome (bound_form tokens)
+bound_some : (tokens : TokenList) → ReadsSome (bound_form tokens)
 unfolding bound_form
 bound_some [] = tt
 bound_some (row ∷ tokens) =
@@ -95,7 +95,7 @@ bound_some (row ∷ tokens) =
     (λ name. made (last_named_relation_of tokens)
     (λ variable. AddRow name (Plain variable.0) variable.1))
 
-row_some : (tokens : Tokens) → ReadsSome (row_form tokens)
+row_some : (tokens : TokenList) → ReadsSome (row_form tokens)
 unfolding row_form
 row_some (row ∷ word ∷ tokens) =
     followed (name_of_token row)
@@ -109,7 +109,7 @@ row_some (row ∷ word ∷ tokens) =
     (λ terms. with_function (λ f. AddRow name (Affine f) relation.0) (function_of terms))))
 row_some _ = tt
 
-vector_bound_some : (tokens : Tokens) → ReadsSome (vector_bound_form tokens)
+vector_bound_some : (tokens : TokenList) → ReadsSome (vector_bound_form tokens)
 unfolding vector_bound_form
 vector_bound_some (row ∷ word ∷ variables) =
     followed (name_of_token row)
@@ -121,7 +121,7 @@ vector_bound_some (row ∷ word ∷ variables) =
     (λ vars. made (vector_set_of word (length vars)) (λ set. AddRow name (PlainVec vars) set)))
 vector_bound_some _ = tt
 
-vector_row_some : (tokens : Tokens) → ReadsSome (vector_row_form tokens)
+vector_row_some : (tokens : TokenList) → ReadsSome (vector_row_form tokens)
 unfolding vector_row_form
 vector_row_some (row ∷ word ∷ tokens) =
     followed (name_of_token row)
@@ -135,20 +135,20 @@ vector_row_some (row ∷ word ∷ tokens) =
     (λ set. with_function (λ fs. AddRow name (AffineVec fs) set) (functions_of components))))
 vector_row_some _ = tt
 
-objective_some : (sense : Sense) (tokens : Tokens) → ReadsSome (objective_form sense tokens)
+objective_some : (sense : Sense) (tokens : TokenList) → ReadsSome (objective_form sense tokens)
 unfolding objective_form
 objective_some sense tokens =
     followed (terms_of tokens)
     (λ terms. makes_with (λ f. Objective sense (Affine f)) (function_of terms))
     (λ terms. with_function (λ f. Objective sense (Affine f)) (function_of terms))
 
-objective_variable_some : (sense : Sense) (tokens : Tokens)
+objective_variable_some : (sense : Sense) (tokens : TokenList)
     → ReadsSome (objective_variable_form sense tokens)
 unfolding objective_variable_form
 objective_variable_some sense tokens =
     made (last_name_of tokens) (λ var. Objective sense (Plain var))
 
-coefficient_some : (tokens : Tokens) → ReadsSome (coefficient_form tokens)
+coefficient_some : (tokens : TokenList) → ReadsSome (coefficient_form tokens)
 unfolding coefficient_form
 coefficient_some [] = tt
 coefficient_some (row ∷ tokens) =
@@ -156,7 +156,7 @@ coefficient_some (row ∷ tokens) =
     (λ name. last_named_number_of tokens >>= (λ term. makes (Coef name term.0 term.1)))
     (λ name. made (last_named_number_of tokens) (λ term. Coef name term.0 term.1))
 
-vector_coefficient_some : (tokens : Tokens) → ReadsSome (vector_coefficient_form tokens)
+vector_coefficient_some : (tokens : TokenList) → ReadsSome (vector_coefficient_form tokens)
 unfolding vector_coefficient_form
 vector_coefficient_some (row ∷ number ∷ tokens) =
     followed (name_of_token row)
@@ -168,11 +168,11 @@ vector_coefficient_some (row ∷ number ∷ tokens) =
     (λ output. made (last_named_number_of tokens) (λ term. VecCoef name output term.0 term.1)))
 vector_coefficient_some _ = tt
 
-constant_some : (tokens : Tokens) → ReadsSome (constant_form tokens)
+constant_some : (tokens : TokenList) → ReadsSome (constant_form tokens)
 unfolding constant_form
 constant_some tokens = made (last_named_number_of tokens) (λ constant. Constant constant.0 constant.1)
 
-vector_constant_some : (tokens : Tokens) → ReadsSome (vector_constant_form tokens)
+vector_constant_some : (tokens : TokenList) → ReadsSome (vector_constant_form tokens)
 unfolding vector_constant_form
 vector_constant_some (row ∷ number ∷ constant ∷ []) =
     followed (name_of_token row)
@@ -183,73 +183,73 @@ vector_constant_some (row ∷ number ∷ constant ∷ []) =
     (λ output. made (rational_of constant) (λ value. VecConstant name output value)))
 vector_constant_some _ = tt
 
-objective_coefficient_some : (tokens : Tokens) → ReadsSome (objective_coefficient_form tokens)
+objective_coefficient_some : (tokens : TokenList) → ReadsSome (objective_coefficient_form tokens)
 unfolding objective_coefficient_form
 objective_coefficient_some tokens =
     made (last_named_number_of tokens) (λ term. ObjCoef term.0 term.1)
 
-objective_constant_some : (tokens : Tokens) → ReadsSome (objective_constant_form tokens)
+objective_constant_some : (tokens : TokenList) → ReadsSome (objective_constant_form tokens)
 unfolding objective_constant_form
 objective_constant_some (constant ∷ []) = made (rational_of constant) (λ value. ObjConstant value)
 objective_constant_some _ = tt
 
-row_set_some : (tokens : Tokens) → ReadsSome (row_set_form tokens)
+row_set_some : (tokens : TokenList) → ReadsSome (row_set_form tokens)
 unfolding row_set_form
 row_set_some tokens = made (last_named_relation_of tokens) (λ row. RowSet row.0 row.1)
 
-reset_some : (tokens : Tokens) → ReadsSome (reset_form tokens)
+reset_some : (tokens : TokenList) → ReadsSome (reset_form tokens)
 unfolding reset_form
 reset_some tokens = made (last_named_relation_of tokens) (λ variable. Reset variable.0 variable.1)
 
-free_some : (tokens : Tokens) → ReadsSome (free_form tokens)
+free_some : (tokens : TokenList) → ReadsSome (free_form tokens)
 unfolding free_form
 free_some tokens = made (last_name_of tokens) (λ var. FreeGroup var)
 
-delete_variable_some : (tokens : Tokens) → ReadsSome (delete_variable_form tokens)
+delete_variable_some : (tokens : TokenList) → ReadsSome (delete_variable_form tokens)
 unfolding delete_variable_form
 delete_variable_some tokens = made (last_name_of tokens) (λ var. DeleteVariable var)
 
-delete_row_some : (tokens : Tokens) → ReadsSome (delete_row_form tokens)
+delete_row_some : (tokens : TokenList) → ReadsSome (delete_row_form tokens)
 unfolding delete_row_form
 delete_row_some tokens = made (last_name_of tokens) (λ row. DeleteRow row)
 
-rename_variable_some : (tokens : Tokens) → ReadsSome (rename_variable_form tokens)
+rename_variable_some : (tokens : TokenList) → ReadsSome (rename_variable_form tokens)
 unfolding rename_variable_form
 rename_variable_some tokens =
     made (last_two_names_of tokens) (λ names. RenameVariable names.0 names.1)
 
-rename_row_some : (tokens : Tokens) → ReadsSome (rename_row_form tokens)
+rename_row_some : (tokens : TokenList) → ReadsSome (rename_row_form tokens)
 unfolding rename_row_form
 rename_row_some tokens = made (last_two_names_of tokens) (λ names. RenameRow names.0 names.1)
 
 -- ---- forms of the other lines
 
-target_some : (tokens : Tokens) → ReadsSome (target_form tokens)
+target_some : (tokens : TokenList) → ReadsSome (target_form tokens)
 unfolding target_form
 target_some (word ∷ []) =
     followed (target_of word) (λ target. says (command.Target target)) (λ target. tt)
 target_some _ = tt
 
-support_some : (value : Bool) (tokens : Tokens) → ReadsSome (support_form value tokens)
+support_some : (value : Bool) (tokens : TokenList) → ReadsSome (support_form value tokens)
 unfolding support_form
 support_some value (word ∷ []) =
     followed (native_kind_of word) (λ kind. says (command.Support kind value)) (λ kind. tt)
 support_some value _ = tt
 
-switch_some : (value : Bool) (tokens : Tokens) → ReadsSome (switch_form value tokens)
+switch_some : (value : Bool) (tokens : TokenList) → ReadsSome (switch_form value tokens)
 unfolding switch_form
 switch_some value (word ∷ []) =
     followed (family_of word) (λ family. says (command.Switch family value)) (λ family. tt)
 switch_some value _ = tt
 
-optimize_some : (tokens : Tokens) → ReadsSome (optimize_form tokens)
+optimize_some : (tokens : TokenList) → ReadsSome (optimize_form tokens)
 unfolding optimize_form
 optimize_some [] = tt
 optimize_some (number ∷ []) =
     followed (number_of number) (λ pivots. says (command.Optimize (Some pivots))) (λ pivots. tt)
 optimize_some _ = tt
 
-load_some : (tokens : Tokens) → ReadsSome (load_form tokens)
+load_some : (tokens : TokenList) → ReadsSome (load_form tokens)
 unfolding load_form
 load_some tokens = followed (last_name_of tokens) (λ file. says (command.Load file)) (λ file. tt)
 
@@ -273,7 +273,7 @@ followed_cost token f h = by (number_of token)
     by None = tt
     by (Some cost) = within_cost cost f h (is_edge_cost cost) refl
 
-cost_some : (tokens : Tokens) → ReadsSome (cost_form tokens)
+cost_some : (tokens : TokenList) → ReadsSome (cost_form tokens)
 unfolding cost_form
 cost_some (token ∷ number ∷ []) =
     followed (number_of token)
@@ -286,7 +286,7 @@ cost_some _ = tt
 
 -- ---- a line
 
-form_some : (keyword : Keyword) (tokens : Tokens) → ReadsSome (form_of keyword tokens)
+form_some : (keyword : Keyword) (tokens : TokenList) → ReadsSome (form_of keyword tokens)
 unfolding form_of
 form_some word.Var tokens = variable_some tokens
 form_some word.Vars tokens = group_some tokens
@@ -330,7 +330,7 @@ form_some word.Write tokens = no_cost command.Write tokens tt
 form_some word.Load tokens = load_some tokens
 form_some word.Quit tokens = no_cost command.Quit tokens tt
 
-tokens_some : (tokens : Tokens) → ReadsSome (line_form tokens)
+tokens_some : (tokens : TokenList) → ReadsSome (line_form tokens)
 unfolding line_form
 tokens_some [] = tt
 tokens_some (first ∷ tokens) = by (starts_with nat_eq first (codes "#"))

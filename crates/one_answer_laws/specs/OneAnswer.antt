@@ -3,7 +3,7 @@
 use Rattle.std.specs.Prelude.{◌≡◌, ◌≢◌, ℕ, List, None, Result, Ok, unwrap_or}
 use Rattle.std.proofs.Common.{subst, sym}
 use Rattle.bridge_graph.specs.Hypergraph.{IsCostly}
-use Rattle.cache_layer.specs.State.{State}
+use Rattle.cache_layer.specs.CacheState.{CacheState}
 use Rattle.edit_engine.specs.LinesLaws.{does_alone}
 use Rattle.edit_engine.specs.Script.{DoesSaid, Machine, Optimizes, Steps}
 use Rattle.fresh_bridging.specs.TheRules.{graph_of}
@@ -16,10 +16,10 @@ use Rattle.script_core.specs.declared.fault.LineFault.{LineFault}
 use Rattle.one_answer_laws.specs.AlikeLaws.{AreAlike, optimize_alike, show_alike}
 
 -- the line asks for an optimise, or for the solver's model
-abbrev pub Asks : Result Command LineFault → Type 0
-Asks (Ok (line.Optimize own)) = Unit {0}
-Asks (Ok line.Bridged) = Unit {0}
-Asks _ = ⊥
+abbrev pub AsksForSolver : Result Command LineFault → Type 0
+AsksForSolver (Ok (line.Optimize own)) = Unit {0}
+AsksForSolver (Ok line.Bridged) = Unit {0}
+AsksForSolver _ = ⊥
 
 -- two sessions that are the same to their users, with one allowance of pivots and no open group
 pub record AreTwins (one other : Machine) : Type 0 where
@@ -32,12 +32,14 @@ pub record AreTwins (one other : Machine) : Type 0 where
 abbrev pub OneAnswer : Type 0
 OneAnswer =
     (one other : Machine) → AreTwins one other → IsCostly (graph_of one.state.setting)
-    → (line : List ℕ) → Asks (line_said line) → (a b : Answer) (new after : Machine) → a ≢ Memory
+    → (line : List ℕ) → AsksForSolver (line_said line) → (a b : Answer) (new after : Machine)
+    → a ≢ Memory
     → b ≢ Memory → Steps one line a new → Steps other line b after → a ≡ b
 
 module _ (one other : Machine) (twins : AreTwins one other)
     (costly : IsCostly (graph_of one.state.setting)) where
-  said_alike : (said : Result Command LineFault) (a b : Answer) (new after : State) → Asks said
+  said_alike : (said : Result Command LineFault) (a b : Answer) (new after : CacheState)
+      → AsksForSolver said
       → a ≢ Memory → b ≢ Memory → DoesSaid one said a new → DoesSaid other said b after → a ≡ b
   said_alike (Ok (line.Optimize own)) a b new after asks m n h k =
       optimize_alike one.state other.state twins.state costly (unwrap_or own one.pivots) a b new
@@ -51,7 +53,7 @@ module _ (one other : Machine) (twins : AreTwins one other)
   said_alike _ a b new after asks m n h k = absurd asks
 
 pub one_answer : (one other : Machine) → AreTwins one other
-    → IsCostly (graph_of one.state.setting) → (line : List ℕ) → Asks (line_said line)
+    → IsCostly (graph_of one.state.setting) → (line : List ℕ) → AsksForSolver (line_said line)
     → (a b : Answer) (new after : Machine) → a ≢ Memory → b ≢ Memory → Steps one line a new
     → Steps other line b after → a ≡ b
 one_answer one other twins costly line asks a b new after m n h k =

@@ -14,9 +14,9 @@ use Rattle.bridge_graph.specs.Hypergraph.{Hypergraph, IsCostly}
 use Rattle.bridge_graph.specs.Tree.{IsTreeless, by as by_edge, native}
 use Rattle.bridge_graph.specs.declared.Choice.{Choice}
 use Rattle.bridged_report.specs.Places.{place_at}
-use Rattle.cache_layer.specs.Answers.{Becomes, IsAttached, IsEdited, IsGrouped, IsLoaded, as_edits}
+use Rattle.cache_layer.specs.Answers.{Becomes, IsAttached, IsEdited, IsGroupAnswer, IsLoaded, as_edits}
 use Rattle.model_load.specs.Loads.{after_edits}
-use Rattle.cache_layer.specs.State.{Bridging, Changes, HasLeaves, OverflowsAt, State, leaves, with_model}
+use Rattle.cache_layer.specs.CacheState.{Bridging, CacheState, ChangesLeaves, HasLeaves, OverflowsAt, leaves, with_model}
 use Rattle.cache_layer.specs.declared.fault.AttachFault.{AttachFault}
 use Rattle.cache_layer.specs.declared.fault.AttachFault.TheVariants as attach
 use Rattle.cache_layer.specs.declared.fault.EditFault.{EditFault}
@@ -39,7 +39,7 @@ use Rattle.item_core.specs.KindOf.{kind_of_body}
 use Rattle.item_core.specs.declared.item.Item.{Item}
 use Rattle.item_core.specs.declared.kind.Kind.{Kind}
 use Rattle.lazy_bridge.specs.Pushed.{Counts}
-use Rattle.leaf_model.specs.LeafModel.{IsChanged, IsCountOf, LeafModel, no_leaves}
+use Rattle.leaf_model.specs.LeafModel.{IsChangeCount, IsCountOf, LeafModel, no_leaves}
 use Rattle.map_laws.specs.EachLaws.{all_second}
 use Rattle.report_core.specs.declared.refused.Place.{Place}
 use Rattle.user_model.specs.Edited.{edited}
@@ -220,8 +220,8 @@ no_more n m h k =
 count_once : {P : Address → Type 0} (n m : ℕ) → IsCountOf P n → IsCountOf P m → n ≡ m
 count_once n m h k = omega (arith, no_more n m h k, no_more m n k h)
 
-changed_once : (before after : LeafModel) (n m : ℕ) → IsChanged before after n
-    → IsChanged before after m → n ≡ m
+changed_once : (before after : LeafModel) (n m : ℕ) → IsChangeCount before after n
+    → IsChangeCount before after m → n ≡ m
 changed_once before after n m h k =
     let variables : h.variables ≡ k.variables =
     count_once h.variables k.variables h.variables_are k.variables_are in
@@ -237,7 +237,7 @@ counted_once before after n m h k =
 
 -- ---- states
 
-module _ (s : State) (costly : IsCostly (graph_of s.setting)) where
+module _ (s : CacheState) (costly : IsCostly (graph_of s.setting)) where
   overflow_once : (p q : Place) → OverflowsAt s p → OverflowsAt s q → p ≡ q
   overflow_once p q h k =
       let at : h.at ≡ k.at = same_Some h.at k.at
@@ -257,8 +257,9 @@ module _ (s : State) (costly : IsCostly (graph_of s.setting)) where
       counted_once no_leaves (leaves k.bridging) n m
       (subst (λ l. Counts no_leaves l n) (leaves_once h.bridging k.bridging) h.counts) k.counts
 
-changes_once : (old next : State) → IsCostly (graph_of old.setting)
-    → IsCostly (graph_of next.setting) → (n m : ℕ) → Changes old next n → Changes old next m
+changes_once : (old next : CacheState) → IsCostly (graph_of old.setting)
+    → IsCostly (graph_of next.setting) → (n m : ℕ) → ChangesLeaves old next n
+    → ChangesLeaves old next m
     → n ≡ m
 changes_once old next c d n m h k =
     counted_once (leaves k.before) (leaves k.after) n m
@@ -268,9 +269,9 @@ changes_once old next c d n m h k =
 
 -- ---- what is given, and the state that is left
 
-module _ (old next : State) (c : IsCostly (graph_of old.setting))
+module _ (old next : CacheState) (c : IsCostly (graph_of old.setting))
     (d : IsCostly (graph_of next.setting)) where
-  pub becomes_once : (x y : Result (Option ℕ) EditFault) (new after : State)
+  pub becomes_once : (x y : Result (Option ℕ) EditFault) (new after : CacheState)
       → ¬ (x ≡ Err edit.Memory) → ¬ (y ≡ Err edit.Memory) → Becomes old next x new
       → Becomes old next y after → (x ≡ y) × (new ≡ after)
   becomes_once (Err edit.Memory) y new after m n h k = absurd (m refl)
@@ -309,8 +310,8 @@ module _ (old next : State) (c : IsCostly (graph_of old.setting))
   becomes_once (Err (edit.Overflow p)) (Err (edit.Overflow q)) new after m n h k =
       (ap (λ a. Err (edit.Overflow a)) (overflow_once next d p q h.1 k.1), h.2 ∙ sym k.2)
 
-module _ (s : State) (c : IsCostly (graph_of s.setting)) where
-  pub edited_once : (e : Edit) (x y : Result (Option ℕ) EditFault) (new after : State)
+module _ (s : CacheState) (c : IsCostly (graph_of s.setting)) where
+  pub edited_once : (e : Edit) (x y : Result (Option ℕ) EditFault) (new after : CacheState)
       → ¬ (x ≡ Err edit.Memory) → ¬ (y ≡ Err edit.Memory) → IsEdited s e x new
       → IsEdited s e y after → (x ≡ y) × (new ≡ after)
   edited_once e (Err edit.Memory) y new after m n h k = absurd (m refl)
@@ -322,7 +323,7 @@ module _ (s : State) (c : IsCostly (graph_of s.setting)) where
   edited_once e x y new after m n h k =
       becomes_once s (with_model s (edited s.model e)) c c x y new after m n h.1 k.1
 
-  pub attached_once : (x y : Result ℕ AttachFault) (new after : State)
+  pub attached_once : (x y : Result ℕ AttachFault) (new after : CacheState)
       → ¬ (x ≡ Err attach.Memory) → ¬ (y ≡ Err attach.Memory) → IsAttached s x new
       → IsAttached s y after → (x ≡ y) × (new ≡ after)
   attached_once (Err attach.Memory) y new after m n h k = absurd (m refl)
@@ -366,8 +367,8 @@ made_or_refused : (r : Result ModelValue Refusal) (a : ModelValue) (b : Refusal)
     → r ≡ Err b → ⊥
 made_or_refused r a b e f = cc
 
-pub loaded_once : (s : State) (edits : List Edit) (x y : Result Unit EditFault)
-    (new after : State) → ¬ (x ≡ Err edit.Memory) → ¬ (y ≡ Err edit.Memory)
+pub loaded_once : (s : CacheState) (edits : List Edit) (x y : Result Unit EditFault)
+    (new after : CacheState) → ¬ (x ≡ Err edit.Memory) → ¬ (y ≡ Err edit.Memory)
     → IsLoaded s edits x new → IsLoaded s edits y after → (x ≡ y) × (new ≡ after)
 loaded_once s edits (Err edit.Memory) y new after m n h k = absurd (m refl)
 loaded_once s edits (Err (edit.Unsupported kind)) y new after m n h k = absurd h
@@ -414,9 +415,9 @@ no_memory : (x : Result (Option ℕ) GroupFault) → ¬ (x ≡ Err group.Memory)
 no_memory (Err group.Memory) m e = m refl
 no_memory _ m e = cc
 
-pub grouped_once : (s : State) → IsCostly (graph_of s.setting) → (edits : List Edit)
-    (x y : Result (Option ℕ) GroupFault) (new after : State) → ¬ (x ≡ Err group.Memory)
-    → ¬ (y ≡ Err group.Memory) → IsGrouped s edits x new → IsGrouped s edits y after
+pub grouped_once : (s : CacheState) → IsCostly (graph_of s.setting) → (edits : List Edit)
+    (x y : Result (Option ℕ) GroupFault) (new after : CacheState) → ¬ (x ≡ Err group.Memory)
+    → ¬ (y ≡ Err group.Memory) → IsGroupAnswer s edits x new → IsGroupAnswer s edits y after
     → (x ≡ y) × (new ≡ after)
 grouped_once s c edits (Err group.Memory) y new after m n h k = absurd (m refl)
 grouped_once s c edits x (Err group.Memory) new after m n h k = absurd (n refl)

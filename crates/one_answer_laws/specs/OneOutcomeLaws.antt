@@ -3,11 +3,11 @@ use Rattle.std.specs.Prelude.{◌≡◌, ◌≢◌, ◌⊎◌, ℕ, true, false,
 use Rattle.std.proofs.Math.Bool.{Bool-set}
 use Rattle.std.proofs.Common.{ap, inl, inr, subst, sym, true≢false, ◌∙◌}
 use Rattle.std.proofs.lemmas.Option.{same_Some}
-use Rattle.adjoint_core.specs.CarriedBack.{IsFirstUnfit}
+use Rattle.adjoint_core.specs.CarriedBack.{IsFirstUnfitAddress}
 use Rattle.bridge_graph.specs.Hypergraph.{IsCostly}
 use Rattle.bridged_report.specs.Places.{place_at}
 use Rattle.cache_layer.specs.Outcome.{IsOptimized, Outcome, answered, at_carrying_back, stopped}
-use Rattle.cache_layer.specs.State.{Bridging, State, leaves}
+use Rattle.cache_layer.specs.CacheState.{Bridging, CacheState, leaves}
 use Rattle.cache_layer.specs.declared.fault.OptFault.{OptFault}
 use Rattle.cache_layer.specs.declared.fault.OptFault.TheVariants.{Limit, Memory, NotAttached, Overflow, TooLarge}
 use Rattle.certificates.specs.declared.certificate.Certificate.{Certificate}
@@ -20,7 +20,7 @@ use Rattle.one_answer_laws.specs.OneUnfitLaws.{first_unfit_told}
 
 -- ---- of one bridging
 
-module _ {s : State} (b : Bridging s) (pivots : ℕ) where
+module _ {s : CacheState} (b : Bridging s) (pivots : ℕ) where
   outcome_once : (x y : Result Certificate OptFault) → Outcome b pivots x → Outcome b pivots y
       → x ≡ y
   outcome_once x y (stopped {fault = f} h) (stopped {fault = g} k) =
@@ -35,18 +35,18 @@ module _ {s : State} (b : Bridging s) (pivots : ℕ) where
       (at_carrying_back other there {place = q} was misfit other_place) =
       let same = answered_once (leaves b) pivots answer other is was in
       let here = (first_unfit_told b.bridging other).once at there
-      (subst (λ a. IsFirstUnfit b.bridging a at) same unfit) misfit in
+      (subst (λ a. IsFirstUnfitAddress b.bridging a at) same unfit) misfit in
       ap (λ p. Err (Overflow p))
       (same_Some _ _ (sym place ∙ ap (place_at s.model) here ∙ other_place))
   outcome_once x y (at_carrying_back answer at is unfit place) (answered other was fits) =
       absurd ((first_unfit_told b.bridging other).unfit at
-      (subst (λ a. IsFirstUnfit b.bridging a at)
+      (subst (λ a. IsFirstUnfitAddress b.bridging a at)
       (answered_once (leaves b) pivots answer other is was) unfit) fits)
   outcome_once x y (answered answer is fits) (stopped {fault = f} h) =
       absurd (never_stopped (leaves b) pivots f answer h is)
   outcome_once x y (answered answer is fits) (at_carrying_back other at was unfit place) =
       absurd ((first_unfit_told b.bridging answer).unfit at
-      (subst (λ a. IsFirstUnfit b.bridging a at)
+      (subst (λ a. IsFirstUnfitAddress b.bridging a at)
       (answered_once (leaves b) pivots other answer was is) unfit) fits)
   outcome_once x y (answered answer is fits) (answered other was fit) =
       ap (λ a. Ok (certificate_of b.bridging a))
@@ -54,7 +54,7 @@ module _ {s : State} (b : Bridging s) (pivots : ℕ) where
 
 -- ---- of any
 
-module _ (s : State) (costly : IsCostly (graph_of s.setting)) (pivots : ℕ) where
+module _ (s : CacheState) (costly : IsCostly (graph_of s.setting)) (pivots : ℕ) where
   abbrev OutcomeBy : Result Certificate OptFault → FreshBridging s.setting s.model → Type 0
   OutcomeBy result bridging =
       (made : is_made bridging ≡ true)

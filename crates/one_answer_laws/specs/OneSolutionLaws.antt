@@ -1,18 +1,18 @@
 -- A leaf model has one answer, or one reason why there is none.
 use Rattle.std.specs.Prelude.{◌≡◌, ◌<◌, ℕ, suc, List, [], ◌∷◌, length, refl}
 use Rattle.std.proofs.Common.{ap, ap₂, arith, sym, subst, ◌∙◌}
-use Rattle.cache_layer.specs.Outcome.{IsAnswered, IsSolved, Stops, at_a_pivot, at_a_right_side, at_reading_back, form_in, out_of_pivots, too_large}
+use Rattle.cache_layer.specs.Outcome.{IsFormSolved, IsReadBackAs, Stops, at_a_pivot, at_a_right_side, at_reading_back, form_in, out_of_pivots, too_large}
 use Rattle.cache_layer.specs.declared.fault.OptFault.{OptFault}
-use Rattle.equality_form.specs.ReadBack.{Answer, AnswerFits, read_back}
+use Rattle.equality_form.specs.ReadBack.{AnswerByAddress, AnswerFits, read_back}
 use Rattle.leaf_model.specs.LeafModel.{LeafModel}
 use Rattle.ratio_core.specs.Rational.{Rational}
 use Rattle.simplex_core.specs.Answer.{IsReadOff}
 use Rattle.simplex_core.specs.declared.answer.SolverAnswer.{SolverAnswer}
 use Rattle.simplex_core.specs.declared.answer.SolverAnswer.TheVariants.{Infeasible, Optimal, Unbounded}
-use Rattle.simplex_form.specs.Basis.{State}
+use Rattle.simplex_form.specs.Basis.{BasisState}
 use Rattle.simplex_form.specs.Board.{ray}
 use Rattle.simplex_form.specs.Form.{Form}
-use Rattle.simplex_form.specs.Outcome.{ended, limited, overflowing}
+use Rattle.simplex_form.specs.TrailOutcome.{ended, limited, overflowing}
 use Rattle.simplex_form.specs.declared.turn.Turn.{Turn}
 use Rattle.simplex_form.specs.declared.turn.Turn.TheVariants as turn
 use Rattle.tableau_core.specs.Row.{cell}
@@ -48,7 +48,7 @@ infeasible_or_unbounded q e = cc
 column_of : (q r : ℕ) → turn.Unbounded q ≡ turn.Unbounded r → q ≡ r
 column_of q r e = cc
 
-module _ (F : Form) (s : State) (t : Turn) where
+module _ (F : Form) (s : BasisState) (t : Turn) where
   read_off_once : (a b : SolverAnswer) → IsReadOff F s t a → IsReadOff F s t b → a ≡ b
   read_off_once (Optimal x y basis) (Optimal u v other) h k =
       let first = listed_once _ _ x u h.1 k.1 in
@@ -79,25 +79,26 @@ module _ (F : Form) (s : State) (t : Turn) where
 
 -- ---- how a trail comes out
 
-ended_state : (s r : State) (t u : Turn) → ended s t ≡ ended r u → s ≡ r
+ended_state : (s r : BasisState) (t u : Turn) → ended s t ≡ ended r u → s ≡ r
 ended_state s r t u e = cc
 
-ended_turn : (s r : State) (t u : Turn) → ended s t ≡ ended r u → t ≡ u
+ended_turn : (s r : BasisState) (t u : Turn) → ended s t ≡ ended r u → t ≡ u
 ended_turn s r t u e = cc
 
-ended_or_limited : (s r : State) (t : Turn) → ended s t ≡ limited r → ⊥
+ended_or_limited : (s r : BasisState) (t : Turn) → ended s t ≡ limited r → ⊥
 ended_or_limited s r t e = cc
 
-ended_or_overflowing : (s r : State) (t : Turn) → ended s t ≡ overflowing r → ⊥
+ended_or_overflowing : (s r : BasisState) (t : Turn) → ended s t ≡ overflowing r → ⊥
 ended_or_overflowing s r t e = cc
 
-limited_or_overflowing : (s r : State) → limited s ≡ overflowing r → ⊥
+limited_or_overflowing : (s r : BasisState) → limited s ≡ overflowing r → ⊥
 limited_or_overflowing s r e = cc
 
 -- ---- a leaf model
 
 module _ (model : LeafModel) (pivots : ℕ) where
-  solved_once : (a b : SolverAnswer) → IsSolved model pivots a → IsSolved model pivots b → a ≡ b
+  solved_once : (a b : SolverAnswer) → IsFormSolved model pivots a → IsFormSolved model pivots b
+      → a ≡ b
   solved_once a b one other =
       let same = sym one.ends ∙ other.ends in
       read_off_once (form_in model) other.state other.turn a b
@@ -107,15 +108,16 @@ module _ (model : LeafModel) (pivots : ℕ) where
       (ended_turn one.state other.state one.turn other.turn same) one.read))
       other.read
 
-  pub answered_once : (a b : Answer) → IsAnswered model pivots a → IsAnswered model pivots b → a ≡ b
+  pub answered_once : (a b : AnswerByAddress) → IsReadBackAs model pivots a
+      → IsReadBackAs model pivots b → a ≡ b
   answered_once a b one other =
       one.read
       ∙ ap (read_back model) (solved_once one.form_answer other.form_answer one.solved other.solved)
       ∙ sym other.read
 
   -- a reason and an answer exclude each other
-  pub never_stopped : (fault : OptFault) (answer : Answer) → Stops model pivots fault
-      → IsAnswered model pivots answer → ⊥
+  pub never_stopped : (fault : OptFault) (answer : AnswerByAddress) → Stops model pivots fault
+      → IsReadBackAs model pivots answer → ⊥
   never_stopped fault answer (too_large more) a = omega (arith, more, a.solved.made.cells)
   never_stopped fault answer (at_a_right_side cells unfit) a = unfit a.solved.made.rights
   never_stopped fault answer (at_a_pivot made state out) a =

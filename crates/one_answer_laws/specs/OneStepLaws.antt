@@ -8,8 +8,8 @@ use Rattle.std.proofs.lemmas.Option.{same_Some}
 use Rattle.bridge_graph.specs.Hypergraph.{Hypergraph, IsCostly}
 use Rattle.bridge_graph.specs.declared.Choice.{Choice}
 use Rattle.bridged_report.specs.Lines.{bridged_text}
-use Rattle.cache_layer.specs.Answers.{Becomes, IsAttached, IsEdited, IsGrouped, IsLoaded, as_edits}
-use Rattle.cache_layer.specs.State.{State, attached, detached, with_model, with_table}
+use Rattle.cache_layer.specs.Answers.{Becomes, IsAttached, IsEdited, IsGroupAnswer, IsLoaded, as_edits}
+use Rattle.cache_layer.specs.CacheState.{CacheState, attached, detached, with_model, with_table}
 use Rattle.cache_layer.specs.declared.fault.AttachFault.{AttachFault}
 use Rattle.cache_layer.specs.declared.fault.AttachFault.TheVariants as attach
 use Rattle.cache_layer.specs.declared.fault.EditFault.{EditFault}
@@ -20,7 +20,7 @@ use Rattle.cache_layer.specs.declared.fault.OptFault.{OptFault}
 use Rattle.cache_layer.specs.declared.fault.OptFault.TheVariants as opt
 use Rattle.certificates.specs.declared.certificate.Certificate.{Certificate}
 use Rattle.edit_engine.specs.Bare.{is_bare}
-use Rattle.edit_engine.specs.Script.{Detaches, DoesAlone, DoesBy, DoesInGroup, DoesSaid, IsChosen, IsCost, IsPlan, LoadsEdits, LoadsWhere, Machine, Shows, Tabled, attach_answer, done, edit_answer, group_answer, load_answer, optimize_answer}
+use Rattle.edit_engine.specs.Script.{AreKindChoices, Detaches, DoesAlone, DoesBy, DoesInGroup, DoesSaid, IsChosen, IsCost, LoadsEdits, LoadsWhere, Machine, ShowsLeaves, Tabled, attach_answer, done, edit_answer, group_answer, load_answer, optimize_answer}
 use Rattle.file_answers.specs.FileAnswers.{fault_answer}
 use Rattle.edit_engine.specs.Tables.{costing, supporting, switched, targeted}
 use Rattle.fresh_bridging.specs.ChoiceLaws.{one_choice}
@@ -61,12 +61,12 @@ GoesOn TooLong = ⊥
 GoesOn answer = Unit {0}
 
 -- a file is one that the shelf tells
-abbrev pub IsKnown : Told → Result Command LineFault → Type 0
-IsKnown shelf (Ok (line.Load name)) = IsSome shelf.files
-IsKnown shelf said = Unit {0}
+abbrev pub IsFileKnown : Told → Result Command LineFault → Type 0
+IsFileKnown shelf (Ok (line.Load name)) = IsSome shelf.files
+IsFileKnown shelf said = Unit {0}
 
 -- one answer, and one state
-abbrev pub Same : Answer → Answer → State → State → Type 0
+abbrev pub Same : Answer → Answer → CacheState → CacheState → Type 0
 Same a b new after = (a ≡ b) × (new ≡ after)
 
 -- ---- plans
@@ -103,7 +103,8 @@ module _ (graph : Hypergraph) (costly : IsCostly graph) where
       (All-tail (IsChosen graph) (kind, c) (zip kinds cs) h)
       (All-tail (IsChosen graph) (kind, d) (zip kinds ds) k))
 
-  plan_once : (cs ds : List (Choice × Option ℕ)) → IsPlan graph cs → IsPlan graph ds → cs ≡ ds
+  plan_once : (cs ds : List (Choice × Option ℕ)) → AreKindChoices graph cs → AreKindChoices graph ds
+      → cs ≡ ds
   plan_once cs ds h k = each_chosen_once KINDS.kinds cs ds h.count k.count h.each k.each
 
 -- ---- what was given, where the answer goes on
@@ -124,7 +125,7 @@ load_goes_on : (x : Result Unit EditFault) (a : Answer) → a ≡ load_answer x 
     → ¬ (x ≡ Err edit.Memory)
 load_goes_on x a is on e = subst GoesOn (is ∙ ap load_answer e) on
 
-optimize_goes_on : (s : State) (x : Result Certificate OptFault) (a : Answer)
+optimize_goes_on : (s : CacheState) (x : Result Certificate OptFault) (a : Answer)
     → a ≡ optimize_answer s.model x → GoesOn a → ¬ (x ≡ Err opt.Memory)
 optimize_goes_on s x a is on e = subst GoesOn (is ∙ ap (optimize_answer s.model) e) on
 
@@ -145,7 +146,7 @@ record IsGiven (shelf : Told) (name : List ℕ) (read : Result (List Edit) FileF
   pub gives : Gives shelf.files name (Ok bytes)
   pub read_as : read ≡ walked (edits_in bytes)
 
-was_given : (s new : State) (shelf : Told) (name : List ℕ) (read : Result (List Edit) FileFault)
+was_given : (s new : CacheState) (shelf : Told) (name : List ℕ) (read : Result (List Edit) FileFault)
     (a : Answer) → GoesOn a → IsReadOf shelf name read → LoadsEdits s read a new
     → IsGiven shelf name read
 was_given s new shelf name read a on (given, may, from) does = by given may from
@@ -171,7 +172,7 @@ read_once shelf name r q told h k =
     (given_once shelf.files name h.bytes k.bytes told h.gives k.gives)
     ∙ sym k.read_as
 
-edits_loaded_once : (s new after : State) (read : Result (List Edit) FileFault) (a b : Answer)
+edits_loaded_once : (s new after : CacheState) (read : Result (List Edit) FileFault) (a b : Answer)
     → GoesOn a → GoesOn b → LoadsEdits s read a new → LoadsEdits s read b after
     → Same a b new after
 edits_loaded_once s new after (Ok edits) a b m n h k =
@@ -180,7 +181,7 @@ edits_loaded_once s new after (Ok edits) a b m n h k =
     (h.2 ∙ ap load_answer one.0 ∙ sym k.2, one.1)
 edits_loaded_once s new after (Err f) a b m n h k = (h.0 ∙ sym k.0, h.1 ∙ sym k.1)
 
-loads_once : (s new after : State) (attached bare : Bool) (shelf : Told) (name : List ℕ)
+loads_once : (s new after : CacheState) (attached bare : Bool) (shelf : Told) (name : List ℕ)
     (a b : Answer) → IsSome shelf.files → GoesOn a → GoesOn b
     → LoadsWhere attached bare shelf s name a new → LoadsWhere attached bare shelf s name b after
     → Same a b new after
@@ -196,13 +197,14 @@ loads_once s new after false true shelf name a b told m n (read, of, does) (othe
 
 -- ---- the solver
 
-detaches_once : (s new after : State) (attached : Bool) (a b : Answer) → Detaches attached s a new
+detaches_once : (s new after : CacheState) (attached : Bool) (a b : Answer)
+    → Detaches attached s a new
     → Detaches attached s b after → Same a b new after
 detaches_once s new after true a b h k = (h.0 ∙ sym k.0, h.1 ∙ sym k.1)
 detaches_once s new after false a b h k = (h.0 ∙ sym k.0, h.1 ∙ sym k.1)
 
-shows_once : (s new after : State) → IsCostly (graph_of s.setting) → (attached : Bool)
-    (a b : Answer) → Shows attached s a new → Shows attached s b after → Same a b new after
+shows_once : (s new after : CacheState) → IsCostly (graph_of s.setting) → (attached : Bool)
+    (a b : Answer) → ShowsLeaves attached s a new → ShowsLeaves attached s b after → Same a b new after
 shows_once s new after costly true a b h k = (
   h.1.0
       ∙ ap (λ l. Printed (bridged_text s.model l))
@@ -235,14 +237,15 @@ set_costs (c ∷ costs) (suc n) x some h =
     set_later c costs (slice_set costs n x) h
     (set_costs costs n x some (λ edge cost e. h (suc edge) cost e))
 
-costing_costly : (s : State) (edge : Edge) (cost : ℕ) → 1 ≤ cost → IsCostly (graph_of s.setting)
+costing_costly : (s : CacheState) (edge : Edge) (cost : ℕ) → 1 ≤ cost
+    → IsCostly (graph_of s.setting)
     → IsCostly (graph_of (with_table s (costing edge cost s.setting.table)).setting)
 costing_costly s edge cost some costly =
     set_costs s.setting.table.cost (edge_number edge) cost some costly
 
 -- ---- a step
 
-tabled_once : (s new after : State) (change : Table → Table) → IsCostly (graph_of s.setting)
+tabled_once : (s new after : CacheState) (change : Table → Table) → IsCostly (graph_of s.setting)
     → IsCostly (graph_of (with_table s (change s.setting.table)).setting) → (a b : Answer)
     → GoesOn a → GoesOn b → Tabled s change a new → Tabled s change b after → Same a b new after
 tabled_once s new after change c d a b m n h k =
@@ -250,9 +253,9 @@ tabled_once s new after change c d a b m n h k =
     (edit_goes_on h.0 a h.2 m) (edit_goes_on k.0 b k.2 n) h.1 k.1 in
     (h.2 ∙ ap edit_answer one.0 ∙ sym k.2, one.1)
 
-module _ (m : Machine) (costly : IsCostly (graph_of m.state.setting)) (new after : State)
+module _ (m : Machine) (costly : IsCostly (graph_of m.state.setting)) (new after : CacheState)
     (a b : Answer) (on : GoesOn a) (on_too : GoesOn b) where
-  alone_once : (command : Command) → CostsSome (Ok command) → IsKnown m.shelf (Ok command)
+  alone_once : (command : Command) → CostsSome (Ok command) → IsFileKnown m.shelf (Ok command)
       → DoesAlone m command a new → DoesAlone m command b after → Same a b new after
   alone_once line.Silent some known h k = (h.0 ∙ sym k.0, h.1 ∙ sym k.1)
   alone_once line.Quit some known h k = (h.0 ∙ sym k.0, h.1 ∙ sym k.1)
@@ -309,7 +312,7 @@ module _ (m : Machine) (costly : IsCostly (graph_of m.state.setting)) (new after
       (h.2 ∙ ap group_answer one.0 ∙ sym k.2, one.1)
   in_group_once edits _ h k = (h.0 ∙ sym k.0, h.1 ∙ sym k.1)
 
-  pub said_once : (said : Result Command LineFault) → CostsSome said → IsKnown m.shelf said
+  pub said_once : (said : Result Command LineFault) → CostsSome said → IsFileKnown m.shelf said
       → DoesSaid m said a new → DoesSaid m said b after → Same a b new after
   said_once (Ok command) some known h k = by m.group h k
     where
@@ -324,42 +327,42 @@ module _ (m : Machine) (costly : IsCostly (graph_of m.state.setting)) (new after
 -- ---- the costs after a step
 
 -- where the state is one of these
-becomes_costly : (old next new : State) → IsCostly (graph_of old.setting)
+becomes_costly : (old next new : CacheState) → IsCostly (graph_of old.setting)
     → IsCostly (graph_of next.setting) → (x : Result (Option ℕ) EditFault)
     → Becomes old next x new → IsCostly (graph_of new.setting)
 becomes_costly old next new c d (Ok None) h =
-    subst (λ (t : State). IsCostly (graph_of t.setting)) (sym h.1) d
+    subst (λ (t : CacheState). IsCostly (graph_of t.setting)) (sym h.1) d
 becomes_costly old next new c d (Ok (Some n)) h =
-    subst (λ (t : State). IsCostly (graph_of t.setting)) (sym h.2) d
+    subst (λ (t : CacheState). IsCostly (graph_of t.setting)) (sym h.2) d
 becomes_costly old next new c d (Err (edit.Unsupported kind)) h =
-    subst (λ (t : State). IsCostly (graph_of t.setting)) (sym h.2) c
+    subst (λ (t : CacheState). IsCostly (graph_of t.setting)) (sym h.2) c
 becomes_costly old next new c d (Err (edit.Overflow place)) h =
-    subst (λ (t : State). IsCostly (graph_of t.setting)) (sym h.2) c
+    subst (λ (t : CacheState). IsCostly (graph_of t.setting)) (sym h.2) c
 becomes_costly old next new c d (Err edit.Memory) h =
-    subst (λ (t : State). IsCostly (graph_of t.setting)) (sym h) c
+    subst (λ (t : CacheState). IsCostly (graph_of t.setting)) (sym h) c
 becomes_costly old next new c d (Err (edit.Refused r)) h = absurd h
 
 -- where it has the same setting
-same_costly : (old other new : State) → IsCostly (graph_of other.setting) → new ≡ other
+same_costly : (old other new : CacheState) → IsCostly (graph_of other.setting) → new ≡ other
     → IsCostly (graph_of new.setting)
-same_costly old other new c e = subst (λ (t : State). IsCostly (graph_of t.setting)) (sym e) c
+same_costly old other new c e = subst (λ (t : CacheState). IsCostly (graph_of t.setting)) (sym e) c
 
-edited_costly : (s new : State) → IsCostly (graph_of s.setting) → (e : Edit)
+edited_costly : (s new : CacheState) → IsCostly (graph_of s.setting) → (e : Edit)
     (x : Result (Option ℕ) EditFault) → IsEdited s e x new → IsCostly (graph_of new.setting)
 edited_costly s new c e (Err (edit.Refused r)) h = same_costly s s new c h.1
 edited_costly s new c e (Err edit.Memory) h = same_costly s (detached s) new c h
 edited_costly s new c e x h =
     becomes_costly s (with_model s (edited s.model e)) new c c x h.1
 
-grouped_costly : (s new : State) → IsCostly (graph_of s.setting) → (edits : List Edit)
-    (x : Result (Option ℕ) GroupFault) → IsGrouped s edits x new
+grouped_costly : (s new : CacheState) → IsCostly (graph_of s.setting) → (edits : List Edit)
+    (x : Result (Option ℕ) GroupFault) → IsGroupAnswer s edits x new
     → IsCostly (graph_of new.setting)
 grouped_costly s new c edits (Err (group.Refused i r)) h = same_costly s s new c h.2
 grouped_costly s new c edits (Err group.Memory) h = same_costly s (detached s) new c h
 grouped_costly s new c edits x h =
     becomes_costly s (with_model s h.0) new c c (as_edits x) h.2
 
-attached_costly : (s new : State) → IsCostly (graph_of s.setting) → (x : Result ℕ AttachFault)
+attached_costly : (s new : CacheState) → IsCostly (graph_of s.setting) → (x : Result ℕ AttachFault)
     → IsAttached s x new → IsCostly (graph_of new.setting)
 attached_costly s new c (Ok n) h = same_costly s (attached s) new c h.2
 attached_costly s new c (Err attach.AlreadyAttached) h = same_costly s s new c h.1
@@ -367,7 +370,7 @@ attached_costly s new c (Err (attach.Unsupported kind)) h = same_costly s s new 
 attached_costly s new c (Err (attach.Overflow place)) h = same_costly s s new c h.2
 attached_costly s new c (Err attach.Memory) h = same_costly s s new c h.1
 
-loaded_costly : (s new : State) → IsCostly (graph_of s.setting) → (edits : List Edit)
+loaded_costly : (s new : CacheState) → IsCostly (graph_of s.setting) → (edits : List Edit)
     (x : Result Unit EditFault) → IsLoaded s edits x new → IsCostly (graph_of new.setting)
 loaded_costly s new c edits (Ok done) h = same_costly s (with_model s new.model) new c h.1
 loaded_costly s new c edits (Err (edit.Refused r)) h = same_costly s s new c h.1
@@ -375,30 +378,30 @@ loaded_costly s new c edits (Err edit.Memory) h = same_costly s s new c h
 loaded_costly s new c edits (Err (edit.Unsupported kind)) h = absurd h
 loaded_costly s new c edits (Err (edit.Overflow place)) h = absurd h
 
-edits_costly : (s new : State) → IsCostly (graph_of s.setting)
+edits_costly : (s new : CacheState) → IsCostly (graph_of s.setting)
     → (read : Result (List Edit) FileFault) (a : Answer) → LoadsEdits s read a new
     → IsCostly (graph_of new.setting)
 edits_costly s new c (Ok edits) a h = loaded_costly s new c edits h.0 h.1
 edits_costly s new c (Err f) a h = same_costly s s new c h.1
 
-loads_costly : (s new : State) → IsCostly (graph_of s.setting) → (attached bare : Bool)
+loads_costly : (s new : CacheState) → IsCostly (graph_of s.setting) → (attached bare : Bool)
     (shelf : Told) (name : List ℕ) (a : Answer) → LoadsWhere attached bare shelf s name a new
     → IsCostly (graph_of new.setting)
 loads_costly s new c true bare shelf name a h = same_costly s s new c h.1
 loads_costly s new c false false shelf name a h = same_costly s s new c h.1
 loads_costly s new c false true shelf name a (read, of, does) = edits_costly s new c read a does
 
-detaches_costly : (s new : State) → IsCostly (graph_of s.setting) → (attached : Bool)
+detaches_costly : (s new : CacheState) → IsCostly (graph_of s.setting) → (attached : Bool)
     (a : Answer) → Detaches attached s a new → IsCostly (graph_of new.setting)
 detaches_costly s new c true a h = same_costly s (detached s) new c h.1
 detaches_costly s new c false a h = same_costly s s new c h.1
 
-shows_costly : (s new : State) → IsCostly (graph_of s.setting) → (attached : Bool) (a : Answer)
-    → Shows attached s a new → IsCostly (graph_of new.setting)
+shows_costly : (s new : CacheState) → IsCostly (graph_of s.setting) → (attached : Bool) (a : Answer)
+    → ShowsLeaves attached s a new → IsCostly (graph_of new.setting)
 shows_costly s new c true a h = same_costly s s new c h.1.1
 shows_costly s new c false a h = same_costly s s new c h.1
 
-module _ (m : Machine) (costly : IsCostly (graph_of m.state.setting)) (new : State)
+module _ (m : Machine) (costly : IsCostly (graph_of m.state.setting)) (new : CacheState)
     (a : Answer) where
   alone_costly : (command : Command) → CostsSome (Ok command) → DoesAlone m command a new
       → IsCostly (graph_of new.setting)

@@ -4,7 +4,7 @@ use Rattle.std.specs.Prelude.{◌≡◌, ◌++◌, ◌||◌, ℕ, Bool, true, fa
 use Rattle.std.proofs.Common.{ap, ap₂, subst, sym, ◌∙◌}
 use Rattle.std.proofs.lemmas.List.Elements.{All-head, All-tail}
 use Rattle.bridge_graph.specs.Hypergraph.{IsCostly}
-use Rattle.cache_layer.specs.State.{State}
+use Rattle.cache_layer.specs.CacheState.{CacheState}
 use Rattle.edit_engine.specs.Lines.{Answers, Prints, accepted, next, none, quit, refusal, silent}
 use Rattle.edit_engine.specs.Script.{Machine, Steps, group_after, moved}
 use Rattle.fresh_bridging.specs.TheRules.{graph_of}
@@ -13,11 +13,11 @@ use Rattle.report_core.specs.declared.answer.Answer.{Answer}
 use Rattle.report_core.specs.declared.answer.Answer.TheVariants.{Printed, Refused}
 use Rattle.script_core.specs.Line.{line_said}
 use Rattle.one_answer_laws.specs.CostLaws.{line_some}
-use Rattle.one_answer_laws.specs.OneStepLaws.{GoesOn, IsKnown, said_costly, said_once}
+use Rattle.one_answer_laws.specs.OneStepLaws.{GoesOn, IsFileKnown, said_costly, said_once}
 
 -- where one of the lines loads a file, the shelf tells its files
 abbrev pub AreKnown : Told → List (List ℕ) → Type 0
-AreKnown shelf lines = All (λ line. IsKnown shelf (line_said line)) lines
+AreKnown shelf lines = All (λ line. IsFileKnown shelf (line_said line)) lines
 
 -- one text, one word on whether a line was refused, and one machine
 abbrev pub OneText : Type 0
@@ -60,7 +60,7 @@ record LeavesOne (m new after : Machine) (a b : Answer) : Type 0 where
   pub shelf : after.shelf ≡ m.shelf
 
 step_once : (m : Machine) → IsCostly (graph_of m.state.setting) → (line : List ℕ)
-    → IsKnown m.shelf (line_said line) → (a b : Answer) (new after : Machine) → GoesOn a
+    → IsFileKnown m.shelf (line_said line) → (a b : Answer) (new after : Machine) → GoesOn a
     → GoesOn b → Steps m line a new → Steps m line b after → LeavesOne m new after a b
 step_once m costly line known a b new after on on_too h k =
     let one = said_once m costly new.state after.state a b on on_too (line_said line)
@@ -69,7 +69,7 @@ step_once m costly line known a b new after on on_too h k =
       answer = one.0;
       machine =
           h.1
-          ∙ ap₂ (λ (s : State) (said : Answer). moved m s (group_after m.group (line_said line) said))
+          ∙ ap₂ (λ (s : CacheState) (said : Answer). moved m s (group_after m.group (line_said line) said))
           one.1 one.0
           ∙ sym k.1;
       costly = said_costly m costly after.state b (line_said line) (line_some line) k.0;
@@ -88,11 +88,11 @@ one_text start costly (line ∷ lines) known text other any was new after
     let p = is_printed prints in
     let q = is_printed printed in
     let one = step_once start costly line
-    (All-head (λ l. IsKnown start.shelf (line_said l)) line lines known) a b m n p.goes_on q.goes_on steps
+    (All-head (λ l. IsFileKnown start.shelf (line_said l)) line lines known) a b m n p.goes_on q.goes_on steps
     stepped in
     let others = one_text n one.costly lines
     (subst (λ shelf. AreKnown shelf lines) (sym one.shelf)
-    (All-tail (λ l. IsKnown start.shelf (line_said l)) line lines known))
+    (All-tail (λ l. IsFileKnown start.shelf (line_said l)) line lines known))
     more further v y new after (subst (λ k. Answers k lines more v new) one.machine rest) left in (
       ap₂ (λ f r. f ++ r) (p.same_text ∙ ap printed_text one.answer ∙ sym q.same_text) others.0,
       ap₂ (λ f r. f || r) (p.same_was ∙ ap is_refusal one.answer ∙ sym q.same_was) others.1,

@@ -6,7 +6,7 @@ use Rattle.std.proofs.Common.{sym, ap₂, ap, ◌∙◌, subst}
 use Rattle.bridge_graph.specs.declared.Choice.{Choice}
 use Rattle.bridge_graph.specs.declared.Choice.TheVariants.{By, Missing, Native}
 use Rattle.expansion.specs.Bridged.{Bridged, EachBridged, EachBridgedIn, Fresh, by, each, each_in, natively, none, none_in}
-use Rattle.expansion.specs.Rules.{Image, Rules}
+use Rattle.expansion.specs.Rules.{ItemChildren, Rules}
 
 -- ---- that two choices are the same is a fact alone
 
@@ -112,7 +112,7 @@ module _ {Item Entry : Type 0} (rules : Rules Item Entry) where
 
   -- ---- a model
 
-  pub fresh_once : {model : Image Item} (one other : Fresh rules model) → one ≡ other
+  pub fresh_once : {model : ItemChildren Item} (one other : Fresh rules model) → one ≡ other
   fresh_once {model} one other =
       subst
       (λ (x : EachWhole model.groups). (os : EachBridgedIn rules x.0 model.others)

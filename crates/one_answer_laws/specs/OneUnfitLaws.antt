@@ -3,12 +3,12 @@
 use Rattle.std.specs.Prelude.{◌≡◌, ℕ, zero, suc, List, [], ◌∷◌, All}
 use Rattle.std.proofs.Common.{inl, inr, sym, ◌∙◌}
 use Rattle.std.proofs.lemmas.List.Elements.{All-head, All-tail}
-use Rattle.adjoint_core.specs.CarriedBack.{AllFits, GapFits, IsFirstUnfit, RowFits, RowsFit, Then, UnfitGap, UnfitRow}
+use Rattle.adjoint_core.specs.CarriedBack.{AllFits, GapFits, IsFirstUnfitAddress, RowFits, RowsFit, Then, UnfitGap, UnfitRow}
 use Rattle.adjoint_core.specs.Told.{FirstNot}
 use Rattle.aff_core.specs.Address.{Address}
 use Rattle.cert_core.specs.Folds.{AddUp, gap_parts_of}
 use Rattle.dual_laws.specs.Held.{DualRow}
-use Rattle.equality_form.specs.ReadBack.{Answer, infeasible, optimal, unbounded}
+use Rattle.equality_form.specs.ReadBack.{AnswerByAddress, infeasible, optimal, unbounded}
 use Rattle.expansion.specs.Bridged.{EachBridgedIn, each_in, none_in}
 use Rattle.expansion.specs.Rules.{Rules}
 use Rattle.fresh_bridging.specs.Entries.{Entry}
@@ -17,7 +17,7 @@ use Rattle.fresh_bridging.specs.TheRules.{Setting}
 use Rattle.item_core.specs.declared.item.Item.{Item}
 use Rattle.ratio_core.specs.Folds.{sum_from}
 use Rattle.ratio_core.specs.Rational.{Rational}
-use Rattle.tree_laws.specs.Carried.{LeafDuals}
+use Rattle.tree_laws.specs.Carried.{LeafAnswerDuals}
 use Rattle.user_model.specs.Model.{ModelValue}
 
 -- one address at most is reported, and none where all fits
@@ -66,7 +66,7 @@ first_not_told P place (x ∷ xs) =
     told_less (λ h. (All-head P x xs h, All-tail P x xs h))
     (told_then (told_at (P x) (place x)) (first_not_told P place xs))
 
-module _ {rules : Rules Item Entry} (d : LeafDuals) where
+module _ {rules : Rules Item Entry} (d : LeafAnswerDuals) where
   unfit_row_told : (n : ℕ) {inner : List Entry} {items : List Item}
       (others : EachBridgedIn rules inner items)
       → IsTold (RowsFit d n others) (UnfitRow d n others)
@@ -87,8 +87,8 @@ unfit_gap_told sum (h ∷ hs) =
 -- ---- answers
 
 pub first_unfit_told : {setting : Setting} {model : ModelValue}
-    (bridging : FreshBridging setting model) (answer : Answer)
-    → IsTold (AllFits bridging answer) (IsFirstUnfit bridging answer)
+    (bridging : FreshBridging setting model) (answer : AnswerByAddress)
+    → IsTold (AllFits bridging answer) (IsFirstUnfitAddress bridging answer)
 first_unfit_told bridging (optimal x y) =
     told_then (first_not_told _ _ _) (told_then (unfit_row_told _ _ bridging.made.others)
     (told_then (first_not_told _ _ _) (told_at _ _)))

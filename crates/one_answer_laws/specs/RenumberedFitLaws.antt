@@ -5,7 +5,7 @@ use Rattle.std.proofs.Common.{ap, ap₂, inl, inr, subst, sym, ◌∙◌}
 use Rattle.std.proofs.lemmas.List.{length-map, map-append}
 use Rattle.std.proofs.lemmas.List.Elements.{All-map, All-weaker}
 use Rattle.std.specs.List.{zip}
-use Rattle.adjoint_core.specs.CarriedBack.{AdjointFits, AllFits, BothFit, DualFits, GapFits, IsFirstUnfit, RowFits, RowsFit, Then, UnfitGap, UnfitRow, ValueFits, gap_parts_placed, group_place, placed, placed_groups, placed_rows, users}
+use Rattle.adjoint_core.specs.CarriedBack.{AdjointFits, AllFits, GapFits, IsFirstUnfitAddress, PointAndRayFit, RowFits, RowsFit, Then, UnfitGap, UnfitRow, VariableDualFits, VariableValueFits, gap_parts_placed, group_place, placed, placed_groups, placed_rows, users}
 use Rattle.adjoint_core.specs.Told.{FirstNot}
 use Rattle.adjoint_core.specs.Walk.{row_place}
 use Rattle.aff_core.specs.Address.{Address, root_address}
@@ -13,11 +13,11 @@ use Rattle.aff_core.specs.Function.{Function, terms_of}
 use Rattle.aff_core.specs.declared.root.Root.TheVariants as root
 use Rattle.bridge_face.specs.BackOf.{AcrossFits, BackFits, BackFitsBy, first_of, tail_of}
 use Rattle.bridge_face.specs.ImageOf.{image_of}
-use Rattle.cert_core.specs.Folds.{AddUp, CostFits, EvaluationFits, ObjectiveFits, adjoint_parts, gap_parts_of, products, products_at}
+use Rattle.cert_core.specs.Folds.{AddUp, CostFits, EvaluationFits, ObjectiveValueFits, adjoint_parts, gap_parts_of, products, products_at}
 use Rattle.certificates.specs.Duals.{groups_with, rows_with}
 use Rattle.certificates.specs.Points.{at_point, objective_function}
 use Rattle.dual_laws.specs.Held.{DualRow}
-use Rattle.equality_form.specs.ReadBack.{Answer, infeasible, optimal, unbounded}
+use Rattle.equality_form.specs.ReadBack.{AnswerByAddress, infeasible, optimal, unbounded}
 use Rattle.expansion.specs.Bridged.{Bridged, EachBridgedIn}
 use Rattle.expansion.specs.Rules.{Rules}
 use Rattle.fresh_bridging.specs.Entries.{Entry, function_in}
@@ -31,13 +31,13 @@ use Rattle.ratio_core.specs.Folds.{FoldFits, sum_from}
 use Rattle.ratio_core.specs.Rational.{Rational, one_ℚ, zero_ℚ, ◌*ℚ◌}
 use Rattle.rational_laws.specs.Dot.{negated}
 use Rattle.set_core.specs.Membership.{low_of}
-use Rattle.tree_laws.specs.Carried.{LeafDuals, backs}
+use Rattle.tree_laws.specs.Carried.{LeafAnswerDuals, backs}
 use Rattle.tree_laws.specs.Certificate.{cancelling, infeasible_duals, optimal_duals, point_of, rows_of}
 use Rattle.user_model.specs.Model.{ModelValue}
 use Rattle.map_laws.specs.EachLaws.{all_from_map, zip_of_maps}
 use Rattle.renumbering_laws.specs.RenamedDuals.{DualsAgree, backs_alike, row_count-renamed}
 use Rattle.renumbering_laws.specs.RenamedEntries.{renamed_entry}
-use Rattle.renumbering_laws.specs.RenamedForm.{Agree, AnswersAgree, map_kept}
+use Rattle.renumbering_laws.specs.RenamedForm.{AgreeRenamed, AnswersAgree, map_kept}
 use Rattle.renumbering_laws.specs.RenamedFunctions.{constant-renamed, terms-renamed}
 use Rattle.renumbering_laws.specs.RenamedItems.{IsRenaming, map_either, renamed, renamed_item, size-renamed}
 use Rattle.renumbering_laws.specs.RenamedTrees.{Alike, InAlike, alike_by, alike_each_in, alike_native, alike_none_in}
@@ -108,7 +108,7 @@ module _ (σ : Address → Address) where
 -- ---- functions, rows and gaps
 
 module _ (σ : Address → Address) (r : IsRenaming σ) where
-  evaluation_fits : (one : Rational) (f : Function) (x y : Address → Rational) → Agree σ x y
+  evaluation_fits : (one : Rational) (f : Function) (x y : Address → Rational) → AgreeRenamed σ x y
       → EvaluationFits one (renamed σ f) y ≡ EvaluationFits one f x
   evaluation_fits one f x y same =
       ap₂ (λ c ts. AddUp (one *ℚ c) (products_at ts y)) (constant-renamed σ r.order f)
@@ -160,7 +160,7 @@ module _ (σ : Address → Address) (r : IsRenaming σ) where
       ap (λ n. AcrossFits (n - 1) (tail_of (first_of ys))) (size-renamed σ r item.body)
   by_family _ item ys = refl
 
-  module _ (rules : Rules Item Entry) (g : Entry → Entry) (d e : LeafDuals)
+  module _ (rules : Rules Item Entry) (g : Entry → Entry) (d e : LeafAnswerDuals)
       (same : DualsAgree σ d e) where
     abbrev NodeFits : ℕ → Item → (ℕ → Type 0) → List (List Rational) → Type 0
     NodeFits edge item Fits ys =
@@ -237,7 +237,7 @@ module _ (ν : Renumbering) (rising : IsRising ν) (model : ModelValue) where
       (stage_list σ P Q same (users model))
 
   objective_fits : (x : List Rational)
-      → ObjectiveFits renewed one_ℚ x ≡ ObjectiveFits model one_ℚ x
+      → ObjectiveValueFits renewed one_ℚ x ≡ ObjectiveValueFits model one_ℚ x
   objective_fits x =
       ap (λ f. EvaluationFits one_ℚ f (at_point renewed x))
       (objective_function-renumbered ν rising model.objective)
@@ -251,7 +251,7 @@ module _ (ν : Renumbering) (rising : IsRising ν) (model : ModelValue) where
         (rows_with-renumbered ν rising rows model.rows)
         ∙ ap (AddUp zero_ℚ) (adjoint_parts-renamed σ r (rows_with rows model.rows) v)
 
-    dual_fits : (v : Address) → DualFits renewed rows (σ v) ≡ DualFits model rows v
+    dual_fits : (v : Address) → VariableDualFits renewed rows (σ v) ≡ VariableDualFits model rows v
     dual_fits v =
         λ i. adjoint_fits v i × CostFits (sense-renumbered ν model.objective i)
         (objective_coefficient-renumbered ν rising model v i)
@@ -285,7 +285,7 @@ module _ (ν : Renumbering) (rising : IsRising ν) {setting : Setting} {model : 
   abbrev other_expression : Address → Function
   other_expression = function_in m.made.entries
 
-  variable_fits : (one : Rational) (x y : Address → Rational) → Agree (renumbered ν) x y
+  variable_fits : (one : Rational) (x y : Address → Rational) → AgreeRenamed (renumbered ν) x y
       → (v : Address)
       → EvaluationFits one (other_expression (renumbered ν v)) y
       ≡ EvaluationFits one (expression v) x
@@ -293,7 +293,7 @@ module _ (ν : Renumbering) (rising : IsRising ν) {setting : Setting} {model : 
       ap (λ f. EvaluationFits one f y) (expression-renumbered ν rising b m v)
       ∙ evaluation_fits (renumbered ν) (renumbers ν rising) one (expression v) x y same
 
-  stage_all_rows : (d e : LeafDuals) → DualsAgree (renumbered ν) d e
+  stage_all_rows : (d e : LeafAnswerDuals) → DualsAgree (renumbered ν) d e
       → IsStage (renumbered ν) (RowsFit d (length model.rows) b.made.others)
       (RowsFit e (length (renumbered_model ν model).rows) m.made.others)
       (UnfitRow d (length model.rows) b.made.others)
@@ -315,9 +315,9 @@ module _ (ν : Renumbering) (rising : IsRising ν) {setting : Setting} {model : 
         ∙ adjoint_fits ν rising model rows v
 
     other_dual_fits : (v : Address)
-        → DualFits (renumbered_model ν model) more (renumbered ν v) ≡ DualFits model rows v
+        → VariableDualFits (renumbered_model ν model) more (renumbered ν v) ≡ VariableDualFits model rows v
     other_dual_fits v =
-        ap (λ rs. DualFits (renumbered_model ν model) rs (renumbered ν v)) same
+        ap (λ rs. VariableDualFits (renumbered_model ν model) rs (renumbered ν v)) same
         ∙ dual_fits ν rising model rows v
 
     stage_whole_gap : IsStage (renumbered ν) (GapFits zero_ℚ (gap_parts_placed model rows))
@@ -333,30 +333,30 @@ module _ (ν : Renumbering) (rising : IsRising ν) {setting : Setting} {model : 
         ∙ placed-renumbered ν rising model rows (cancelling b rows)))
         (stage_gap (renumbered ν) (renumbers ν rising) zero_ℚ (gap_parts_placed model rows))
 
-  pub stage_answer : (one other : Answer) → AnswersAgree (renumbered ν) one other
-      → IsStage (renumbered ν) (AllFits b one) (AllFits second other) (IsFirstUnfit b one)
-      (IsFirstUnfit second other)
+  pub stage_answer : (one other : AnswerByAddress) → AnswersAgree (renumbered ν) one other
+      → IsStage (renumbered ν) (AllFits b one) (AllFits second other) (IsFirstUnfitAddress b one)
+      (IsFirstUnfitAddress second other)
   stage_answer (optimal x y) (optimal u w) same =
       let d = optimal_duals b y in
       let e = optimal_duals second w in
       let agree : DualsAgree (renumbered ν) d e = record { objective = refl; duals = same.1 } in
       let rows : rows_of second e ≡ rows_of b d = rows-renumbered ν rising b m d e agree in
-      let goal : ObjectiveFits (renumbered_model ν model) one_ℚ (point_of second u)
-      ≡ ObjectiveFits model one_ℚ (point_of b x) =
-      ap (ObjectiveFits (renumbered_model ν model) one_ℚ)
+      let goal : ObjectiveValueFits (renumbered_model ν model) one_ℚ (point_of second u)
+      ≡ ObjectiveValueFits model one_ℚ (point_of b x) =
+      ap (ObjectiveValueFits (renumbered_model ν model) one_ℚ)
       (point-renumbered ν rising b m x u same.0)
       ∙ objective_fits ν rising model (point_of b x) in
       stage_then (renumbered ν)
-      (stage_users ν rising model (ValueFits model expression x)
-      (ValueFits (renumbered_model ν model) other_expression u)
+      (stage_users ν rising model (VariableValueFits model expression x)
+      (VariableValueFits (renumbered_model ν model) other_expression u)
       (variable_fits one_ℚ x u same.0))
       (stage_then (renumbered ν) (stage_all_rows d e agree)
       (stage_then (renumbered ν)
-      (stage_users ν rising model (DualFits model (rows_of b d))
-      (DualFits (renumbered_model ν model) (rows_of second e))
+      (stage_users ν rising model (VariableDualFits model (rows_of b d))
+      (VariableDualFits (renumbered_model ν model) (rows_of second e))
       (other_dual_fits (rows_of b d) (rows_of second e) rows))
-      (stage_at (renumbered ν) (ObjectiveFits model one_ℚ (point_of b x))
-      (ObjectiveFits (renumbered_model ν model) one_ℚ (point_of second u)) goal
+      (stage_at (renumbered ν) (ObjectiveValueFits model one_ℚ (point_of b x))
+      (ObjectiveValueFits (renumbered_model ν model) one_ℚ (point_of second u)) goal
       (root_address root.Objective 0) (root_address root.Objective 0) refl)))
   stage_answer (infeasible y) (infeasible w) same =
       let d = infeasible_duals b y in
@@ -370,7 +370,7 @@ module _ (ν : Renumbering) (rising : IsRising ν) {setting : Setting} {model : 
       (other_adjoint_fits (rows_of b d) (rows_of second e) rows))
       (stage_whole_gap (rows_of b d) (rows_of second e) rows))
   stage_answer (unbounded x d) (unbounded u e) same =
-      stage_users ν rising model (BothFit model expression x d)
-      (BothFit (renumbered_model ν model) other_expression u e)
+      stage_users ν rising model (PointAndRayFit model expression x d)
+      (PointAndRayFit (renumbered_model ν model) other_expression u e)
       (λ v i. variable_fits one_ℚ x u same.0 v i × variable_fits zero_ℚ d e same.1 v i)
   stage_answer _ _ same = absurd same

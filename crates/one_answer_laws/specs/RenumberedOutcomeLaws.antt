@@ -2,18 +2,18 @@
 use Rattle.std.specs.Prelude.{◌≡◌, ◌-◌, ◌<◌, ◌≤◌, ◌^◌, ℕ, Result, Ok, Err, min, refl}
 use Rattle.std.proofs.Common.{ap, subst, sym, ◌∙◌}
 use Rattle.aff_core.specs.Address.{Address}
-use Rattle.cache_layer.specs.Outcome.{IsAnswered, IsMade, IsOptimized, IsSolved, Outcome, Stops, answered, at_a_pivot, at_a_right_side, at_carrying_back, at_reading_back, form_in, out_of_pivots, stopped, too_large}
-use Rattle.cache_layer.specs.State.{Bridging, State, leaves}
+use Rattle.cache_layer.specs.Outcome.{IsFormMade, IsFormSolved, IsOptimized, IsReadBackAs, Outcome, Stops, answered, at_a_pivot, at_a_right_side, at_carrying_back, at_reading_back, form_in, out_of_pivots, stopped, too_large}
+use Rattle.cache_layer.specs.CacheState.{Bridging, CacheState, leaves}
 use Rattle.cache_layer.specs.declared.fault.OptFault.{OptFault}
 use Rattle.cache_layer.specs.declared.fault.OptFault.TheVariants.{Limit, Memory, NotAttached, Overflow, TooLarge}
 use Rattle.certificates.specs.declared.certificate.Certificate.{Certificate}
-use Rattle.equality_form.specs.ReadBack.{Answer, read_back}
+use Rattle.equality_form.specs.ReadBack.{AnswerByAddress, read_back}
 use Rattle.leaf_model.specs.LeafModel.{LeafModel}
 use Rattle.report_core.specs.Refused.{most_cells}
 use Rattle.simplex_core.specs.Answer.{IsReadOff}
 use Rattle.simplex_core.specs.StdForm.{equality_form}
 use Rattle.simplex_core.specs.declared.answer.SolverAnswer.{SolverAnswer}
-use Rattle.simplex_form.specs.Outcome.{outcome}
+use Rattle.simplex_form.specs.TrailOutcome.{outcome}
 use Rattle.renumbering_laws.specs.RenamedForm.{AnswersAgree, answer_fits, answer_fitted, cell_count-renamed, form-renamed, read_back-renamed, rights_fit, rights_fitted}
 use Rattle.renumbering_laws.specs.RenamedItems.{IsRenaming}
 use Rattle.renumbering_laws.specs.RenamedLeaves.{AreRenamedLeaves}
@@ -29,13 +29,13 @@ module _ (σ : Address → Address) (r : IsRenaming σ) (one other : LeafModel)
   same_form : form_in other ≡ form_in one
   same_form = ap equality_form (form-renamed σ r one other l)
 
-  made : IsMade one → IsMade other
+  made : IsFormMade one → IsFormMade other
   made h = record {
     cells = subst (λ n. n ≤ most_cells) (sym (cell_count-renamed σ r one other l)) h.cells;
     rights = rights_fit σ r one other l h.rights;
   }
 
-  solved : (a : SolverAnswer) → IsSolved one pivots a → IsSolved other pivots a
+  solved : (a : SolverAnswer) → IsFormSolved one pivots a → IsFormSolved other pivots a
   solved a h = record {
     made = made h.made;
     state = h.state;
@@ -60,8 +60,8 @@ module _ (σ : Address → Address) (r : IsRenaming σ) (one other : LeafModel)
   stops (at_reading_back a is unfit) =
       at_reading_back a (solved a is) (λ h. unfit (answer_fitted σ r one other l a h))
 
-  answers : (a : Answer) → IsAnswered one pivots a
-      → (b : Answer) × IsAnswered other pivots b × AnswersAgree σ a b
+  answers : (a : AnswerByAddress) → IsReadBackAs one pivots a
+      → (b : AnswerByAddress) × IsReadBackAs other pivots b × AnswersAgree σ a b
   answers a h = (
     read_back other h.form_answer,
     record {
@@ -76,10 +76,10 @@ module _ (σ : Address → Address) (r : IsRenaming σ) (one other : LeafModel)
 
 -- ---- states
 
-abbrev pub renumbered_state : Renumbering → State → State
+abbrev pub renumbered_state : Renumbering → CacheState → CacheState
 renumbered_state ν s = record s { model = renumbered_model ν s.model }
 
-module _ (ν : Renumbering) (rising : IsRising ν) (s : State) where
+module _ (ν : Renumbering) (rising : IsRising ν) (s : CacheState) where
   abbrev moved : (b : Bridging s) → Renumbered ν rising b.bridging
   moved b = renumbered_bridging ν rising b.bridging
 

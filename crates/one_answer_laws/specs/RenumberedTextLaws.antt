@@ -12,7 +12,7 @@ use Rattle.aff_core.specs.declared.root.Root.{Root}
 use Rattle.aff_core.specs.declared.root.Root.TheVariants.{Variable, Group, Row, Objective}
 use Rattle.bridged_report.specs.Addresses.{address_text, group_name, position_text, root_text, row_name, written}
 use Rattle.bridged_report.specs.Functions.{components_text, constant_texts, function_text, sum_text, term_text}
-use Rattle.bridged_report.specs.Lines.{Line, body_text, bridged_text, in_order, joined, objective_line, put_before, row_line, sense_text, variable_line, var_text}
+use Rattle.bridged_report.specs.Lines.{LeafLine, body_text, bridged_text, in_order, joined, objective_line, put_before, row_line, sense_text, variable_line, var_text}
 use Rattle.bridged_report.specs.Places.{place_at, place_from}
 use Rattle.bridged_report.specs.Sets.{set_text}
 use Rattle.cert_text.specs.Text as certificates
@@ -174,7 +174,7 @@ module _ (ν : Renumbering) (rising : IsRising ν) (model : ModelValue) where
 
   -- ---- lines
 
-  abbrev moved_line : Line → Line
+  abbrev moved_line : LeafLine → LeafLine
   moved_line line = (renumbered ν line.0, line.1)
 
   variable_line-renumbered : (e : Address × LeafVar)
@@ -197,7 +197,7 @@ module _ (ν : Renumbering) (rising : IsRising ν) (model : ModelValue) where
   objective_line-renumbered e =
       ap (λ text. (renumbered ν e.0, text ++ newline)) (body_text-renumbered e.1)
 
-  put_before-moved : (line : Line) (lines : List Line)
+  put_before-moved : (line : LeafLine) (lines : List LeafLine)
       → put_before (moved_line line) (map moved_line lines) ≡ map moved_line (put_before line lines)
   put_before-moved line [] = refl
   put_before-moved line (other ∷ others) =
@@ -214,14 +214,14 @@ module _ (ν : Renumbering) (rising : IsRising ν) (model : ModelValue) where
       over true = refl
       over false = refl
 
-  in_order-moved : (lines : List Line)
+  in_order-moved : (lines : List LeafLine)
       → in_order (map moved_line lines) ≡ map moved_line (in_order lines)
   in_order-moved [] = refl
   in_order-moved (line ∷ lines) =
       ap (put_before (moved_line line)) (in_order-moved lines)
       ∙ put_before-moved line (in_order lines)
 
-  joined-moved : (lines : List Line) → joined (map moved_line lines) ≡ joined lines
+  joined-moved : (lines : List LeafLine) → joined (map moved_line lines) ≡ joined lines
   joined-moved [] = refl
   joined-moved (line ∷ lines) = ap (λ t. line.1 ++ t) (joined-moved lines)
 

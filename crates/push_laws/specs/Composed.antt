@@ -13,9 +13,9 @@ use Rattle.bridge_set.specs.Adding.{AreFree, with_each}
 use Rattle.bridge_set.specs.Bridges.{AreKeepable, families_of, kept_by}
 use Rattle.bridge_set.specs.Letting.{kept_count, without_found}
 use Rattle.bridge_set.specs.Nodes.{HoldNodes, nodes_by}
-use Rattle.bridge_face.specs.State.{Kept, State}
-use Rattle.bridge_plan.specs.Adds.{kept_of}
-use Rattle.bridge_plan.specs.Worked.{IsWithin}
+use Rattle.bridge_face.specs.BridgeState.{BridgeState, KeptByAddress}
+use Rattle.bridge_plan.specs.AddsHeld.{kept_of}
+use Rattle.bridge_plan.specs.Worked.{IsItemWithinLevels}
 use Rattle.expansion.specs.Read.{model_leaves}
 use Rattle.found_plan.specs.Stood.{old_leaves}
 use Rattle.fresh_bridging.specs.Entries.{Entry, put_in}
@@ -35,7 +35,7 @@ use Rattle.local_laws.specs.Views.{of_nodes}
 use Rattle.map_laws.specs.EachLaws.{all_from_map}
 use Rattle.model_bridging.specs.Found.{found_others}
 use Rattle.model_bridging.specs.ModelHeld.{unfit_put}
-use Rattle.model_bridging.specs.Outcome.{IsFirstAt}
+use Rattle.model_bridging.specs.PlanOutcome.{IsFirstAt}
 use Rattle.push_laws.specs.Edits.{AreChanging, AttachedEdit, IsMappedAnew, IsSearch, IsStandingFor, PlannedEdit, choice_here, missing_others, old_here, setting_here, sound_before, sound_behind, HoldsBridging, contents_name}
 use Rattle.push_laws.specs.FreeLaws.{free_after, to_be_kept}
 use Rattle.push_laws.specs.FurtherLaws.{agree_here}
@@ -65,7 +65,7 @@ module _ (e : AttachedEdit) (changed addresses : List Address) (rows : List Row)
   new_found = bridged e changed addresses rows objective search standing changing trees
 
   pub others_within :
-      All (λ item. IsWithin (choice_here e) kind_count (put_in further item)) (found_others rows objective)
+      All (λ item. IsItemWithinLevels (choice_here e) kind_count (put_in further item)) (found_others rows objective)
   others_within =
       within_here e new_found standing changed addresses rows objective search changing further
       stands
@@ -150,7 +150,7 @@ module _ (e : AttachedEdit) (s : PlannedEdit e) where
       stay_here (families_of e.bridges.states)
       (nodes_are (setting_here e) e.sound.costly e.sound.lawful e.native e.after e.valid new_here))
 
-  module _ (states between : List State) (same : kept_by states ≡ kept_by e.bridges.states)
+  module _ (states between : List BridgeState) (same : kept_by states ≡ kept_by e.bridges.states)
       (gone : kept_by between ≡ map (without_found s.addresses) (kept_by states)) where
     gone_is : kept_by between
         ≡ map (without_each (keys_of (held_by (old_here e) of_nodes s.addresses))) (kept_by states)
@@ -180,7 +180,7 @@ module _ (e : AttachedEdit) (s : PlannedEdit e) where
   -- ---- what is left
 
   -- what holds then, by a setting
-  pub record IsDone (setting : Setting) (states : List State) (solver : Leaves)
+  pub record IsDone (setting : Setting) (states : List BridgeState) (solver : Leaves)
       (places : AddressMap) (objective_at : Address) (turns turns_after : ℕ) : Type 0 where
     pub holds : HoldsBridging setting states solver places objective_at e.after
     -- as many items are touched as were found
@@ -189,7 +189,7 @@ module _ (e : AttachedEdit) (s : PlannedEdit e) where
     pub inner : (n : ℕ) × IsInner (old_here e) holds.bridging n × (turns_after ≤ turns + 2 * n)
 
   -- by the table and the bridges that were
-  module _ (states between behind : List State) (solver : Leaves) (places : AddressMap)
+  module _ (states between behind : List BridgeState) (solver : Leaves) (places : AddressMap)
       (objective_at : Address) (t0 t1 t2 t3 : ℕ)
       (same : kept_by states ≡ kept_by e.bridges.states)
       (gone : kept_by between ≡ map (without_found s.addresses) (kept_by states))
@@ -212,20 +212,20 @@ module _ (e : AttachedEdit) (s : PlannedEdit e) where
         apart_here stay_here new_leaves had had_is_here)
 
     -- its nodes
-    paired : (ss : List State)
-        → All (λ (k : Family × Kept). k.1 ≡ nodes_by new_here k.0)
-        (map (λ (s : State). (s.family, nodes_by new_here s.family)) ss)
-    paired [] = All-nil (λ (k : Family × Kept). k.1 ≡ nodes_by new_here k.0)
+    paired : (ss : List BridgeState)
+        → All (λ (k : Family × KeptByAddress). k.1 ≡ nodes_by new_here k.0)
+        (map (λ (s : BridgeState). (s.family, nodes_by new_here s.family)) ss)
+    paired [] = All-nil (λ (k : Family × KeptByAddress). k.1 ≡ nodes_by new_here k.0)
     paired (x ∷ xs) =
-        All-cons (λ (k : Family × Kept). k.1 ≡ nodes_by new_here k.0)
+        All-cons (λ (k : Family × KeptByAddress). k.1 ≡ nodes_by new_here k.0)
         (x.family, nodes_by new_here x.family)
-        (map (λ (s : State). (s.family, nodes_by new_here s.family)) xs) refl (paired xs)
+        (map (λ (s : BridgeState). (s.family, nodes_by new_here s.family)) xs) refl (paired xs)
 
     nodes_left : HoldNodes new_here behind
     nodes_left =
-        all_from_map (λ (k : Family × Kept). k.1 ≡ nodes_by new_here k.0)
-        (λ (s : State). (s.family, s.kept)) behind
-        (subst (All (λ (k : Family × Kept). k.1 ≡ nodes_by new_here k.0))
+        all_from_map (λ (k : Family × KeptByAddress). k.1 ≡ nodes_by new_here k.0)
+        (λ (s : BridgeState). (s.family, s.kept)) behind
+        (subst (All (λ (k : Family × KeptByAddress). k.1 ≡ nodes_by new_here k.0))
         (sym (bridges_changed (sound_before e) (sound_behind e) (old_here e) new_here s.addresses
         apart_here stay_here states between behind (hold_nodes e states same)
         (gone_is states between same gone)

@@ -15,11 +15,11 @@ use Rattle.std.specs.Option.{option_copied, option_map_or}
 use Rattle.address_map.specs.AddressMap.{AddressMap}
 use Rattle.address_map.specs.Noted.{noted_in, noted_items}
 use Rattle.aff_core.specs.Address.{Address, address_eq}
-use Rattle.bridge_face.specs.State.{State}
+use Rattle.bridge_face.specs.BridgeState.{BridgeState}
 use Rattle.bridge_face.specs.declared.kept_item.KeptItem.{KeptItem}
 use Rattle.bridge_graph.specs.Hypergraph.{IsCostly}
 use Rattle.bridge_graph.specs.declared.Choice.{Choice}
-use Rattle.bridge_plan.specs.Adds.{kept_of}
+use Rattle.bridge_plan.specs.AddsHeld.{kept_of}
 use Rattle.bridge_plan.specs.Means.{AreSound}
 use Rattle.bridge_plan.specs.Worked.{worked, worked_each, worked_in}
 use Rattle.bridge_set.specs.Bridges.{Bridges, families_of, means_of, occur_once, setting_by, setting_of}
@@ -51,7 +51,7 @@ use Rattle.touched_items.specs.Differences.{rows_in, differing_addresses, groups
 use Rattle.touched_items.specs.HeldExpressions.{stays_as}
 use Rattle.touched_items.specs.IndexLaws.{other_names, row_names}
 use Rattle.touched_items.specs.Search.{AreInOrder, objective_among, row_at}
-use Rattle.touched_items.specs.declared.differing.Contents.{Contents}
+use Rattle.touched_items.specs.declared.differing.ModelItems.{ModelItems}
 use Rattle.touched_items.specs.declared.differing.Differing.{Differing}
 use Rattle.tree_laws.specs.LeafLaws.{SupportsNativeKinds}
 use Rattle.user_model.specs.Model.{ModelValue, objective_mentions}
@@ -62,7 +62,7 @@ use Rattle.user_model.specs.declared.row.Row.{Row}
 use Rattle.item_core.specs.Kind.{kind_count}
 
 -- the fresh bridging of the model, which is valid, and in which each number fits
-pub record HoldsBridging (setting : Setting) (states : List State) (solver : Leaves)
+pub record HoldsBridging (setting : Setting) (states : List BridgeState) (solver : Leaves)
     (places : AddressMap) (objective_at : Address) (model : ModelValue) : Type 0 where
   pub valid : IsValid model
   pub bridging : FreshBridging setting model
@@ -77,7 +77,7 @@ pub record HoldsBridging (setting : Setting) (states : List State) (solver : Lea
   pub marks : places.kept ≡ finite.from_entries (map (λ v. (v, tt)) (kept_variables bridging))
 
 -- the row at the address, or the objective, is one of the items and names the variable
-abbrev pub contents_name : Contents → Address → Address → Bool
+abbrev pub contents_name : ModelItems → Address → Address → Bool
 contents_name contents var at =
     list_any (λ row. row_names row var at) (rows_in contents)
     || (address_eq at objective_address

@@ -14,9 +14,9 @@ use Rattle.bridge_set.specs.Adding.{AreFree}
 use Rattle.bridge_set.specs.Bridges.{AreKeepable, kept_by}
 use Rattle.bridge_set.specs.Nodes.{HoldNodes, nodes_by}
 use Rattle.bridge_face.specs.Law.{IsItemFor}
-use Rattle.bridge_face.specs.State.{Kept, State}
+use Rattle.bridge_face.specs.BridgeState.{BridgeState, KeptByAddress}
 use Rattle.bridge_face.specs.declared.kept_item.KeptItem.{KeptItem}
-use Rattle.bridge_plan.specs.Adds.{kept_of}
+use Rattle.bridge_plan.specs.AddsHeld.{kept_of}
 use Rattle.expansion.specs.Read.{model_leaves, model_nodes}
 use Rattle.fresh_bridging.specs.FreshBridging.{FreshBridging}
 use Rattle.fresh_bridging.specs.TheRules.{Setting}
@@ -83,28 +83,28 @@ module _ {setting next : Setting} {model after : ModelValue} (sound : IsValidUnd
   planned_there v c e = missing v (held_by new of_nodes found) e c
 
   each_bridge : (v : Address) → planned sound sound_after old new found of_nodes nodes_view v ≢ None
-      → (states : List State) → HoldNodes old states
-      → All (λ (k : Family × Kept). finite.get k.1 v ≡ None)
+      → (states : List BridgeState) → HoldNodes old states
+      → All (λ (k : Family × KeptByAddress). finite.get k.1 v ≡ None)
       (map (without_each had) (kept_by states))
-  each_bridge v some [] hold = All-nil (λ (k : Family × Kept). finite.get k.1 v ≡ None)
+  each_bridge v some [] hold = All-nil (λ (k : Family × KeptByAddress). finite.get k.1 v ≡ None)
   each_bridge v some (s ∷ states) hold =
-      All-cons (λ (k : Family × Kept). finite.get k.1 v ≡ None)
+      All-cons (λ (k : Family × KeptByAddress). finite.get k.1 v ≡ None)
       (without_each had (s.family, s.kept)) (map (without_each had) (kept_by states))
-      (ap (λ (m : Kept). finite.get (without_all m had) v)
-      (All-head (λ (s : State). s.kept ≡ nodes_by old s.family) s states hold)
+      (ap (λ (m : KeptByAddress). finite.get (without_all m had) v)
+      (All-head (λ (s : BridgeState). s.kept ≡ nodes_by old s.family) s states hold)
       ∙ free_there s.family v some)
       (each_bridge v some states
-      (All-tail (λ (s : State). s.kept ≡ nodes_by old s.family) s states hold))
+      (All-tail (λ (s : BridgeState). s.kept ≡ nodes_by old s.family) s states hold))
 
-  pub free_after : (before between : List State) → HoldNodes old before
+  pub free_after : (before between : List BridgeState) → HoldNodes old before
       → kept_by between ≡ map (without_each had) (kept_by before)
       → AreFree to_keep (kept_by between)
   free_after before between hold gone =
       subst (AreFree to_keep) (sym gone)
-      (All-map (λ (n : KeptItem). All (λ (k : Family × Kept). finite.get k.1 n.item.at ≡ None)
+      (All-map (λ (n : KeptItem). All (λ (k : Family × KeptByAddress). finite.get k.1 n.item.at ≡ None)
       (map (without_each had) (kept_by before))) kept_of (nodes_held new found)
       (All-weaker (λ (n : ℕ × Item). Contains (keys_of (by_address (nodes_held new found))) n.1.at)
-      (λ (n : ℕ × Item). All (λ (k : Family × Kept). finite.get k.1 n.1.at ≡ None)
+      (λ (n : ℕ × Item). All (λ (k : Family × KeptByAddress). finite.get k.1 n.1.at ≡ None)
       (map (without_each had) (kept_by before)))
       (λ n c. each_bridge n.1.at (planned_there n.1.at
       (subst (λ es. Contains (keys_of es) n.1.at) (sym (held_listed sound_after new found)) c))

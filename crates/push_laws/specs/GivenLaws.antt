@@ -17,7 +17,7 @@ use Rattle.leaf_update.specs.LeavesLaws.{among_contained, contains_among}
 use Rattle.local_laws.specs.FoundLaws.{in_groups, item_of_group}
 use Rattle.local_laws.specs.Held.{HasOwn, is_there}
 use Rattle.local_laws.specs.LookedLaws.{found_passes}
-use Rattle.local_laws.specs.MentionLaws.{IsBesideGroups, IsIndexOf}
+use Rattle.local_laws.specs.MentionLaws.{IsBesideGroups, NotesMentions}
 use Rattle.map_laws.specs.EachLaws.{all_both, all_from_map}
 use Rattle.push_laws.specs.AloneLaws.{groups_found}
 use Rattle.push_laws.specs.NamingLaws.{group_own, numbered_flat}
@@ -143,7 +143,7 @@ module _ (e : AttachedEdit) where
         ∙ marked_where (λ v. is_kept (expression_of (old_here e) v)) _ v c;
   }
 
-  pub index_here : IsIndexOf e.model (noted_items e.places.noted)
+  pub index_here : NotesMentions e.model (noted_items e.places.noted)
   index_here = notes_are_index e.model e.held.valid e.places.noted e.held.noted
 
   pub before_given : All (λ g. IsGivenAt e.model given_here (group_item g)) (groups_in e.d.before)

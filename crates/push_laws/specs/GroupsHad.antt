@@ -35,7 +35,7 @@ use Rattle.push_laws.specs.ToldLaws.{variables_once}
 use Rattle.touched_items.specs.DifferenceLaws.{objective_address}
 use Rattle.touched_items.specs.Differences.{addresses_in, group_addresses, groups_in, row_addresses, rows_in, differing_addresses}
 use Rattle.touched_items.specs.SearchLaws.{in_order_noted}
-use Rattle.touched_items.specs.declared.differing.Contents.{Contents}
+use Rattle.touched_items.specs.declared.differing.ModelItems.{ModelItems}
 use Rattle.tree_laws.specs.UserLaws.{inner_is}
 use Rattle.user_model.specs.Model.{ModelValue}
 use Rattle.user_model.specs.declared.group.Group.{Group}
@@ -54,7 +54,7 @@ each_no_variable f each [] = All-nil IsNoVariable
 each_no_variable f each (x ∷ xs) =
     All-cons IsNoVariable (f x) (map f xs) (each x) (each_no_variable f each xs)
 
-contents_no_variable : (c : Contents) → All IsNoVariable (addresses_in c)
+contents_no_variable : (c : ModelItems) → All IsNoVariable (addresses_in c)
 contents_no_variable c =
     All-append IsNoVariable (group_addresses (groups_in c))
     (row_addresses (rows_in c) ++ option_map_or (λ _. objective_address ∷ []) c.objective [])

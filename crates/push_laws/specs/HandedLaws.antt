@@ -19,7 +19,7 @@ use Rattle.item_core.specs.Item.{is_group}
 use Rattle.item_core.specs.declared.item.Item.{Item}
 use Rattle.leaf_update.specs.LeavesLaws.{among_contained, contains_among}
 use Rattle.leaf_update.specs.Others.{among}
-use Rattle.local_laws.specs.MentionLaws.{IsIndexOf, mapped_contains}
+use Rattle.local_laws.specs.MentionLaws.{NotesMentions, mapped_contains}
 use Rattle.map_laws.specs.TestLaws.{less_than}
 use Rattle.model_bridging.specs.Found.{found_others}
 use Rattle.numbered_list.specs.Laws.{Contains-found, Rise-cons, Rise-filter, Rise-nil, find-filter_map, find-first, find-rest, number_of_found, same_lists}
@@ -31,7 +31,7 @@ use Rattle.touched_items.specs.Differences.{addresses_in, differing_addresses, g
 use Rattle.touched_items.specs.Search.{AreInOrder, is_row, objective_among, row_at}
 use Rattle.touched_items.specs.SearchLaws.{in_order_noted}
 use Rattle.touched_items.specs.Sides.{IsSeparated, differ, same}
-use Rattle.touched_items.specs.declared.differing.Contents.{Contents}
+use Rattle.touched_items.specs.declared.differing.ModelItems.{ModelItems}
 use Rattle.touched_items.specs.declared.differing.Differing.{Differing}
 use Rattle.user_model.specs.Edited.{group_number, row_number}
 use Rattle.user_model.specs.Model.{ModelValue}
@@ -42,7 +42,7 @@ use Rattle.user_model.specs.declared.objective.Objective.{Objective}
 use Rattle.user_model.specs.declared.row.Row.{Row}
 
 -- a group's address is among those of contents that have it
-pub in_contents : (c : Contents) (g : Group) → Contains (groups_in c) g
+pub in_contents : (c : ModelItems) (g : Group) → Contains (groups_in c) g
     → Contains (addresses_in c) (group_item g).at
 in_contents c g k =
     Contains-append_left (group_addresses (groups_in c))
@@ -343,7 +343,8 @@ module _ (model after : ModelValue) (valid : IsValid after) (d : Differing)
 -- ---- what is found by what is noted
 
 -- no group is noted
-pub only_differing : (model : ModelValue) (noted : Address → List Address) → IsIndexOf model noted
+pub only_differing : (model : ModelValue) (noted : Address → List Address)
+    → NotesMentions model noted
     → (differing vars addresses : List Address)
     → AreInOrder (differing ++ flat_map noted vars) addresses → (n : ℕ)
     → Contains addresses (root_address root.Group n)

@@ -5,7 +5,7 @@ use Rattle.std.specs.Option.{option_map_or}
 use Rattle.std.proofs.lemmas.List.Elements.{All-head, All-tail}
 use Rattle.aff_core.specs.Address.{Address}
 use Rattle.bridge_plan.specs.Trees.{within_bridged}
-use Rattle.bridge_plan.specs.Worked.{IsWithin, worked, worked_each, worked_in}
+use Rattle.bridge_plan.specs.Worked.{IsItemWithinLevels, worked, worked_each, worked_in}
 use Rattle.expansion.specs.Grown.{Held, put_held}
 use Rattle.fresh_bridging.specs.Entries.{Entry, put_in}
 use Rattle.fresh_bridging.specs.FreshBridging.{FreshBridging}
@@ -27,14 +27,14 @@ module _ {setting : Setting} {model : ModelValue} (bridging : FreshBridging sett
   -- a group of the model, worked out to its leaves
   pub record IsGroupOf (g : Item) : Type 0 where
     pub stands : find (is_there g.at) (model_image model).groups ≡ Some g
-    pub within : IsWithin bridging.choice kind_count g
+    pub within : IsItemWithinLevels bridging.choice kind_count g
 
   -- a row or the objective, with entries that stand for the variables that it names
   pub record IsOtherOf (es : List Entry) (c : Item) : Type 0 where
     pub no_group : find (is_there c.at) (model_image model).groups ≡ None
     pub stands : find (is_there c.at) (model_image model).others ≡ Some c
     pub agrees : AgreeOn es bridging.made.entries c.body
-    pub within : IsWithin bridging.choice kind_count (put_in es c)
+    pub within : IsItemWithinLevels bridging.choice kind_count (put_in es c)
 
   group_held : (g : Item) → IsGroupOf g
       → held_of bridging g.at ≡ Some (worked bridging.choice kind_count g)

@@ -15,8 +15,8 @@ use Rattle.address_map.specs.Noted.{noted_items}
 use Rattle.aff_core.specs.Address.{Address, address_cmp, address_total}
 use Rattle.bridge_face.specs.declared.kept_item.KeptItem.{KeptItem}
 use Rattle.bridge_graph.specs.declared.Choice.{Choice}
-use Rattle.bridge_plan.specs.Adds.{kept_of}
-use Rattle.bridge_plan.specs.Worked.{IsWithin, worked, worked_each, worked_in}
+use Rattle.bridge_plan.specs.AddsHeld.{kept_of}
+use Rattle.bridge_plan.specs.Worked.{IsItemWithinLevels, worked, worked_each, worked_in}
 use Rattle.push_laws.specs.StayingLaws.{alike_by, group_stays_at, own_stands}
 use Rattle.push_laws.specs.Edits.{AreChanging, AttachedEdit, IsPlanned, IsSearch, IsStandingFor, choice_here, groups_held, groups_now, old_here, others_held, setting_here, sound_before, sound_behind}
 use Rattle.push_laws.specs.GivenLaws.{given_here, groups_handed, index_here, unfound}
@@ -108,7 +108,7 @@ module _ (e : AttachedEdit) (changed addresses : List Address) (rows : List Row)
         subst (All P) found_groups
         (All-filter (is_found addresses) P (model_image e.after).groups all)
 
-    pub all_groups_within : All (IsWithin new.choice kind_count) (model_image e.after).groups
+    pub all_groups_within : All (IsItemWithinLevels new.choice kind_count) (model_image e.after).groups
     all_groups_within =
         groups_within (setting_here e) e.sound.costly new.choice new.chosen e.sound.lawful e.after
         e.valid group_trees
@@ -118,10 +118,10 @@ module _ (e : AttachedEdit) (changed addresses : List Address) (rows : List Row)
         of_groups (IsGroupOf new)
         (All-weaker
         (λ g. (first_passing (is_there g.at) (model_image e.after).groups ≡ Some g)
-        × IsWithin new.choice kind_count g) (IsGroupOf new)
+        × IsItemWithinLevels new.choice kind_count g) (IsGroupOf new)
         (λ g h. record { stands = h.0; within = h.1 }) (model_image e.after).groups
         (all_both (λ g. first_passing (is_there g.at) (model_image e.after).groups ≡ Some g)
-        (IsWithin new.choice kind_count) (model_image e.after).groups (groups_found e.after e.valid)
+        (IsItemWithinLevels new.choice kind_count) (model_image e.after).groups (groups_found e.after e.valid)
         all_groups_within))
 
     -- what is planned of the groups stands for their variables
@@ -134,9 +134,9 @@ module _ (e : AttachedEdit) (changed addresses : List Address) (rows : List Row)
         (subst (λ c. EachBridged (rules_by c) (model_image e.after).groups new.made.entries) new_choice
         new.made.groups) (is_found addresses)
         (λ i out. unfound e changed addresses rows objective search i out)
-        (subst (λ c. All (IsWithin c kind_count) (filter (is_found addresses) (model_image e.after).groups))
+        (subst (λ c. All (IsItemWithinLevels c kind_count) (filter (is_found addresses) (model_image e.after).groups))
         new_choice
-        (All-filter (is_found addresses) (IsWithin new.choice kind_count) (model_image e.after).groups
+        (All-filter (is_found addresses) (IsItemWithinLevels new.choice kind_count) (model_image e.after).groups
         all_groups_within)) v c
 
 module _ (e : AttachedEdit) (new : FreshBridging (setting_here e) e.after)
@@ -271,19 +271,19 @@ module _ (e : AttachedEdit) (new : FreshBridging (setting_here e) e.after)
           (λ c. (first_passing (is_there c.at) (model_image e.after).groups ≡ None)
           × ((first_passing (is_there c.at) others ≡ Some c)
           × (AgreeOn further new.made.entries c.body
-          × IsWithin new.choice kind_count (put_in new.made.entries c))))
+          × IsItemWithinLevels new.choice kind_count (put_in new.made.entries c))))
           (IsOtherOf new further)
           (λ c h. record {
             no_group = h.0;
             stands = h.1.0;
             agrees = h.1.1.0;
-            within = subst (IsWithin new.choice kind_count)
+            within = subst (IsItemWithinLevels new.choice kind_count)
                 (sym (put_in_agreeing further new.made.entries c h.1.1.0)) h.1.1.1;
           }) (found_others rows objective)
           (all_both (λ c. first_passing (is_there c.at) (model_image e.after).groups ≡ None)
           (λ c. (first_passing (is_there c.at) others ≡ Some c)
           × (AgreeOn further new.made.entries c.body
-          × IsWithin new.choice kind_count (put_in new.made.entries c))) (found_others rows objective)
+          × IsItemWithinLevels new.choice kind_count (put_in new.made.entries c))) (found_others rows objective)
           (All-weaker
           (λ c. (first_passing (is_there c.at) (model_image e.after).groups ≡ None)
           × (first_passing (is_there c.at) others ≡ Some c))
@@ -291,16 +291,16 @@ module _ (e : AttachedEdit) (new : FreshBridging (setting_here e) e.after)
           (found_others rows objective) stand)
           (all_both (λ c. first_passing (is_there c.at) others ≡ Some c)
           (λ c. AgreeOn further new.made.entries c.body
-          × IsWithin new.choice kind_count (put_in new.made.entries c)) (found_others rows objective)
+          × IsItemWithinLevels new.choice kind_count (put_in new.made.entries c)) (found_others rows objective)
           (All-weaker
           (λ c. (first_passing (is_there c.at) (model_image e.after).groups ≡ None)
           × (first_passing (is_there c.at) others ≡ Some c))
           (λ c. first_passing (is_there c.at) others ≡ Some c) (λ c h. h.1)
           (found_others rows objective) stand)
           (all_both (λ c. AgreeOn further new.made.entries c.body)
-          (λ c. IsWithin new.choice kind_count (put_in new.made.entries c)) (found_others rows objective)
+          (λ c. IsItemWithinLevels new.choice kind_count (put_in new.made.entries c)) (found_others rows objective)
           agree
-          (of_found (λ c. IsWithin new.choice kind_count (put_in new.made.entries c))
+          (of_found (λ c. IsItemWithinLevels new.choice kind_count (put_in new.made.entries c))
           (others_within (setting_here e) e.sound.costly new.choice new.chosen e.sound.lawful
           e.after e.valid new.made.entries new.made.groups
           (trees_of_bridged (setting_here e) e.sound.costly new.choice new.chosen e.sound.lawful
@@ -320,12 +320,12 @@ module _ (e : AttachedEdit) (new : FreshBridging (setting_here e) e.after)
 
       -- so they may be planned
       pub within_here :
-          All (λ item. IsWithin (choice_here e) kind_count (put_in further item))
+          All (λ item. IsItemWithinLevels (choice_here e) kind_count (put_in further item))
           (found_others rows objective)
       within_here =
-          subst (λ (c : ℕ → Choice). All (λ item. IsWithin c kind_count (put_in further item))
+          subst (λ (c : ℕ → Choice). All (λ item. IsItemWithinLevels c kind_count (put_in further item))
           (found_others rows objective)) (new_choice e changed addresses rows objective search new)
-          (All-weaker (IsOtherOf new further) (λ item. IsWithin new.choice kind_count (put_in further item))
+          (All-weaker (IsOtherOf new further) (λ item. IsItemWithinLevels new.choice kind_count (put_in further item))
           (λ c h. h.within) (found_others rows objective) found_are)
 
       -- ---- what is planned

@@ -12,7 +12,7 @@ use Rattle.address_laws.specs.DistinctLaws.{each_apart, rows_distinct, variables
 use Rattle.bridge_set.specs.Bridges.{AreKeepable}
 use Rattle.bridge_face.specs.Law.{IsItemFor, expressed}
 use Rattle.bridge_graph.specs.Hypergraph.{IsCostly}
-use Rattle.bridge_plan.specs.Adds.{kept_of}
+use Rattle.bridge_plan.specs.AddsHeld.{kept_of}
 use Rattle.expansion.specs.Read.{model_leaves, model_nodes}
 use Rattle.fresh_bridging.specs.CanLaws.{AreLawful}
 use Rattle.fresh_bridging.specs.FreshBridging.{FreshBridging, expression_of}

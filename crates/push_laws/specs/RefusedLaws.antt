@@ -9,7 +9,7 @@ use Rattle.std.proofs.lemmas.List.Folds.{find-append}
 use Rattle.std.proofs.lemmas.Option.{none-some, same_Some}
 use Rattle.aff_core.specs.Address.{Address}
 use Rattle.bridge_face.specs.Law.{Miss}
-use Rattle.bridge_plan.specs.Worked.{IsWithin, worked, worked_each}
+use Rattle.bridge_plan.specs.Worked.{IsItemWithinLevels, worked, worked_each}
 use Rattle.push_laws.specs.StayingLaws.{AreCompared, alike_by, group_stays_at, groups_stay, others_stay, own_stands}
 use Rattle.push_laws.specs.Edits.{AreAllOwn, AreChanging, AttachedEdit, IsSearch, choice_here, groups_held, groups_now, missing_groups, missing_others, old_here, setting_here, sound_before, sound_behind, unfit_groups}
 use Rattle.push_laws.specs.GivenLaws.{beside, given_here, groups_handed, has_here, unfound}
@@ -41,7 +41,7 @@ use Rattle.map_laws.specs.EachLaws.{all_both}
 use Rattle.model_bridging.specs.Found.{found_others, kept_over}
 use Rattle.model_bridging.specs.Kinds.{first_missing, kind_by, kinds_as_they_stand}
 use Rattle.model_bridging.specs.ModelHeld.{unfit}
-use Rattle.model_bridging.specs.Outcome.{IsFirstAt}
+use Rattle.model_bridging.specs.PlanOutcome.{IsFirstAt}
 use Rattle.push_laws.specs.AloneLaws.{groups_found, one_for_all, others_there}
 use Rattle.push_laws.specs.HandedLaws.{is_found, others_handed}
 use Rattle.push_laws.specs.KindsLaws.{bridged_found, groups_trees, unsupported_found_group, unsupported_found_other}
@@ -131,9 +131,9 @@ module _ (e : AttachedEdit) where
       (ap (λ l. first_missing (choice_here e) (kinds_as_they_stand l)) e.separates.behind ∙ none)
 
   -- they may be planned
-  pub groups_within : missing_groups e ≡ None → All (IsWithin (choice_here e) kind_count) (groups_now e)
+  pub groups_within : missing_groups e ≡ None → All (IsItemWithinLevels (choice_here e) kind_count) (groups_now e)
   groups_within none =
-      subst (All (IsWithin (choice_here e) kind_count)) e.separates.behind
+      subst (All (IsItemWithinLevels (choice_here e) kind_count)) e.separates.behind
       (found_groups_within (sound_behind e) (is_found (given_here e)) (choice_here e) e.sound.chosen
       (trees_here none))
 
@@ -152,7 +152,7 @@ module _ (e : AttachedEdit) where
       (sym e.separates.behind)
       ∙ own_stands e (all_bridged none).0 (all_bridged none).1 (is_found (given_here e))
       (left_out (given_here e))
-      (subst (All (IsWithin (choice_here e) kind_count)) (sym e.separates.behind) (groups_within none)) v c
+      (subst (All (IsItemWithinLevels (choice_here e) kind_count)) (sym e.separates.behind) (groups_within none)) v c
 
   -- ---- what is found
 
@@ -285,14 +285,14 @@ module _ (e : AttachedEdit) where
       groups_of : All (IsGroupOf new) (groups_now e)
       groups_of =
           All-weaker
-          (λ g. (find (is_there g.at) all_groups ≡ Some g) × IsWithin (choice_here e) kind_count g)
+          (λ g. (find (is_there g.at) all_groups ≡ Some g) × IsItemWithinLevels (choice_here e) kind_count g)
           (IsGroupOf new)
           (λ g h. record {
             stands = h.0;
-            within = subst (λ c. IsWithin c kind_count g) (sym same_choice) h.1;
+            within = subst (λ c. IsItemWithinLevels c kind_count g) (sym same_choice) h.1;
           }) (groups_now e)
           (all_both (λ g. find (is_there g.at) all_groups ≡ Some g)
-          (IsWithin (choice_here e) kind_count) (groups_now e)
+          (IsItemWithinLevels (choice_here e) kind_count) (groups_now e)
           (subst (All (λ g. find (is_there g.at) all_groups ≡ Some g)) groups_same
           (All-filter keep (λ g. find (is_there g.at) all_groups ≡ Some g) all_groups
           (groups_found e.after e.valid)))

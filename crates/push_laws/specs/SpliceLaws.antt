@@ -15,9 +15,9 @@ use Rattle.item_core.specs.declared.item.Body.{Body}
 use Rattle.item_core.specs.declared.item.Item.{Item}
 use Rattle.leaf_update.specs.Leaves.{AreLeaves, HasNativeForm, NamesLeaves}
 use Rattle.leaf_update.specs.LeavesLaws.{has_one, names_own}
-use Rattle.leaf_update.specs.Objective.{HasOne}
+use Rattle.leaf_update.specs.Objective.{HasOneAddress}
 use Rattle.leaf_update.specs.Others.{others, others_among}
-use Rattle.leaf_update.specs.Splice.{AreApart, AreBeside, Gone, IsSplice, NamesOwn, spliced, spliced_model}
+use Rattle.leaf_update.specs.Splice.{ArePutBeside, Gone, HaveDistinctKeys, IsSplice, NamesOwn, spliced, spliced_model}
 use Rattle.leaf_model.specs.LeafModel.{LeafModel}
 use Rattle.local_laws.specs.Held.{held_by}
 use Rattle.local_laws.specs.OnceLaws.{keys_once}
@@ -149,10 +149,10 @@ module _ {setting next : Setting} {model after : ModelValue} (sound : IsValidUnd
       leaves_name = subst (λ m. All (NamesLeaves m) put) leaves_changed
           (each_leaf_held (NamesLeaves (leaves_of new)) (λ n. Unit {0}) new are.names
           (all_unit (model_nodes new.made)) found);
-      variables = as_put leaf_variables AreApart
+      variables = as_put leaf_variables HaveDistinctKeys
           (entries_apart sound sound_after old new found apart others_stay
           (of_leaves leaf_variables) variables_view);
-      rows = as_put leaf_rows AreApart
+      rows = as_put leaf_rows HaveDistinctKeys
           (entries_apart sound sound_after old new found apart others_stay (of_leaves leaf_rows)
           rows_view);
       objective = as_put leaf_objectives (λ es. length es ≤ 1)
@@ -160,14 +160,14 @@ module _ {setting next : Setting} {model after : ModelValue} (sound : IsValidUnd
           (keys_once sound_after new (of_leaves leaf_objectives) objectives_view found apart)
           one_objective);
       variables_beside = as_put leaf_variables
-          (λ es. AreBeside (others (keys_of es) had.variables) es)
+          (λ es. ArePutBeside (others (keys_of es) had.variables) es)
           (goes_beside sound sound_after old new found apart others_stay
           (of_leaves leaf_variables) variables_view had.variables by.variables);
-      rows_beside = as_put leaf_rows (λ es. AreBeside (others (keys_of es) had.rows) es)
+      rows_beside = as_put leaf_rows (λ es. ArePutBeside (others (keys_of es) had.rows) es)
           (goes_beside sound sound_after old new found apart others_stay (of_leaves leaf_rows)
           rows_view had.rows by.rows);
       objective_beside = as_put leaf_objectives
-          (λ es. AreBeside (others (keys_of es) had.objective) es)
+          (λ es. ArePutBeside (others (keys_of es) had.objective) es)
           (goes_beside sound sound_after old new found apart others_stay
           (of_leaves leaf_objectives) objectives_view had.objective by.objective);
       gone_variables = as_put leaf_variables
@@ -194,6 +194,6 @@ module _ {setting next : Setting} {model after : ModelValue} (sound : IsValidUnd
           (goes_once sound sound_after old new found apart others_stay (of_leaves leaf_rows)
           rows_view had.rows by.rows);
       names = subst NamesOwn leaves_changed (names_own (model_leaves new.made) are);
-      one = subst (λ (m : LeafModel). HasOne m.objective) leaves_changed
+      one = subst (λ (m : LeafModel). HasOneAddress m.objective) leaves_changed
           (has_one (model_leaves new.made) are);
     }

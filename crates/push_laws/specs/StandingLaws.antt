@@ -8,7 +8,7 @@ use Rattle.bridge_graph.specs.Hypergraph.{IsCostly}
 use Rattle.bridge_graph.specs.declared.Choice.{Choice}
 use Rattle.bridge_plan.specs.KeptGroups.{group_components}
 use Rattle.bridge_plan.specs.Trees.{within_bridged}
-use Rattle.bridge_plan.specs.Worked.{IsWithin, worked, worked_each}
+use Rattle.bridge_plan.specs.Worked.{IsItemWithinLevels, worked, worked_each}
 use Rattle.expansion.specs.Bridged.{EachBridged, each, none}
 use Rattle.expansion.specs.Grown.{Held}
 use Rattle.expansion.specs.GrownLaws.{held_once}
@@ -55,7 +55,7 @@ module _ (setting : Setting) (costly : IsCostly (graph_of setting)) (choice : �
 
   pub standing_is : {gs : List Item} {entries : List Entry}
       → EachBridged (rules_by choice) gs entries → All IsGroupHere gs
-      → All (IsWithin choice kind_count) (filter keep gs) → All IsWithout gs
+      → All (IsItemWithinLevels choice kind_count) (filter keep gs) → All IsWithout gs
       → expression_in (planned (filter keep gs)) v ≡ expression_in entries v
   standing_is none here within without = ap (λ l. expression_in l v) planned_none
   standing_is (each {item = g} {items = gs} {entries} {others} first rest) here within without =
@@ -68,19 +68,19 @@ module _ (setting : Setting) (costly : IsCostly (graph_of setting)) (choice : �
           (All-head IsGroupHere g gs here)
 
       by : (b : Bool) → keep g ≡ b
-          → All (IsWithin choice kind_count) (cond b (g ∷ filter keep gs) (filter keep gs))
-          → (All (IsWithin choice kind_count) (filter keep gs)
+          → All (IsItemWithinLevels choice kind_count) (cond b (g ∷ filter keep gs) (filter keep gs))
+          → (All (IsItemWithinLevels choice kind_count) (filter keep gs)
           → expression_in (planned (filter keep gs)) v ≡ expression_in others v)
           → expression_in (planned (cond b (g ∷ filter keep gs) (filter keep gs))) v
           ≡ expression_in (entries ++ others) v
       by true e w later =
           let made = within_bridged choice kind_count g
-          (All-head (IsWithin choice kind_count) g (filter keep gs) w) in
+          (All-head (IsItemWithinLevels choice kind_count) g (filter keep gs) w) in
           ap (λ l. expression_in l v) (planned_first g (filter keep gs))
           ∙ ap (λ l. expression_in (l ++ planned (filter keep gs)) v)
           (sym (ap (λ (h : Held Item Entry). h.entries) (held_once first made.tree ∙ made.holds)))
           ∙ same_behind entries (planned (filter keep gs)) others
-          (later (All-tail (IsWithin choice kind_count) g (filter keep gs) w))
+          (later (All-tail (IsItemWithinLevels choice kind_count) g (filter keep gs) w))
       by false e w later =
           later w
           ∙ sym (found_second entries others v

@@ -14,7 +14,7 @@ use Rattle.fresh_bridging.specs.FreshBridging.{FreshBridging}
 use Rattle.fresh_bridging.specs.TheRules.{Setting}
 use Rattle.leaf_update.specs.LeavesLaws.{looked_among}
 use Rattle.leaf_update.specs.Others.{others}
-use Rattle.leaf_update.specs.Splice.{AreApart, AreBeside}
+use Rattle.leaf_update.specs.Splice.{ArePutBeside, HaveDistinctKeys}
 use Rattle.local_laws.specs.ChangedLaws.{IsGone, is_now, planned, was}
 use Rattle.local_laws.specs.GoneLaws.{AreHad, all_kept, gone_is, gone_of, now_elsewhere, now_planned}
 use Rattle.local_laws.specs.Held.{held_by}
@@ -64,7 +64,7 @@ module _ {setting next : Setting} {model after : ModelValue} (sound : IsValidUnd
   pub entries_once : AllPairs (λ d e. ¬ (e.0 ≡ d.0)) entries
   entries_once = keys_entries entries (keys_once sound_after new part view found apart)
 
-  pub entries_apart : AreApart entries
+  pub entries_apart : HaveDistinctKeys entries
   entries_apart = distinct_apart (keys_of entries) (keys_once sound_after new part view found apart)
 
   module _ (had : List Address) (is : IsHadBy had) where
@@ -79,7 +79,7 @@ module _ {setting next : Setting} {model after : ModelValue} (sound : IsValidUnd
         subst (IsGone sound sound_after old new found part view) goes_as
         (gone_is sound sound_after old new found part view had is.are)
 
-    pub goes_beside : AreBeside goes entries
+    pub goes_beside : ArePutBeside goes entries
     goes_beside =
         All-weaker (λ e. Contains (keys_of entries) e.0) (λ e. ¬ (Contains goes e.0))
         (λ e c g. missing e.0 entries (goes_is.from e.0 g).0 c) entries

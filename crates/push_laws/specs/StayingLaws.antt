@@ -6,7 +6,7 @@ use Rattle.std.proofs.lemmas.List.Elements.{All-append, All-contains, All-contai
 use Rattle.std.proofs.lemmas.Option.{same_Some}
 use Rattle.address_map.specs.Noted.{noted_items}
 use Rattle.aff_core.specs.Address.{Address}
-use Rattle.bridge_plan.specs.Worked.{IsWithin, worked, worked_each}
+use Rattle.bridge_plan.specs.Worked.{IsItemWithinLevels, worked, worked_each}
 use Rattle.push_laws.specs.Edits.{AttachedEdit, KeepsAt, choice_here, old_here, setting_here, sound_before}
 use Rattle.push_laws.specs.GivenLaws.{IsGivenAt, before_given, given_here, groups_given, index_here}
 use Rattle.expansion.specs.Bridged.{EachBridged}
@@ -253,7 +253,7 @@ module _ (e : AttachedEdit) where
               (owner_here v g (item_of_group (only_groups e.after) g.at g f) group own)) o.1)
 
       -- so what is planned of the others stands for them
-      pub own_stands : All (IsWithin (choice_here e) kind_count) (filter keep (model_image e.after).groups)
+      pub own_stands : All (IsItemWithinLevels (choice_here e) kind_count) (filter keep (model_image e.after).groups)
           → (v : Address) → Contains (own_variables e.d) v
           → expression_in (worked_each (choice_here e) (worked (choice_here e) kind_count)
           (filter keep (model_image e.after).groups)).entries v

@@ -21,7 +21,7 @@ use Rattle.local_laws.specs.Held.{fits_at}
 use Rattle.local_laws.specs.Stays.{StaysAt}
 use Rattle.model_bridging.specs.Found.{found_others}
 use Rattle.model_bridging.specs.ModelHeld.{unfit, unfit_put}
-use Rattle.model_bridging.specs.Outcome.{IsFirstAt}
+use Rattle.model_bridging.specs.PlanOutcome.{IsFirstAt}
 use Rattle.push_laws.specs.HandedLaws.{is_found}
 use Rattle.push_laws.specs.PlanLaws.{groups_unfit, others_unfit}
 use Rattle.user_model.specs.declared.objective.Objective.{Objective}

@@ -47,12 +47,14 @@ impl Ratio {
         Ratio::lowest((n < 0) != (d < 0), n.unsigned_abs(), d.unsigned_abs())
     }
 
+    /// The number 0.
     pub fn zero() -> Ratio
         ensures { result ≡ zero_ℚ }
     {
         Ratio { num: 0, den: 1 }
     }
 
+    /// The number 1.
     pub fn one() -> Ratio
         ensures { result ≡ one_ℚ }
     {
@@ -82,12 +84,14 @@ impl Ratio {
         self.num().signum() as i8
     }
 
+    /// Whether the number is 0.
     pub fn is_zero(&self) -> bool
         ensures { IsTrue result ↔ (self.now ≡ zero_ℚ) }
     {
         self.size() == 0
     }
 
+    /// The number with the other sign. It always fits, since the magnitude stays.
     pub fn neg(&self) -> Ratio
         ensures { result ≡ neg_ℚ self.now }
     {

@@ -41,15 +41,15 @@ whole_one = refl
 
 -- ---- expressions and polynomials
 
-pub data Expression : Type 0 where
-  variable : ℕ → Expression
-  number : ℤ → Expression
-  sum : Expression → Expression → Expression
-  product : Expression → Expression → Expression
-  negation : Expression → Expression
+pub data RingExpression : Type 0 where
+  variable : ℕ → RingExpression
+  number : ℤ → RingExpression
+  sum : RingExpression → RingExpression → RingExpression
+  product : RingExpression → RingExpression → RingExpression
+  negation : RingExpression → RingExpression
 
 -- the value at the variables' values
-unfoldable pub value : (ℕ → Rational) → Expression → Rational
+unfoldable pub value : (ℕ → Rational) → RingExpression → Rational
 value ρ (variable n) = ρ n
 value ρ (number z) = whole_ℚ z
 value ρ (sum e f) = value ρ e +ℚ value ρ f
@@ -57,8 +57,8 @@ value ρ (product e f) = value ρ e *ℚ value ρ f
 value ρ (negation e) = neg_ℚ (value ρ e)
 
 -- a term is its coefficient and its variables in order
-abbrev pub Terms : Type 0
-Terms = List (ℤ × List ℕ)
+abbrev pub RingTerms : Type 0
+RingTerms = List (ℤ × List ℕ)
 
 abbrev pub put_variable : ℕ → List ℕ → List ℕ
 put_variable v [] = v ∷ []
@@ -69,37 +69,37 @@ times_variables [] ws = ws
 times_variables (v ∷ vs) ws = put_variable v (times_variables vs ws)
 
 -- the term, unless it is 0
-abbrev pub some_term : ℤ → List ℕ → Terms → Terms
+abbrev pub some_term : ℤ → List ℕ → RingTerms → RingTerms
 some_term (pos zero) m p = p
 some_term (pos (suc n)) m p = (pos (suc n), m) ∷ p
 some_term (negsuc n) m p = (negsuc n, m) ∷ p
 
-abbrev pub at_order : Ordering → ℤ → List ℕ → ℤ → List ℕ → Terms → Terms → Terms
+abbrev pub at_order : Ordering → ℤ → List ℕ → ℤ → List ℕ → RingTerms → RingTerms → RingTerms
 at_order Less c m d n p more = some_term c m ((d, n) ∷ p)
 at_order Equal c m d n p more = some_term (c +ℤ d) n p
 at_order Greater c m d n p more = (d, n) ∷ more
 
-abbrev pub put_term : ℤ → List ℕ → Terms → Terms
+abbrev pub put_term : ℤ → List ℕ → RingTerms → RingTerms
 put_term c m [] = some_term c m []
 put_term c m (t ∷ p) = at_order (slice_cmp nat_cmp m t.1) c m t.0 t.1 p (put_term c m p)
 
-abbrev pub plus : Terms → Terms → Terms
+abbrev pub plus : RingTerms → RingTerms → RingTerms
 plus [] q = q
 plus (t ∷ p) q = put_term t.0 t.1 (plus p q)
 
-abbrev pub times_term : ℤ → List ℕ → Terms → Terms
+abbrev pub times_term : ℤ → List ℕ → RingTerms → RingTerms
 times_term c m [] = []
 times_term c m (t ∷ p) = put_term (c *ℤ t.0) (times_variables m t.1) (times_term c m p)
 
-abbrev pub times : Terms → Terms → Terms
+abbrev pub times : RingTerms → RingTerms → RingTerms
 times [] q = []
 times (t ∷ p) q = plus (times_term t.0 t.1 q) (times p q)
 
-abbrev pub minus : Terms → Terms
+abbrev pub minus : RingTerms → RingTerms
 minus [] = []
 minus (t ∷ p) = (neg_ℤ t.0, t.1) ∷ minus p
 
-abbrev pub terms_of : Expression → Terms
+abbrev pub terms_of : RingExpression → RingTerms
 terms_of (variable n) = (pos 1, n ∷ []) ∷ []
 terms_of (number z) = some_term z [] []
 terms_of (sum e f) = plus (terms_of e) (terms_of f)
@@ -113,7 +113,7 @@ module _ (ρ : ℕ → Rational) where
   variables_value [] = one_ℚ
   variables_value (v ∷ vs) = ρ v *ℚ variables_value vs
 
-  abbrev terms_value : Terms → Rational
+  abbrev terms_value : RingTerms → Rational
   terms_value [] = zero_ℚ
   terms_value (t ∷ p) = whole_ℚ t.0 *ℚ variables_value t.1 +ℚ terms_value p
 
@@ -138,7 +138,7 @@ module _ (ρ : ℕ → Rational) where
       put_variable_is v (times_variables vs ws) ∙ ap (λ x. ρ v *ℚ x) (times_variables_is vs ws)
       ∙ sym (*ℚ_assoc (ρ v) (variables_value vs) (variables_value ws))
 
-  some_term_is : (c : ℤ) (m : List ℕ) (p : Terms)
+  some_term_is : (c : ℤ) (m : List ℕ) (p : RingTerms)
       → terms_value (some_term c m p) ≡ whole_ℚ c *ℚ variables_value m +ℚ terms_value p
   some_term_is (pos zero) m p =
       sym (zero-+ℚ (terms_value p))
@@ -147,7 +147,7 @@ module _ (ρ : ℕ → Rational) where
   some_term_is (pos (suc n)) m p = refl
   some_term_is (negsuc n) m p = refl
 
-  order_lem : (r : Ordering) (c d : ℤ) (m n : List ℕ) (p more : Terms) → (r ≡ Equal → m ≡ n)
+  order_lem : (r : Ordering) (c d : ℤ) (m n : List ℕ) (p more : RingTerms) → (r ≡ Equal → m ≡ n)
       → terms_value more ≡ whole_ℚ c *ℚ variables_value m +ℚ terms_value p
       → terms_value (at_order r c m d n p more)
       ≡ whole_ℚ c *ℚ variables_value m +ℚ (whole_ℚ d *ℚ variables_value n +ℚ terms_value p)
@@ -164,14 +164,14 @@ module _ (ρ : ℕ → Rational) where
       ∙ +ℚ_left_comm (whole_ℚ d *ℚ variables_value n) (whole_ℚ c *ℚ variables_value m)
       (terms_value p)
 
-  put_term_is : (c : ℤ) (m : List ℕ) (p : Terms)
+  put_term_is : (c : ℤ) (m : List ℕ) (p : RingTerms)
       → terms_value (put_term c m p) ≡ whole_ℚ c *ℚ variables_value m +ℚ terms_value p
   put_term_is c m [] = some_term_is c m []
   put_term_is c m (t ∷ p) =
       order_lem (slice_cmp nat_cmp m t.1) c t.0 m t.1 p (put_term c m p)
       (slice_cmp-IsAntisymmetric nat_cmp-IsAntisymmetric m t.1) (put_term_is c m p)
 
-  plus_is : (p q : Terms) → terms_value (plus p q) ≡ terms_value p +ℚ terms_value q
+  plus_is : (p q : RingTerms) → terms_value (plus p q) ≡ terms_value p +ℚ terms_value q
   plus_is [] q = sym (zero-+ℚ (terms_value q))
   plus_is (t ∷ p) q =
       put_term_is t.0 t.1 (plus p q)
@@ -182,7 +182,7 @@ module _ (ρ : ℕ → Rational) where
   cross_lem a b c d = *ℚ_assoc a c (b *ℚ d) ∙ ap (λ x. a *ℚ x) (left_comm c b d)
       ∙ sym (*ℚ_assoc a b (c *ℚ d))
 
-  times_term_is : (c : ℤ) (m : List ℕ) (p : Terms)
+  times_term_is : (c : ℤ) (m : List ℕ) (p : RingTerms)
       → terms_value (times_term c m p) ≡ (whole_ℚ c *ℚ variables_value m) *ℚ terms_value p
   times_term_is c m [] = sym (*ℚ-zero (whole_ℚ c *ℚ variables_value m))
   times_term_is c m (t ∷ p) =
@@ -194,20 +194,20 @@ module _ (ρ : ℕ → Rational) where
       ∙ sym (*ℚ-+ℚ (whole_ℚ c *ℚ variables_value m) (whole_ℚ t.0 *ℚ variables_value t.1)
       (terms_value p))
 
-  times_is : (p q : Terms) → terms_value (times p q) ≡ terms_value p *ℚ terms_value q
+  times_is : (p q : RingTerms) → terms_value (times p q) ≡ terms_value p *ℚ terms_value q
   times_is [] q = sym (zero-*ℚ (terms_value q))
   times_is (t ∷ p) q =
       plus_is (times_term t.0 t.1 q) (times p q) ∙ ap₂ ◌+ℚ◌ (times_term_is t.0 t.1 q) (times_is p q)
       ∙ sym (+ℚ-*ℚ (whole_ℚ t.0 *ℚ variables_value t.1) (terms_value p) (terms_value q))
 
-  minus_is : (p : Terms) → terms_value (minus p) ≡ neg_ℚ (terms_value p)
+  minus_is : (p : RingTerms) → terms_value (minus p) ≡ neg_ℚ (terms_value p)
   minus_is [] = sym neg_ℚ-zero
   minus_is (t ∷ p) =
       ap₂ (λ x y. x *ℚ variables_value t.1 +ℚ y) (whole_ℚ-neg_ℤ t.0) (minus_is p)
       ∙ ap (λ x. x +ℚ neg_ℚ (terms_value p)) (neg_ℚ-*ℚ (whole_ℚ t.0) (variables_value t.1))
       ∙ sym (neg_ℚ-sum (whole_ℚ t.0 *ℚ variables_value t.1) (terms_value p))
 
-  terms_is : (e : Expression) → terms_value (terms_of e) ≡ value ρ e
+  terms_is : (e : RingExpression) → terms_value (terms_of e) ≡ value ρ e
   unfolding value
   terms_is (variable n) = +ℚ-zero (whole_ℚ (pos 1) *ℚ (ρ n *ℚ one_ℚ))
       ∙ ap₂ ◌*ℚ◌ whole_one (*ℚ-one (ρ n)) ∙ one-*ℚ (ρ n)
@@ -217,20 +217,20 @@ module _ (ρ : ℕ → Rational) where
   terms_is (negation e) = minus_is (terms_of e) ∙ ap neg_ℚ (terms_is e)
 
   -- expressions with the same terms are equal
-  pub by_ring : (e f : Expression) → terms_of e ≡ terms_of f → value ρ e ≡ value ρ f
+  pub by_ring : (e f : RingExpression) → terms_of e ≡ terms_of f → value ρ e ≡ value ρ f
   by_ring e f same = sym (terms_is e) ∙ ap terms_value same ∙ terms_is f
 
   -- ---- from numbers to expressions
 
-  pub sum_as : (e f : Expression) → value ρ e +ℚ value ρ f ≡ value ρ (sum e f)
+  pub sum_as : (e f : RingExpression) → value ρ e +ℚ value ρ f ≡ value ρ (sum e f)
   unfolding value
   sum_as e f = refl
 
-  pub product_as : (e f : Expression) → value ρ e *ℚ value ρ f ≡ value ρ (product e f)
+  pub product_as : (e f : RingExpression) → value ρ e *ℚ value ρ f ≡ value ρ (product e f)
   unfolding value
   product_as e f = refl
 
-  pub negation_as : (e : Expression) → neg_ℚ (value ρ e) ≡ value ρ (negation e)
+  pub negation_as : (e : RingExpression) → neg_ℚ (value ρ e) ≡ value ρ (negation e)
   unfolding value
   negation_as e = refl
 

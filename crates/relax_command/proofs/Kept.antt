@@ -8,7 +8,7 @@ use Rattle.certificates.specs.Points.{variables_of}
 use Rattle.group_numbering.specs.NewGroups.{numbered_groups}
 use Rattle.ratio_core.specs.Rational.{Rational}
 use Rattle.relax_command.specs.Text.{violation_line, violation_lines, relaxation_text}
-use Rattle.relaxation.specs.Answers.{IsRelaxedFrom, Shows}
+use Rattle.relaxation.specs.Answers.{IsRelaxedFrom, ShowsRelaxation}
 use Rattle.relaxation.specs.declared.reading.Relaxation.{Relaxation}
 use Rattle.relaxation.specs.declared.reading.Relaxation.TheVariants.{Hopeless, Least}
 use Rattle.relaxation.specs.KeptLaws.{soft_kept}
@@ -87,7 +87,7 @@ module _ (model relaxed : ModelValue) (from : IsRelaxedFrom model relaxed) where
       ap (λ vs. variable_lines word vs x) variables_are
       ∙ ap (map (variable_line word)) (cut_off (variables model) (variables_of slacks) x e)
 
-  pub text_kept : (answer : Relaxation) → Shows model answer
+  pub text_kept : (answer : Relaxation) → ShowsRelaxation model answer
       → relaxation_text relaxed answer ≡ relaxation_text model answer
   unfolding certificate_text
   text_kept (Least total x violations) shows =

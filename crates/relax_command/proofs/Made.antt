@@ -8,8 +8,8 @@ use Rattle.limit_laws.specs.Limits.{LimitsAlone}
 use Rattle.lists.specs.declared.memory.Memory.{Memory as NoMemory}
 use Rattle.model_command.specs.Alone.{alone}
 use Rattle.model_load.specs.Loads.{after_edits}
-use Rattle.model_store.specs.Store.{Stored}
-use Rattle.relax_command.specs.Says.{Relaxes, Says, SaysMade, SaysSolved}
+use Rattle.model_store.specs.Store.{StoredModel}
+use Rattle.relax_command.specs.Says.{Relaxes, SaysMade, SaysOfRelaxation, SaysRelaxedSolved}
 use Rattle.relaxation.specs.Answers.{IsRelaxedFrom}
 use Rattle.relaxation.specs.RelaxedEdits.{relaxed_edits}
 use Rattle.relaxed_model.specs.Relaxed.{relaxed_model}
@@ -21,7 +21,7 @@ use Rattle.user_model.specs.declared.edit.Edit.{Edit}
 use Rattle.user_model.specs.declared.refusal.Refusal.{Refusal}
 
 -- edits that are made, or of which one is refused
-module _ (old new : Stored) (valid : IsValid old.model) (edits : List Edit)
+module _ (old new : StoredModel) (valid : IsValid old.model) (edits : List Edit)
     (are : edits ≡ relaxed_edits old.model)
     (leads : (m : ModelValue) → after_edits old.model edits ≡ Ok m
     → m ≡ relaxed_model old.model) (limits : LimitsAlone old.model edits) where
@@ -31,7 +31,7 @@ module _ (old new : Stored) (valid : IsValid old.model) (edits : List Edit)
 
   refused_edit : (setting : Setting) (gave : Result ModelValue Refusal) (answer : Answer)
       → after_edits old.model edits ≡ gave → AnswersMade (λ model said. ⊥) gave answer
-      → Says setting old.model answer
+      → SaysOfRelaxation setting old.model answer
   refused_edit setting (Ok m) answer h said = absurd said
   refused_edit setting (Err refusal) answer h said =
       subst (λ gave. SaysMade old.model setting gave answer) (sym (same_gave (Err refusal) h))
@@ -48,12 +48,13 @@ module _ (old new : Stored) (valid : IsValid old.model) (edits : List Edit)
       refused_edit setting (after_edits old.model edits) answer refl (h not)
 
 -- what is answered to the relaxation
-pub says_with : (setting : Setting) (old new : Stored) (told : Result Answer NoMemory)
+pub says_with : (setting : Setting) (old new : StoredModel) (told : Result Answer NoMemory)
     (answer : Answer) → Relaxes old (Ok tt) new
     → ((model : ModelValue) → IsRelaxedFrom model new.model
-    → IfOk told (SaysSolved model (alone setting new.model)))
-    → answer ≡ result_unwrap_or told Memory → answer ≢ Memory → Says setting old.model answer
+    → IfOk told (SaysRelaxedSolved model (alone setting new.model)))
+    → answer ≡ result_unwrap_or told Memory → answer ≢ Memory
+    → SaysOfRelaxation setting old.model answer
 says_with setting old new (Ok a) answer h says is not =
     subst (λ gave. SaysMade old.model setting gave answer) (sym h.1)
-    (h.0.is, subst (SaysSolved old.model (alone setting new.model)) (sym is) (says old.model h.0))
+    (h.0.is, subst (SaysRelaxedSolved old.model (alone setting new.model)) (sym is) (says old.model h.0))
 says_with setting old new (Err e) answer h says is not = absurd (not is)

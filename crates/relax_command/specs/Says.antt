@@ -1,6 +1,6 @@
 -- What is answered to a model, and what that says of it.
 --
---     Says       what is answered, by what the limits of models, the bridging and the solver say of
+--     SaysOfRelaxation  what is answered, by what the limits of models, the bridging and the solver say of
 --                the model's relaxation: a refusal comes exactly where one of them refuses
 --     IsLeast    what `relaxed V` says (relaxed_model): the point meets the hard rows, and the numbers
 --                that are printed are its violations of the soft rows, in total V. No point that
@@ -8,7 +8,7 @@
 use Rattle.std.specs.Prelude.{◌≡◌, ◌≢◌, ℕ, Result, Ok, Err}
 use Rattle.cache_layer.specs.Answers.{IsAttached}
 use Rattle.cache_layer.specs.Outcome.{IsOptimized}
-use Rattle.cache_layer.specs.State.{State}
+use Rattle.cache_layer.specs.CacheState.{CacheState}
 use Rattle.cache_layer.specs.declared.fault.AttachFault.{AttachFault}
 use Rattle.cache_layer.specs.declared.fault.OptFault.{OptFault}
 use Rattle.certificates.specs.declared.certificate.Certificate.{Certificate}
@@ -18,9 +18,9 @@ use Rattle.limit_laws.specs.Limits.{IsFull}
 use Rattle.model_command.specs.Alone.{alone}
 use Rattle.model_command.specs.Telling.{attach_fault_answer, optimize_fault_answer}
 use Rattle.model_load.specs.Loads.{after_edits}
-use Rattle.model_store.specs.Store.{Stored}
+use Rattle.model_store.specs.Store.{StoredModel}
 use Rattle.relax_command.specs.Text.{relaxation_text}
-use Rattle.relaxation.specs.Answers.{IsRelaxedFrom, Reads, Shows}
+use Rattle.relaxation.specs.Answers.{IsRelaxedFrom, ReadsRelaxation, ShowsRelaxation}
 use Rattle.relaxation.specs.RelaxedEdits.{relaxed_edits}
 use Rattle.relaxation.specs.declared.reading.Relaxation.{Relaxation}
 use Rattle.relaxed_model.specs.Relaxed.{relaxed_model}
@@ -36,47 +36,47 @@ pivots = 100000
 
 module _ (model : ModelValue) where
   -- what the certificate of the relaxation says of the model, shown, and printed in its names
-  pub record SaysCertificate (certificate : Certificate) (answer : Answer) : Type 0 where
+  pub record SaysRelaxedCertificate (certificate : Certificate) (answer : Answer) : Type 0 where
     pub relaxation : Relaxation
-    pub reads : Reads model certificate relaxation
-    pub shows : Shows model relaxation
+    pub reads : ReadsRelaxation model certificate relaxation
+    pub shows : ShowsRelaxation model relaxation
     pub prints : answer ≡ Printed (relaxation_text model relaxation)
 
-  abbrev pub SaysGiven : Result Certificate OptFault → Answer → Type 0
-  SaysGiven (Ok certificate) answer = SaysCertificate certificate answer
-  SaysGiven (Err fault) answer = answer ≡ optimize_fault_answer fault
+  abbrev pub SaysRelaxedGiven : Result Certificate OptFault → Answer → Type 0
+  SaysRelaxedGiven (Ok certificate) answer = SaysRelaxedCertificate certificate answer
+  SaysRelaxedGiven (Err fault) answer = answer ≡ optimize_fault_answer fault
 
   -- to the relaxation that a solver is attached to
-  abbrev pub SaysOptimized : State → Answer → Type 0
-  SaysOptimized s answer =
-      (given : Result Certificate OptFault) × IsOptimized s pivots given × SaysGiven given answer
+  abbrev pub SaysRelaxedOptimized : CacheState → Answer → Type 0
+  SaysRelaxedOptimized s answer =
+      (given : Result Certificate OptFault) × IsOptimized s pivots given × SaysRelaxedGiven given answer
 
-  abbrev pub SaysAttached : Result ℕ AttachFault → State → Answer → Type 0
-  SaysAttached (Ok leaves) s answer = SaysOptimized s answer
-  SaysAttached (Err fault) s answer = answer ≡ attach_fault_answer fault
+  abbrev pub SaysRelaxedAttached : Result ℕ AttachFault → CacheState → Answer → Type 0
+  SaysRelaxedAttached (Ok leaves) s answer = SaysRelaxedOptimized s answer
+  SaysRelaxedAttached (Err fault) s answer = answer ≡ attach_fault_answer fault
 
   -- to the relaxation before one is
-  abbrev pub SaysSolved : State → Answer → Type 0
-  SaysSolved s answer =
-      (made : Result ℕ AttachFault) × (after : State) × IsAttached s made after
-      × SaysAttached made after answer
+  abbrev pub SaysRelaxedSolved : CacheState → Answer → Type 0
+  SaysRelaxedSolved s answer =
+      (made : Result ℕ AttachFault) × (after : CacheState) × IsAttached s made after
+      × SaysRelaxedAttached made after answer
 
   -- the edits lead to the relaxation, or exceed a limit
   abbrev pub SaysMade : Setting → Result ModelValue Refusal → Answer → Type 0
   SaysMade setting (Ok relaxed) answer =
-      (relaxed ≡ relaxed_model model) × SaysSolved (alone setting relaxed) answer
+      (relaxed ≡ relaxed_model model) × SaysRelaxedSolved (alone setting relaxed) answer
   SaysMade setting (Err refusal) answer = IsFull refusal × (answer ≡ refused (refused_of refusal))
 
-abbrev pub Says : Setting → ModelValue → Answer → Type 0
-Says setting model answer =
+abbrev pub SaysOfRelaxation : Setting → ModelValue → Answer → Type 0
+SaysOfRelaxation setting model answer =
     SaysMade model setting (after_edits model (relaxed_edits model)) answer
 
 -- ---- what the code says
 
 -- a model was made its relaxation, or this is answered
-abbrev pub Relaxes : Stored → Result Unit Answer → Stored → Type 0
+abbrev pub Relaxes : StoredModel → Result Unit Answer → StoredModel → Type 0
 Relaxes old (Ok done) new =
     IsRelaxedFrom old.model new.model
     × (after_edits old.model (relaxed_edits old.model) ≡ Ok new.model) × (new.parked ≡ old.parked)
 Relaxes old (Err answer) new =
-    answer ≢ Memory → (setting : Setting) → Says setting old.model answer
+    answer ≢ Memory → (setting : Setting) → SaysOfRelaxation setting old.model answer

@@ -8,7 +8,7 @@ ghost use Rattle.io_face.specs.Fault.{HasFaulted};
 ghost use Rattle.io_face.specs.Shelf.{AsksFor};
 ghost use Rattle.io_face.specs.Told.{told_by};
 ghost use Rattle.model_command.specs.Alone.{standard_by};
-ghost use Rattle.relax_command.specs.Says.{Relaxes, Says};
+ghost use Rattle.relax_command.specs.Says.{Relaxes, SaysOfRelaxation};
 
 use crate::solving::solved;
 use bridge_face::Bridge;
@@ -31,7 +31,7 @@ pub(crate) fn answer<H: Shelf, B: Bridge>(
     requires kept { All (λ s. s.kept ≡ finite.empty) (prelude.map B.state bridges.items) }
     ensures answers { let setting = standard_by (prelude.map B.state bridges.items) in
         let told = told_by (H.files shelf.old) (H.sure shelf.old) in
-        result ≢ Answer.Memory → AnswersFile (Says setting) told name.now result }
+        result ≢ Answer.Memory → AnswersFile (SaysOfRelaxation setting) told name.now result }
     ensures cause { result ≡ Answer.ReadFault
         → HasFaulted (H.faults shelf.old) (H.faults shelf.new) }
     ensures sound { result ≢ Answer.ReadFault → H.faults shelf.new ≡ H.faults shelf.old }
@@ -50,7 +50,7 @@ fn answer_on<B: Bridge>(alloc: Global, model: UserModel, bridges: Vec<B>) -> Ans
     requires once { IsTrue (occur_once (families_of (prelude.map B.state bridges.items))) }
     requires kept { All (λ s. s.kept ≡ finite.empty) (prelude.map B.state bridges.items) }
     ensures { result ≢ Answer.Memory
-        → Says (standard_by (prelude.map B.state bridges.items)) model.model result }
+        → SaysOfRelaxation (standard_by (prelude.map B.state bridges.items)) model.model result }
 {
     let mut model = model;
     match relax(alloc, &mut model) {

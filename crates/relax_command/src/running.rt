@@ -8,7 +8,7 @@ ghost use Rattle.command_words.specs.Texts.{texts};
 ghost use Rattle.file_command.specs.Words.{model_word};
 ghost use Rattle.io_face.specs.Told.{told_by};
 ghost use Rattle.model_command.specs.Alone.{standard_by};
-ghost use Rattle.relax_command.specs.Says.{Says};
+ghost use Rattle.relax_command.specs.Says.{SaysOfRelaxation};
 
 use crate::answering::answer;
 use bridge_face::Bridge;
@@ -37,7 +37,7 @@ pub fn run<H: Shelf, O: Sink, B: Bridge>(
     // for its cause alone.
     ensures runs { let setting = standard_by (prelude.map B.state bridges.items) in
         let told = told_by (H.files shelf.old) (H.sure shelf.old) in
-        IsRunOnFile (model_word (texts words.now)) (λ name. name) (λ _. Says setting) told
+        IsRunOnFile (model_word (texts words.now)) (λ name. name) (λ _. SaysOfRelaxation setting) told
         (seen (H.asked shelf.old) (H.faults shelf.old) (O.written output.old) (O.faults output.old))
         (seen (H.asked shelf.new) (H.faults shelf.new) (O.written output.new) (O.faults output.new))
         result }

@@ -6,7 +6,7 @@ ghost use Rattle.bridge_set.specs.Bridges.{families_of, occur_once};
 ghost use Rattle.cache_layer.specs.Cached.{model_in, state_of};
 ghost use Rattle.certificates.specs.Good.{Good};
 ghost use Rattle.model_command.specs.Alone.{alone, standard_by};
-ghost use Rattle.relax_command.specs.Says.{SaysCertificate, SaysOptimized, SaysSolved};
+ghost use Rattle.relax_command.specs.Says.{SaysRelaxedCertificate, SaysRelaxedOptimized, SaysRelaxedSolved};
 ghost use Rattle.relaxation.specs.Answers.{IsRelaxedFrom};
 ghost use Rattle.user_model.specs.Model.{ModelValue};
 
@@ -33,7 +33,7 @@ pub(crate) fn solved<B: Bridge>(
     requires settled { relaxed.parked ≡ [] }
     requires once { IsTrue (occur_once (families_of (prelude.map B.state bridges.items))) }
     requires kept { All (λ s. s.kept ≡ finite.empty) (prelude.map B.state bridges.items) }
-    ensures { (model : ModelValue) → IsRelaxedFrom model relaxed.model → IfOk result (SaysSolved model
+    ensures { (model : ModelValue) → IsRelaxedFrom model relaxed.model → IfOk result (SaysRelaxedSolved model
         (alone (standard_by (prelude.map B.state bridges.items)) relaxed.model)) }
 {
     let mut cache = cache_of(alloc, relaxed, bridges);
@@ -44,7 +44,7 @@ pub(crate) fn solved<B: Bridge>(
 fn attached<B: Bridge>(alloc: Global, cache: &mut Cache<B>) -> Result<Answer, Memory>
     requires { (model : ModelValue) × IsRelaxedFrom model (model_in cache.old) }
     ensures { (model : ModelValue) → IsRelaxedFrom model (model_in cache.old)
-        → IfOk result (SaysSolved model (state_of cache.old)) }
+        → IfOk result (SaysRelaxedSolved model (state_of cache.old)) }
 {
     match cache.attach() {
         Ok(_leaves) => optimized(alloc, cache),
@@ -55,7 +55,7 @@ fn attached<B: Bridge>(alloc: Global, cache: &mut Cache<B>) -> Result<Answer, Me
 fn optimized<B: Bridge>(alloc: Global, cache: &Cache<B>) -> Result<Answer, Memory>
     requires { (model : ModelValue) × IsRelaxedFrom model (model_in cache.now) }
     ensures { (model : ModelValue) → IsRelaxedFrom model (model_in cache.now)
-        → IfOk result (SaysOptimized model (state_of cache.now)) }
+        → IfOk result (SaysRelaxedOptimized model (state_of cache.now)) }
 {
     match cache.optimize(PIVOTS) {
         Ok(certificate) => told(alloc, cache.model(), certificate),
@@ -68,7 +68,7 @@ fn told(alloc: Global, relaxed: &UserModel, certificate: Certificate) -> Result<
     requires from { (model : ModelValue) × IsRelaxedFrom model relaxed.now.model }
     requires good { Good relaxed.now.model certificate }
     ensures { (model : ModelValue) → IsRelaxedFrom model relaxed.now.model
-        → IfOk result (SaysCertificate model certificate) }
+        → IfOk result (SaysRelaxedCertificate model certificate) }
 {
     let relaxation = relaxation_of(alloc, relaxed, certificate)?;
     let text = relaxation_text(alloc, relaxed, &relaxation)?;

@@ -14,7 +14,7 @@ use Rattle.relaxed_model.specs.HardLaws.{hard_infeasible}
 use Rattle.relaxed_model.specs.LeastLaws.{least_is, never_unbounded}
 use Rattle.relaxed_model.specs.PlacedLaws.{length-relaxed}
 use Rattle.relaxed_model.specs.Relaxed.{at_hard_rows, is_hard, is_soft, slack_violation, relaxed_row, relaxed_rows, row_signs, signs_on, slack_count, slack_violations}
-use Rattle.relaxation.specs.Answers.{IsRelaxedFrom, Reads, Shows, hopeless_by, least_by}
+use Rattle.relaxation.specs.Answers.{IsRelaxedFrom, ReadsRelaxation, ShowsRelaxation, hopeless_by, least_by}
 use Rattle.relaxation.specs.KeptLaws.{soft_kept}
 use Rattle.relaxation.specs.declared.reading.Relaxation.{Relaxation}
 use Rattle.relaxation.specs.declared.reading.Relaxation.TheVariants.{Hopeless, Least}
@@ -101,13 +101,14 @@ module _ (model relaxed : ModelValue) (from : IsRelaxedFrom model relaxed) where
 
   -- what is read is shown
   pub shows : (certificate : Certificate) (answer : Relaxation) → IsValid relaxed
-      → Good relaxed certificate → Reads model certificate answer → Shows model answer
+      → Good relaxed certificate → ReadsRelaxation model certificate answer
+      → ShowsRelaxation model answer
   shows (Optimal value z rows vars) answer valid good reads =
-      subst (Shows model) (sym reads)
+      subst (ShowsRelaxation model) (sym reads)
       (least_is model from.valid (subst IsValid from.is valid) value z rows vars
       (subst (λ m. IsOptimal m value z rows vars) from.is good))
   shows (Infeasible gap rows vars) answer valid good reads =
-      subst (Shows model) (sym reads)
+      subst (ShowsRelaxation model) (sym reads)
       (hard_infeasible model from.valid gap rows vars
       (subst (λ m. IsInfeasible m gap rows vars) from.is good))
   shows (Unbounded x d) answer valid good reads = absurd reads
@@ -132,14 +133,14 @@ module _ (model relaxed : ModelValue) (from : IsRelaxedFrom model relaxed) where
       pub told_least : (value : Rational) (z : List Rational) (rows : List (List Rational))
           (vars : List Rational) → certificate ≡ Optimal value z rows vars
           → IfOk told (λ answer. answer ≡ least_by own (length z - count) value z)
-          → IfOk told (Reads model certificate)
+          → IfOk told (ReadsRelaxation model certificate)
       told_least value z rows vars is h = by told h
         where
           by : (r : Result Relaxation Memory)
               → IfOk r (λ answer. answer ≡ least_by own (length z - count) value z)
-              → IfOk r (Reads model certificate)
+              → IfOk r (ReadsRelaxation model certificate)
           by (Ok answer) h =
-              subst (λ c. Reads model c answer) (sym is)
+              subst (λ c. ReadsRelaxation model c answer) (sym is)
               (h ∙ ap₂ (λ rs k. least_by rs (length z - k) value z) same counted_too
               ∙ reads_least value z rows vars (subst (Good relaxed) is good).feasible.size)
           by (Err e) h = tt
@@ -147,24 +148,24 @@ module _ (model relaxed : ModelValue) (from : IsRelaxedFrom model relaxed) where
       pub told_hopeless : (gap : Rational) (rows : List (List Rational)) (vars : List Rational)
           → certificate ≡ Infeasible gap rows vars
           → IfOk told (λ answer. answer ≡ hopeless_by own (length vars - count) gap rows vars)
-          → IfOk told (Reads model certificate)
+          → IfOk told (ReadsRelaxation model certificate)
       told_hopeless gap rows vars is h = by told h
         where
           by : (r : Result Relaxation Memory)
               → IfOk r (λ answer. answer ≡ hopeless_by own (length vars - count) gap rows vars)
-              → IfOk r (Reads model certificate)
+              → IfOk r (ReadsRelaxation model certificate)
           by (Ok answer) h =
-              subst (λ c. Reads model c answer) (sym is)
+              subst (λ c. ReadsRelaxation model c answer) (sym is)
               (h ∙ ap₂ (λ rs k. hopeless_by rs (length vars - k) gap rows vars) same counted_too
               ∙ reads_hopeless gap rows vars
               (subst (Good relaxed) is good).duals.each_variable)
           by (Err e) h = tt
 
-      pub told_shown : IsValid relaxed → IfOk told (Reads model certificate)
-          → IfOk told (Shows model)
+      pub told_shown : IsValid relaxed → IfOk told (ReadsRelaxation model certificate)
+          → IfOk told (ShowsRelaxation model)
       told_shown valid h = by told h
         where
-          by : (r : Result Relaxation Memory) → IfOk r (Reads model certificate)
-              → IfOk r (Shows model)
+          by : (r : Result Relaxation Memory) → IfOk r (ReadsRelaxation model certificate)
+              → IfOk r (ShowsRelaxation model)
           by (Ok answer) h = shows certificate answer valid good h
           by (Err e) h = tt

@@ -39,7 +39,7 @@ use Rattle.group_numbering.specs.NewGroups.{numbered_groups, terms_from}
 use Rattle.group_numbering.specs.NumberLaws.{terms_rise}
 use Rattle.group_numbering.specs.PlaceLaws.{addresses_from}
 use Rattle.model_load.specs.Loads.{after_edits}
-use Rattle.relaxed_model.specs.NameLaws.{IsFree, names_apart, names_distinct, names_free}
+use Rattle.relaxed_model.specs.NameLaws.{IsNameFree, names_apart, names_distinct, names_free}
 use Rattle.relaxed_model.specs.PlacedLaws.{length-free_names}
 use Rattle.relaxed_model.specs.Relaxed.{free_names, relaxed_model, relaxed_rows, slack_count, slack_group, slack_names, sum_from}
 use Rattle.relaxation.proofs.RowLemmas.{few_slacks}
@@ -284,7 +284,7 @@ module _ (model : ModelValue) (valid : IsValid model) where
 
   new : All (IsNewIn (variables model)) names
   new =
-      All-weaker (IsFree model) (IsNewIn (variables model)) (λ name. free_variable model name) names
+      All-weaker (IsNameFree model) (IsNewIn (variables model)) (λ name. free_variable model name) names
       (names_free model (slack_count model.rows) few small)
 
   variables_are : variables base ≡ variables model ++ numbered_from first names

@@ -7,7 +7,7 @@ use Rattle.certificates.specs.Good.{IsInfeasible}
 use Rattle.user_model.specs.declared.row.Row.{Row}
 use Rattle.user_model.specs.Model.{ModelValue, variables}
 use Rattle.user_model.specs.Valid.{IsValid}
-use Rattle.relaxed_model.specs.LeastLaws.{IsLeast}
+use Rattle.relaxed_model.specs.LeastLaws.{IsLeastMissed}
 use Rattle.relaxed_model.specs.Relaxed.{at_hard_rows, hard_model, is_hard, is_soft, relaxed_model, slack_violation, slack_violations}
 use Rattle.relaxation.specs.declared.reading.Relaxation.{Relaxation}
 use Rattle.relaxation.specs.declared.reading.Relaxation.TheVariants.{Hopeless, Least}
@@ -18,9 +18,9 @@ pub record IsRelaxedFrom (model relaxed : ModelValue) : Type 0 where
   pub is : relaxed ≡ relaxed_model model
 
 -- what is shown: the least total violation of the soft rows, or that no point meets the hard rows
-abbrev pub Shows : ModelValue → Relaxation → Type 0
-Shows model (Least total x violations) = IsLeast model total x violations
-Shows model (Hopeless gap rows vars) = IsInfeasible (hard_model model) gap rows vars
+abbrev pub ShowsRelaxation : ModelValue → Relaxation → Type 0
+ShowsRelaxation model (Least total x violations) = IsLeastMissed model total x violations
+ShowsRelaxation model (Hopeless gap rows vars) = IsInfeasible (hard_model model) gap rows vars
 
 -- ---- what is read, by the rows and the number of the model's variables
 
@@ -33,12 +33,12 @@ abbrev pub hopeless_by : List Row → ℕ → Rational → List (List Rational) 
     → Relaxation
 hopeless_by rows size gap duals vars = Hopeless gap (at_hard_rows rows duals) (take size vars)
 
-abbrev pub Reads : ModelValue → Certificate → Relaxation → Type 0
-Reads model (Optimal value z rows vars) answer =
+abbrev pub ReadsRelaxation : ModelValue → Certificate → Relaxation → Type 0
+ReadsRelaxation model (Optimal value z rows vars) answer =
     answer ≡ least_by model.rows (length (variables model)) value z
-Reads model (Infeasible gap rows vars) answer =
+ReadsRelaxation model (Infeasible gap rows vars) answer =
     answer ≡ hopeless_by model.rows (length (variables model)) gap rows vars
-Reads model (Unbounded x d) answer = ⊥
+ReadsRelaxation model (Unbounded x d) answer = ⊥
 
 -- ---- one row
 

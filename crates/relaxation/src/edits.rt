@@ -19,10 +19,7 @@ use named_aff::{NamedAff, NamedTerm, NamedTerms};
 use ratio_core::Ratio;
 use set_core::Set;
 use std::alloc::Global;
-use user_model::{Edit, NamedFunc, Rows, Sense};
-
-/// Edits in their order.
-pub type Edits = Sequence<Edit>;
+use user_model::{Edit, Edits, NamedFunc, Rows, Sense};
 
 /// The edits that lead from a model to its relaxation: a variable of at least 0 for each side on which
 /// a scalar affine row may be violated, its coefficient, and the least sum of these variables as the

@@ -7,6 +7,6 @@ mod names;
 mod reading;
 mod rows;
 
-pub use edits::{Edits, relaxed};
+pub use edits::relaxed;
 pub use reading::{Relaxation, relaxation_of};
 pub use rows::is_soft;

@@ -3,7 +3,7 @@ ghost use Rattle.std.specs.Prelude.{◌≡◌, ◌-◌, ◌≤◌, ◌++◌, IfO
 ghost use Rattle.certificates.specs.Good.{Good};
 ghost use Rattle.user_model.specs.Model.{ModelValue};
 ghost use Rattle.relaxed_model.specs.Relaxed.{at_hard_rows, slack_count, slack_violation, slack_violations};
-ghost use Rattle.relaxation.specs.Answers.{IsRelaxedFrom, Reads, Shows, hopeless_by, least_by, own_duals, own_violations};
+ghost use Rattle.relaxation.specs.Answers.{IsRelaxedFrom, ReadsRelaxation, ShowsRelaxation, hopeless_by, least_by, own_duals, own_violations};
 
 use crate::rows::{is_soft, slack_count, slacks_of};
 use certificates::{Certificate, DualRows};
@@ -42,9 +42,9 @@ pub fn relaxation_of(
     requires from { (model : ModelValue) × IsRelaxedFrom model relaxed.now.model }
     requires good { Good relaxed.now.model certificate }
     ensures reads { (model : ModelValue) → IsRelaxedFrom model relaxed.now.model
-        → IfOk result (Reads model certificate) }
+        → IfOk result (ReadsRelaxation model certificate) }
     ensures shows { (model : ModelValue) → IsRelaxedFrom model relaxed.now.model
-        → IfOk result (Shows model) }
+        → IfOk result (ShowsRelaxation model) }
 {
     let rows = relaxed.rows();
     let count = slack_count(rows);

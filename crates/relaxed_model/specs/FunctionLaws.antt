@@ -1,5 +1,5 @@
 -- Functions with slacks: their values and coefficients, and which addresses they are of.
---     IsBelow n f      the function is of addresses whose numbers are below n
+--     HasVariablesBelow n f  the function is of addresses whose numbers are below n
 use Rattle.std.specs.Prelude.{◌≡◌, ◌≢◌, ℕ, suc, ◌+◌, ◌<◌, ◌≤◌, Bool, true, false, cond, List, [], ◌∷◌, All, None, Some, length, unwrap_or, refl}
 use Rattle.std.specs.Ordering.{eq_by_cmp}
 use Rattle.std.proofs.Common.{ap, ap₂, arith, subst, sym, ◌∙◌}
@@ -22,41 +22,42 @@ use Rattle.group_numbering.specs.NewGroups.{terms_from}
 use Rattle.group_numbering.specs.NumberLaws.{numbers_from, terms_rise, value_from}
 use Rattle.relaxed_model.specs.Relaxed.{with_slacks}
 
-abbrev pub IsBelow : ℕ → Function → Type 0
-IsBelow n f = (v : Address) → ¬ (coefficient f v ≡ zero_ℚ) → v.number < n
+abbrev pub HasVariablesBelow : ℕ → Function → Type 0
+HasVariablesBelow n f = (v : Address) → ¬ (coefficient f v ≡ zero_ℚ) → v.number < n
 
-pub below_from : (first n : ℕ) → first ≤ n → (f : Function) → IsBelow first f → IsBelow n f
+pub below_from : (first n : ℕ) → first ≤ n → (f : Function) → HasVariablesBelow first f
+    → HasVariablesBelow n f
 below_from first n h f below v some = let less = below v some in omega (arith, less, h)
 
 -- points that agree below n give such a function one value
-pub value_below : (n : ℕ) (f : Function) (x y : Address → Rational) → IsBelow n f
+pub value_below : (n : ℕ) (f : Function) (x y : Address → Rational) → HasVariablesBelow n f
     → ((v : Address) → v.number < n → x v ≡ y v) → value_of f x ≡ value_of f y
 unfolding value_of
 value_below n f x y below agree =
     ap (λ q. f.constant +ℚ q) (slope_agreeing f x y (λ v h. agree v (below v h)))
 
 pub values_below : (n : ℕ) (fs : List Function) (x y : Address → Rational)
-    → All {X = Function} (IsBelow n) fs → ((v : Address) → v.number < n → x v ≡ y v)
+    → All {X = Function} (HasVariablesBelow n) fs → ((v : Address) → v.number < n → x v ≡ y v)
     → values fs x ≡ values fs y
 values_below n [] x y below agree = refl
 values_below n (f ∷ fs) x y below agree =
-    ap₂ (λ q qs. q ∷ qs) (value_below n f x y (All-head (IsBelow n) f fs below) agree)
-    (values_below n fs x y (All-tail (IsBelow n) f fs below) agree)
+    ap₂ (λ q qs. q ∷ qs) (value_below n f x y (All-head (HasVariablesBelow n) f fs below) agree)
+    (values_below n fs x y (All-tail (HasVariablesBelow n) f fs below) agree)
 
-pub zero_from : (n : ℕ) (f : Function) → IsBelow n f → (v : Address) → n ≤ v.number
+pub zero_from : (n : ℕ) (f : Function) → HasVariablesBelow n f → (v : Address) → n ≤ v.number
     → coefficient f v ≡ zero_ℚ
 zero_from n f below v h =
     zero_or_other (coefficient f v ≡ zero_ℚ) (coefficient f v) (λ e. e)
     (λ some. let less = below v some in absurd (omega (arith, less, h)))
 
 -- such functions have the coefficient 0 at each address from n on
-pub zeros_from : (n : ℕ) (fs : List Function) → All {X = Function} (IsBelow n) fs → (v : Address)
+pub zeros_from : (n : ℕ) (fs : List Function) → All {X = Function} (HasVariablesBelow n) fs → (v : Address)
     → n ≤ v.number → All (λ q. q ≡ zero_ℚ) (coefficients fs v)
 zeros_from n [] below v h = All-nil (λ q. q ≡ zero_ℚ)
 zeros_from n (f ∷ fs) below v h =
     All-cons (λ q. q ≡ zero_ℚ) (coefficient f v) (coefficients fs v)
-    (zero_from n f (All-head (IsBelow n) f fs below) v h)
-    (zeros_from n fs (All-tail (IsBelow n) f fs below) v h)
+    (zero_from n f (All-head (HasVariablesBelow n) f fs below) v h)
+    (zeros_from n fs (All-tail (HasVariablesBelow n) f fs below) v h)
 
 -- ---- one slack
 
@@ -111,8 +112,8 @@ module _ (n : ℕ) (q : Rational) (f : Function) (none : coefficient f (variable
         (evaluated_value (alone n q) x ∙ value_from n (q ∷ []) zero_ℚ x
         ∙ zero-+ℚ (q *ℚ x (variable_address n) +ℚ zero_ℚ) ∙ +ℚ-zero (q *ℚ x (variable_address n)))
 
-one_below : (n : ℕ) (q : Rational) (f : Function) → IsBelow n f
-    → IsBelow (suc n) (with_coefficient f (variable_address n) q)
+one_below : (n : ℕ) (q : Rational) (f : Function) → HasVariablesBelow n f
+    → HasVariablesBelow (suc n) (with_coefficient f (variable_address n) q)
 one_below n q f below v some = by (eq_by_cmp address_cmp v (variable_address n)) refl
   where
     by : (b : Bool) → eq_by_cmp address_cmp v (variable_address n) ≡ b → v.number < suc n
@@ -131,16 +132,16 @@ one_below n q f below v some = by (eq_by_cmp address_cmp v (variable_address n))
 along : (n k : ℕ) → suc n + k ≡ n + suc k
 along n k = omega arith
 
-pub slacks_below : (n : ℕ) (qs : List Rational) (f : Function) → IsBelow n f
-    → IsBelow (n + length qs) (with_slacks n qs f)
+pub slacks_below : (n : ℕ) (qs : List Rational) (f : Function) → HasVariablesBelow n f
+    → HasVariablesBelow (n + length qs) (with_slacks n qs f)
 slacks_below n [] f below =
-    let same : n ≡ n + 0 = omega arith in subst (λ k. IsBelow k f) same below
+    let same : n ≡ n + 0 = omega arith in subst (λ k. HasVariablesBelow k f) same below
 slacks_below n (q ∷ qs) f below =
-    subst (λ k. IsBelow k (with_slacks n (q ∷ qs) f)) (along n (length qs))
+    subst (λ k. HasVariablesBelow k (with_slacks n (q ∷ qs) f)) (along n (length qs))
     (slacks_below (suc n) qs (with_coefficient f (variable_address n) q) (one_below n q f below))
 
 pub value_with_slacks : (n : ℕ) (qs : List Rational) (f : Function) (x : Address → Rational)
-    → IsBelow n f
+    → HasVariablesBelow n f
     → value_of (with_slacks n qs f) x ≡ value_of f x +ℚ dot qs (numbers_from x n (length qs))
 value_with_slacks n [] f x below = sym (+ℚ-zero (value_of f x))
 value_with_slacks n (q ∷ qs) f x below =

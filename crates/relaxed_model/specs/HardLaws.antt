@@ -13,7 +13,7 @@ use Rattle.rational_laws.specs.Field.{*ℚ-zero, +ℚ-zero, -ℚ-itself, zero-+�
 use Rattle.rational_laws.specs.Linear.{as_scaled, linear₂, scaled_zero, scales}
 use Rattle.aff_core.specs.Address.{Address, address_cmp}
 use Rattle.aff_core.specs.FunctionLaws.{constant-variable}
-use Rattle.dual_laws.specs.Held.{DualRow, adjoint, gap, gap_of}
+use Rattle.dual_laws.specs.Held.{DualRow, HasDuals, adjoint, gap, gap_of}
 use Rattle.dual_laws.specs.PullLaws.{gap-append}
 use Rattle.user_model.specs.declared.group.Group.{Group}
 use Rattle.user_model.specs.declared.group.GroupVar.{GroupVar}
@@ -21,7 +21,7 @@ use Rattle.user_model.specs.declared.row.Row.{Row}
 use Rattle.user_model.specs.Model.{ModelValue, variable_address, variables}
 use Rattle.user_model.specs.Valid.{IsValid}
 use Rattle.certificates.specs.Points.{address_of, addresses_of, at_point, variables_of}
-use Rattle.certificates.specs.Duals.{HasDuals, group_with, groups_with, rows_with}
+use Rattle.certificates.specs.Duals.{group_with, groups_with, rows_with}
 use Rattle.certificates.specs.Good.{Cancels, IsInfeasible}
 use Rattle.group_numbering.specs.NewGroups.{numbered_groups}
 use Rattle.group_numbering.specs.PlaceLaws.{addresses_from}

@@ -2,7 +2,7 @@
 -- hard rows makes a point of the relaxation, whose objective is the point's total violation; and each
 -- point of the relaxation has an objective of at least the total violation of its part. No objective
 -- of the relaxation is below 0, so it is never unbounded.
---     IsLeast      what an optimal point of the relaxation says of the model
+--     IsLeastMissed  what an optimal point of the relaxation says of the model
 use Rattle.std.specs.Prelude.{◌≡◌, ℕ, zero, suc, ◌+◌, ◌<◌, List, [], ◌∷◌, ◌++◌, All, length, map, replicate, refl}
 use Rattle.std.proofs.Common.{ap, ap₂, arith, subst, sym, ◌∙◌}
 use Rattle.std.proofs.lemmas.List.{length-append}
@@ -38,7 +38,7 @@ use Rattle.relaxed_model.specs.RowLaws.{AreEnoughFor, length-row_slacks, row_sla
 
 -- The point meets the hard rows, and these are its violations of the soft rows, which add up to the
 -- value. No point that meets the hard rows has a smaller total violation.
-pub record IsLeast (model : ModelValue) (value : Rational) (x own : List Rational) : Type 0 where
+pub record IsLeastMissed (model : ModelValue) (value : Rational) (x own : List Rational) : Type 0 where
   pub feasible : IsFeasible (hard_model model) x
   pub each : own ≡ violations model x
   pub together : value ≡ total_violation model x
@@ -291,7 +291,7 @@ module _ (model : ModelValue) (valid : IsValid model) where
         (no_less x (meets_hard x s size slack_size both_feasible))
         (subst (λ q. total_violation model x ≤ℚ q) value_is least_slacks.least)
 
-    pub least_is : IsLeast model value (first_part model z)
+    pub least_is : IsLeastMissed model value (first_part model z)
         (slack_violations model.rows (last_part model z))
     least_is = record {
       feasible = meets_hard x s size slack_size both_feasible;

@@ -63,8 +63,8 @@ module _ (model : ModelValue) where
   abbrev IsTaken : List ℕ → Type 0
   IsTaken name = has_variable_named model name ≡ true
 
-  abbrev pub IsFree : List ℕ → Type 0
-  IsFree name = has_variable_named model name ≡ false
+  abbrev pub IsNameFree : List ℕ → Type 0
+  IsNameFree name = has_variable_named model name ≡ false
 
   taken_in : (name : List ℕ) → IsTaken name → is_member bytes_eq taken name ≡ true
   taken_in name e =
@@ -125,22 +125,22 @@ module _ (model : ModelValue) where
     length-steps (suc t) n = ap suc (length-steps t (n + step))
 
     -- a free name is found, or all that were tried are taken
-    found : (t n : ℕ) → IsFree (slack_name (free_number model step t n))
+    found : (t n : ℕ) → IsNameFree (slack_name (free_number model step t n))
         ⊎ All IsTaken (steps (suc t) n)
     unfolding steps
     found zero n = by (has_variable_named model (slack_name n)) refl
       where
         by : (b : Bool) → has_variable_named model (slack_name n) ≡ b
-            → IsFree (slack_name n) ⊎ All IsTaken (steps 1 n)
+            → IsNameFree (slack_name n) ⊎ All IsTaken (steps 1 n)
         by true e = inr (All-cons IsTaken (slack_name n) [] e (All-nil IsTaken))
         by false e = inl e
     found (suc t) n =
         by (has_variable_named model (slack_name n)) refl (found t (n + step))
       where
         by : (b : Bool) → has_variable_named model (slack_name n) ≡ b
-            → IsFree (slack_name (free_number model step t (n + step)))
+            → IsNameFree (slack_name (free_number model step t (n + step)))
             ⊎ All IsTaken (steps (suc t) (n + step))
-            → IsFree (slack_name (cond b (free_number model step t (n + step)) n))
+            → IsNameFree (slack_name (cond b (free_number model step t (n + step)) n))
             ⊎ All IsTaken (steps (suc (suc t)) n)
         by true e (inl free) = inl free
         by true e (inr all) =
@@ -156,7 +156,7 @@ module _ (model : ModelValue) where
 
     -- as many tries as the model has variables find a name that is free
     is_free : (n : ℕ) → n + suc (length (variables model)) * step < 10 ^ 64
-        → IsFree (free_name model step n)
+        → IsNameFree (free_name model step n)
     is_free n h =
         elim (found (length (variables model)) n) [
           | inl free ↦ free
@@ -232,7 +232,7 @@ module _ (model : ModelValue) (count : ℕ) (few : length (variables model) < 2 
       mul-le (suc size) count (2 ^ 64) (2 ^ 64) (omega (arith, few)) (omega (arith, small)) in
       omega (arith, product, within, small)
 
-  one_free : (k : ℕ) → 1 ≤ k → k ≤ count → IsFree model (free_name model count k)
+  one_free : (k : ℕ) → 1 ≤ k → k ≤ count → IsNameFree model (free_name model count k)
   one_free k some within =
       is_free model count (omega (arith, some, within)) k (enough k within)
 
@@ -292,8 +292,8 @@ module _ (model : ModelValue) (count : ℕ) (few : length (variables model) < 2 
   names_distinct =
       IsDistinct-from_AllPairs bytes_eq-Decides (free_names model count 1 count) names_apart
 
-  pub names_free : All (IsFree model) (free_names model count 1 count)
+  pub names_free : All (IsNameFree model) (free_names model count 1 count)
   names_free =
-      All-weaker (IsPlaced 1) (IsFree model)
-      (λ name p. subst (IsFree model) (sym p.is) (one_free p.place p.from p.to))
+      All-weaker (IsPlaced 1) (IsNameFree model)
+      (λ name p. subst (IsNameFree model) (sym p.is) (one_free p.place p.from p.to))
       (free_names model count 1 count) (placed 1 count (omega arith))

@@ -23,7 +23,7 @@ use Rattle.user_model.specs.Model.{ModelValue}
 use Rattle.user_model.specs.Valid.{IsValid, IsValidRow, Stands}
 use Rattle.certificates.specs.Points.{address_of, addresses_of, functions_of, functions_of_group, variables_at, variables_of}
 use Rattle.model_laws.specs.Variables.{group_found}
-use Rattle.relaxed_model.specs.FunctionLaws.{IsBelow}
+use Rattle.relaxed_model.specs.FunctionLaws.{HasVariablesBelow}
 use Rattle.relaxed_model.specs.RowLaws.{IsOwnRow}
 
 -- ---- variables that stand
@@ -61,7 +61,7 @@ term_there f v some = by (finite.get f.terms v) some
     by None some = absurd (some refl)
     by (Some q) some = refl
 
-pub variable_below : (n : ℕ) (u : Address) → u.number < n → IsBelow n (variable {R = address_cmp} u)
+pub variable_below : (n : ℕ) (u : Address) → u.number < n → HasVariablesBelow n (variable {R = address_cmp} u)
 variable_below n u h v some =
     same_or_other address_order (v.number < n) v u
     (λ e. subst (λ (a : Address). a.number < n) (sym e) h)
@@ -69,10 +69,10 @@ variable_below n u h v some =
 
 variables_below : (n : ℕ) (vars : List Address)
     → ((at : Address) → list_any (address_eq at) vars ≡ true → at.number < n)
-    → All {X = Function} (IsBelow n) (variables_at vars)
-variables_below n [] h = All-nil (IsBelow n)
+    → All {X = Function} (HasVariablesBelow n) (variables_at vars)
+variables_below n [] h = All-nil (HasVariablesBelow n)
 variables_below n (u ∷ us) h =
-    All-cons (IsBelow n) (variable u) (variables_at us)
+    All-cons (HasVariablesBelow n) (variable u) (variables_at us)
     (variable_below n u (h u (or_left (address_eq u u) (list_any (address_eq u) us)
     (same_key address_order u))))
     (variables_below n us
@@ -80,22 +80,22 @@ variables_below n (u ∷ us) h =
 
 functions_below : (n : ℕ) (fs : List Function)
     → ((at : Address) → list_any (has_term at) fs ≡ true → at.number < n)
-    → All {X = Function} (IsBelow n) fs
-functions_below n [] h = All-nil (IsBelow n)
+    → All {X = Function} (HasVariablesBelow n) fs
+functions_below n [] h = All-nil (HasVariablesBelow n)
 functions_below n (f ∷ fs) h =
-    All-cons (IsBelow n) f fs
+    All-cons (HasVariablesBelow n) f fs
     (λ v some. h v (or_left (has_term v f) (list_any (has_term v) fs) (term_there f v some)))
     (functions_below n fs
     (λ at e. h at (or_right (has_term at f) (list_any (has_term at) fs) e)))
 
 mentioned_below : (n : ℕ) (func : UserFunc)
     → ((at : Address) → func_mentions at func ≡ true → at.number < n)
-    → All {X = Function} (IsBelow n) (functions_of func)
+    → All {X = Function} (HasVariablesBelow n) (functions_of func)
 mentioned_below n (Plain var) h =
-    All-cons (IsBelow n) (variable var) []
-    (variable_below n var (h var (same_key address_order var))) (All-nil (IsBelow n))
+    All-cons (HasVariablesBelow n) (variable var) []
+    (variable_below n var (h var (same_key address_order var))) (All-nil (HasVariablesBelow n))
 mentioned_below n (Affine f) h =
-    All-cons (IsBelow n) f [] (λ v some. h v (term_there f v some)) (All-nil (IsBelow n))
+    All-cons (HasVariablesBelow n) f [] (λ v some. h v (term_there f v some)) (All-nil (HasVariablesBelow n))
 mentioned_below n (PlainVec vars) h = variables_below n vars h
 mentioned_below n (AffineVec fs) h = functions_below n fs h
 
@@ -125,16 +125,16 @@ own_rows model valid =
 -- ---- groups
 
 members_below : (n : ℕ) (vars : List GroupVar) → All (IsNumberedBelow n) vars
-    → All {X = Function} (IsBelow n) (variables_at (addresses_of vars))
-members_below n [] below = All-nil (IsBelow n)
+    → All {X = Function} (HasVariablesBelow n) (variables_at (addresses_of vars))
+members_below n [] below = All-nil (HasVariablesBelow n)
 members_below n (v ∷ vars) below =
-    All-cons (IsBelow n) (variable (address_of v)) (variables_at (addresses_of vars))
+    All-cons (HasVariablesBelow n) (variable (address_of v)) (variables_at (addresses_of vars))
     (variable_below n (address_of v) (All-head (IsNumberedBelow n) v vars below))
     (members_below n vars (All-tail (IsNumberedBelow n) v vars below))
 
 -- a group whose variables are numbered below n
 abbrev pub IsOwnGroup : ℕ → Group → Type 0
-IsOwnGroup n g = All {X = Function} (IsBelow n) (functions_of_group g)
+IsOwnGroup n g = All {X = Function} (HasVariablesBelow n) (functions_of_group g)
 
 pub own_groups : (n : ℕ) (groups : List Group) → All (IsNumberedBelow n) (variables_of groups)
     → All (IsOwnGroup n) groups

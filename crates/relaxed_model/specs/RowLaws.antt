@@ -23,17 +23,17 @@ use Rattle.user_model.specs.declared.row.Row.{Row}
 use Rattle.certificates.specs.Points.{functions_of}
 use Rattle.group_numbering.specs.NumberLaws.{length-numbers_from, numbers_from, numbers_from-append}
 use Rattle.group_numbering.specs.PlaceLaws.{joined_alike}
-use Rattle.relaxed_model.specs.FunctionLaws.{IsBelow, below_from, value_below, value_with_slacks, values_below}
+use Rattle.relaxed_model.specs.FunctionLaws.{HasVariablesBelow, below_from, value_below, value_with_slacks, values_below}
 use Rattle.relaxed_model.specs.Relaxed.{hard_rows, is_soft, relaxed_row, relaxed_rows, row_signs, row_value, row_violation, signs_on, slack_count, slack_violation, slack_violations, soft_rows, with_slacks}
 use Rattle.relaxed_model.specs.SoftOrHard.{SoftOrHard, of_hard, of_soft, soft_or_hard}
 use Rattle.relaxed_model.specs.SlackLaws.{AreEnough, both_equal, length-slacks_on, slackened, slacks_enough, slacks_meet, slacks_nonneg, slacks_on, slacks_sum}
 
-abbrev pub RowIn : (Address → Rational) → Row → Type 0
-RowIn x r = In r.set (values (functions_of r.func) x)
+abbrev pub RowHoldsAt : (Address → Rational) → Row → Type 0
+RowHoldsAt x r = In r.set (values (functions_of r.func) x)
 
 -- a row of a valid model whose variables are numbered below n
 pub record IsOwnRow (n : ℕ) (r : Row) : Type 0 where
-  pub below : All {X = Function} (IsBelow n) (functions_of r.func)
+  pub below : All {X = Function} (HasVariablesBelow n) (functions_of r.func)
   pub uncrossed : is_crossed r.set ≡ false
   pub scalar : is_soft r ≡ true → is_scalar r.set ≡ true
 
@@ -126,7 +126,7 @@ row_slacks_sum y (r ∷ rows) =
 
 -- what is known of one row: it is met where it is hard, and missed by no more than its slacks
 pub record IsEnoughFor (y : Address → Rational) (r : Row) (ts : List Rational) : Type 0 where
-  pub hard : is_soft r ≡ false → RowIn y r
+  pub hard : is_soft r ≡ false → RowHoldsAt y r
   pub least : soft_violation y r ≤ℚ sum_ℚ ts
   pub exact : is_soft r ≡ true → sum_ℚ ts ≡ row_violation y r
       → slack_violation ts ≡ row_violation y r
@@ -135,7 +135,7 @@ pub record IsEnoughFor (y : Address → Rational) (r : Row) (ts : List Rational)
 -- the slacks say by how much each is
 pub record AreEnoughFor (y : Address → Rational) (rows : List Row)
     (ts : List Rational) : Type 0 where
-  pub hard : All (RowIn y) (hard_rows rows)
+  pub hard : All (RowHoldsAt y) (hard_rows rows)
   pub least : sum_ℚ (map (row_violation y) (soft_rows rows)) ≤ℚ sum_ℚ ts
   pub exact : sum_ℚ ts ≡ sum_ℚ (map (row_violation y) (soft_rows rows))
       → slack_violations rows ts ≡ map (row_violation y) (soft_rows rows)
@@ -187,7 +187,7 @@ module _ (y : Address → Rational) (r : Row) (rows : List Row) (own others : Li
 
   one_more : AreEnoughFor y (r ∷ rows) all
   one_more = record {
-    hard = join_kept (RowIn y) (is_soft r) r (hard_rows rows) here.hard rest.hard;
+    hard = join_kept (RowHoldsAt y) (is_soft r) r (hard_rows rows) here.hard rest.hard;
     least =
         subst (λ q. q ≤ℚ sum_ℚ all) (sym total_is)
         (subst (λ q. (soft_violation y r +ℚ sum_ℚ (map (row_violation y) (soft_rows rows))) ≤ℚ q)
@@ -202,7 +202,7 @@ module _ (y : Address → Rational) (r : Row) (rows : List Row) (own others : Li
 module _ (first : ℕ) (x y : Address → Rational)
     (agree : (v : Address) → v.number < first → x v ≡ y v) where
   -- a soft row's value at x
-  soft_value : (n : ℕ) → first ≤ n → (qs : List Rational) (f : Function) → IsBelow first f
+  soft_value : (n : ℕ) → first ≤ n → (qs : List Rational) (f : Function) → HasVariablesBelow first f
       → value_of (with_slacks n qs f) x
       ≡ value_of f y +ℚ dot qs (numbers_from x n (length qs))
   soft_value n h qs f below =
@@ -212,11 +212,12 @@ module _ (first : ℕ) (x y : Address → Rational)
   -- ---- slacks that meet the sets
 
   one_relaxed : (n : ℕ) → first ≤ n → (r : Row) → IsOwnRow first r
-      → numbers_from x n (length (row_signs r)) ≡ own_slacks y r → (is_soft r ≡ false → RowIn y r)
-      → RowIn x (relaxed_row n r)
+      → numbers_from x n (length (row_signs r)) ≡ own_slacks y r
+      → (is_soft r ≡ false → RowHoldsAt y r)
+      → RowHoldsAt x (relaxed_row n r)
   one_relaxed n h r own slacks hard = by (soft_or_hard r.func) own slacks hard
     where
-      kept : (func : UserFunc) → All {X = Function} (IsBelow first) (functions_of func)
+      kept : (func : UserFunc) → All {X = Function} (HasVariablesBelow first) (functions_of func)
           → In r.set (values (functions_of func) y) → In r.set (values (functions_of func) x)
       kept func below inside =
           subst (In r.set) (sym (values_below first (functions_of func) x y below agree)) inside
@@ -224,11 +225,11 @@ module _ (first : ℕ) (x y : Address → Rational)
       by : {func : UserFunc} → SoftOrHard func → IsOwnRow first (with_func r func)
           → numbers_from x n (length (row_signs (with_func r func)))
           ≡ own_slacks y (with_func r func)
-          → (is_soft (with_func r func) ≡ false → RowIn y (with_func r func))
-          → RowIn x (relaxed_row n (with_func r func))
+          → (is_soft (with_func r func) ≡ false → RowHoldsAt y (with_func r func))
+          → RowHoldsAt x (relaxed_row n (with_func r func))
       by (of_soft f) own slacks hard =
           subst (λ q. In r.set (q ∷ []))
-          (sym (soft_value n h (signs_on r.set) f (All-head (IsBelow first) f [] own.below)
+          (sym (soft_value n h (signs_on r.set) f (All-head (HasVariablesBelow first) f [] own.below)
           ∙ ap (slackened r.set (value_of f y)) slacks))
           (slacks_meet r.set (value_of f y) own.uncrossed (own.scalar refl))
       by (of_hard {func} isnt same) own slacks hard =
@@ -236,17 +237,18 @@ module _ (first : ℕ) (x y : Address → Rational)
           (sym (same (with_slacks n (signs_on r.set)))) (kept func own.below (hard isnt))
 
   pub rows_relaxed : (n : ℕ) → first ≤ n → (rows : List Row) → All (IsOwnRow first) rows
-      → numbers_from x n (slack_count rows) ≡ row_slacks y rows → All (RowIn y) (hard_rows rows)
-      → All (RowIn x) (relaxed_rows n rows)
-  rows_relaxed n h [] own slacks hard = All-nil (RowIn x)
+      → numbers_from x n (slack_count rows) ≡ row_slacks y rows
+      → All (RowHoldsAt y) (hard_rows rows)
+      → All (RowHoldsAt x) (relaxed_rows n rows)
+  rows_relaxed n h [] own slacks hard = All-nil (RowHoldsAt x)
   rows_relaxed n h (r ∷ rows) own slacks hard =
       let size : ℕ = length (row_signs r) in
       let parts = joined_alike (numbers_from x n size) (numbers_from x (n + size) (slack_count rows))
       (own_slacks y r) (row_slacks y rows)
       (length-numbers_from x n size ∙ sym (length-own_slacks y r))
       (sym (numbers_from-append x n size (slack_count rows)) ∙ slacks) in
-      let split = split_kept (RowIn y) (is_soft r) r (hard_rows rows) hard in
-      All-cons (RowIn x) (relaxed_row n r) (relaxed_rows (n + size) rows)
+      let split = split_kept (RowHoldsAt y) (is_soft r) r (hard_rows rows) hard in
+      All-cons (RowHoldsAt x) (relaxed_row n r) (relaxed_rows (n + size) rows)
       (one_relaxed n h r (All-head (IsOwnRow first) r rows own) parts.0 split.0)
       (rows_relaxed (n + size) (omega (arith, h)) rows (All-tail (IsOwnRow first) r rows own)
       parts.1 split.1)
@@ -254,18 +256,18 @@ module _ (first : ℕ) (x y : Address → Rational)
   -- ---- all slacks with which the rows are met
 
   one_enough : (n : ℕ) → first ≤ n → (r : Row) → IsOwnRow first r
-      → AllNonnegative (numbers_from x n (length (row_signs r))) → RowIn x (relaxed_row n r)
+      → AllNonnegative (numbers_from x n (length (row_signs r))) → RowHoldsAt x (relaxed_row n r)
       → IsEnoughFor y r (numbers_from x n (length (row_signs r)))
   one_enough n h r own nonneg inside = by (soft_or_hard r.func) own nonneg inside
     where
-      kept : (func : UserFunc) → All {X = Function} (IsBelow first) (functions_of func)
+      kept : (func : UserFunc) → All {X = Function} (HasVariablesBelow first) (functions_of func)
           → In r.set (values (functions_of func) x) → In r.set (values (functions_of func) y)
       kept func below inside =
           subst (In r.set) (values_below first (functions_of func) x y below agree) inside
 
       by : {func : UserFunc} → SoftOrHard func → IsOwnRow first (with_func r func)
           → AllNonnegative (numbers_from x n (length (row_signs (with_func r func))))
-          → RowIn x (relaxed_row n (with_func r func))
+          → RowHoldsAt x (relaxed_row n (with_func r func))
           → IsEnoughFor y (with_func r func)
           (numbers_from x n (length (row_signs (with_func r func))))
       by (of_soft f) own nonneg inside =
@@ -274,7 +276,7 @@ module _ (first : ℕ) (x y : Address → Rational)
           slacks_enough r.set (value_of f y) ts own.uncrossed
           (length-numbers_from x n (length (signs_on r.set))) nonneg
           (subst (λ q. In r.set (q ∷ []))
-          (soft_value n h (signs_on r.set) f (All-head (IsBelow first) f [] own.below)) inside) in
+          (soft_value n h (signs_on r.set) f (All-head (HasVariablesBelow first) f [] own.below)) inside) in
           record {
             hard = λ e. absurd (true≢false e);
             least = enough.least;
@@ -291,10 +293,11 @@ module _ (first : ℕ) (x y : Address → Rational)
       }
 
   pub rows_enough : (n : ℕ) → first ≤ n → (rows : List Row) → All (IsOwnRow first) rows
-      → AllNonnegative (numbers_from x n (slack_count rows)) → All (RowIn x) (relaxed_rows n rows)
+      → AllNonnegative (numbers_from x n (slack_count rows))
+      → All (RowHoldsAt x) (relaxed_rows n rows)
       → AreEnoughFor y rows (numbers_from x n (slack_count rows))
   rows_enough n h [] own nonneg inside = record {
-    hard = All-nil (RowIn y);
+    hard = All-nil (RowHoldsAt y);
     least = ≤ℚ_refl zero_ℚ;
     exact = λ _. refl;
   }
@@ -308,8 +311,8 @@ module _ (first : ℕ) (x y : Address → Rational)
       (one_enough n h r (All-head (IsOwnRow first) r rows own)
       (all_first (λ q. zero_ℚ ≤ℚ q) (numbers_from x n size)
       (numbers_from x (n + size) (slack_count rows)) both)
-      (All-head (RowIn x) (relaxed_row n r) (relaxed_rows (n + size) rows) inside))
+      (All-head (RowHoldsAt x) (relaxed_row n r) (relaxed_rows (n + size) rows) inside))
       (rows_enough (n + size) (omega (arith, h)) rows (All-tail (IsOwnRow first) r rows own)
       (all_second (λ q. zero_ℚ ≤ℚ q) (numbers_from x n size)
       (numbers_from x (n + size) (slack_count rows)) both)
-      (All-tail (RowIn x) (relaxed_row n r) (relaxed_rows (n + size) rows) inside)))
+      (All-tail (RowHoldsAt x) (relaxed_row n r) (relaxed_rows (n + size) rows) inside)))

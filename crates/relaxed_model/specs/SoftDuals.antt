@@ -16,14 +16,14 @@ use Rattle.set_core.specs.declared.set.Set.{Set}
 use Rattle.set_core.specs.declared.set.Set.TheVariants.{LessThan, GreaterThan, EqualTo, Interval}
 use Rattle.set_core.specs.Membership.{Dual, low_of}
 use Rattle.set_core.specs.Shapes.{is_scalar}
-use Rattle.dual_laws.specs.Held.{DualRow, adjoint, adjoint_of, gap, gap_of}
+use Rattle.dual_laws.specs.Held.{DualRow, HasDuals, adjoint, adjoint_of, gap, gap_of}
 use Rattle.user_model.specs.declared.function.UserFunc.{UserFunc}
 use Rattle.user_model.specs.declared.function.UserFunc.TheVariants.{Affine}
 use Rattle.user_model.specs.declared.row.Row.{Row}
 use Rattle.user_model.specs.Model.{variable_address}
 use Rattle.certificates.specs.Points.{functions_of}
-use Rattle.certificates.specs.Duals.{HasDuals, row_with, rows_with}
-use Rattle.relaxed_model.specs.FunctionLaws.{IsBelow, below_from, coefficient_first, coefficient_kept, coefficient_second, slacks_below, zero_from, zeros_from}
+use Rattle.certificates.specs.Duals.{row_with, rows_with}
+use Rattle.relaxed_model.specs.FunctionLaws.{HasVariablesBelow, below_from, coefficient_first, coefficient_kept, coefficient_second, slacks_below, zero_from, zeros_from}
 use Rattle.relaxed_model.specs.Relaxed.{at_hard_rows, hard_rows, is_soft, relaxed_row, relaxed_rows, row_signs, signs_on, slack_count, with_slacks}
 use Rattle.relaxed_model.specs.RowLaws.{IsOwnRow, with_func}
 use Rattle.relaxed_model.specs.SoftOrHard.{SoftOrHard, of_hard, of_soft, soft_or_hard}
@@ -116,14 +116,14 @@ module _ (first n : ℕ) (after : first ≤ n) where
   zeros_before r own m from before = by (soft_or_hard r.func) own.below
     where
       by : {func : UserFunc} → SoftOrHard func
-          → All {X = Function} (IsBelow first) (functions_of func)
+          → All {X = Function} (HasVariablesBelow first) (functions_of func)
           → All (λ q. q ≡ zero_ℚ)
           (coefficients (functions_of (relaxed_row n (with_func r func)).func) (variable_address m))
       by (of_soft f) below =
           All-cons (λ q. q ≡ zero_ℚ)
           (coefficient (with_slacks n (signs_on r.set) f) (variable_address m)) []
           (coefficient_kept n (signs_on r.set) f (variable_address m) before
-          ∙ zero_from first f (All-head (IsBelow first) f [] below) (variable_address m) from)
+          ∙ zero_from first f (All-head (HasVariablesBelow first) f [] below) (variable_address m) from)
           (All-nil (λ q. q ≡ zero_ℚ))
       by (of_hard {func} isnt same) below =
           subst (λ (g : UserFunc). All (λ q. q ≡ zero_ℚ)
@@ -138,7 +138,7 @@ module _ (first n : ℕ) (after : first ≤ n) where
   zeros_behind r own m behind = by (soft_or_hard r.func) own.below behind
     where
       by : {func : UserFunc} → SoftOrHard func
-          → All {X = Function} (IsBelow first) (functions_of func)
+          → All {X = Function} (HasVariablesBelow first) (functions_of func)
           → n + length (row_signs (with_func r func)) ≤ m
           → All (λ q. q ≡ zero_ℚ)
           (coefficients (functions_of (relaxed_row n (with_func r func)).func) (variable_address m))
@@ -147,7 +147,7 @@ module _ (first n : ℕ) (after : first ≤ n) where
           (coefficient (with_slacks n (signs_on r.set) f) (variable_address m)) []
           (zero_from (n + length (signs_on r.set)) (with_slacks n (signs_on r.set) f)
           (slacks_below n (signs_on r.set) f
-          (below_from first n after f (All-head (IsBelow first) f [] below))) (variable_address m) behind)
+          (below_from first n after f (All-head (HasVariablesBelow first) f [] below))) (variable_address m) behind)
           (All-nil (λ q. q ≡ zero_ℚ))
       by (of_hard {func} isnt same) below behind =
           subst (λ (g : UserFunc). All (λ q. q ≡ zero_ℚ)

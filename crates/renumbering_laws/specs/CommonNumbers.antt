@@ -13,43 +13,45 @@ use Rattle.renumbering_laws.specs.RenumberedModel.{Rising}
 
 -- ---- elements
 
-abbrev pub In : {X : Type 0} → X → List X → Type 0
-In x [] = ⊥
-In x (y ∷ ys) = (x ≡ y) ⊎ In x ys
+abbrev pub OccursIn : {X : Type 0} → X → List X → Type 0
+OccursIn x [] = ⊥
+OccursIn x (y ∷ ys) = (x ≡ y) ⊎ OccursIn x ys
 
-pub in_map : {X Y : Type 0} (f : X → Y) (x : X) (xs : List X) → In x xs → In (f x) (map f xs)
+pub in_map : {X Y : Type 0} (f : X → Y) (x : X) (xs : List X) → OccursIn x xs
+    → OccursIn (f x) (map f xs)
 in_map f x [] i = absurd i
 in_map f x (y ∷ ys) (inl e) = inl (ap f e)
 in_map f x (y ∷ ys) (inr i) = inr (in_map f x ys i)
 
-pub in_left : {X : Type 0} (x : X) (xs ys : List X) → In x xs → In x (xs ++ ys)
+pub in_left : {X : Type 0} (x : X) (xs ys : List X) → OccursIn x xs → OccursIn x (xs ++ ys)
 in_left x [] ys i = absurd i
 in_left x (y ∷ xs) ys (inl e) = inl e
 in_left x (y ∷ xs) ys (inr i) = inr (in_left x xs ys i)
 
-pub in_right : {X : Type 0} (x : X) (xs ys : List X) → In x ys → In x (xs ++ ys)
+pub in_right : {X : Type 0} (x : X) (xs ys : List X) → OccursIn x ys → OccursIn x (xs ++ ys)
 in_right x [] ys i = i
 in_right x (y ∷ xs) ys i = inr (in_right x xs ys i)
 
-pub in_flat : {X Y : Type 0} (h : X → List Y) (y : Y) (x : X) (xs : List X) → In y (h x) → In x xs
-    → In y (flat_map h xs)
+pub in_flat : {X Y : Type 0} (h : X → List Y) (y : Y) (x : X) (xs : List X) → OccursIn y (h x)
+    → OccursIn x xs
+    → OccursIn y (flat_map h xs)
 in_flat h y x [] i j = absurd j
-in_flat h y x (z ∷ zs) i (inl e) = in_left y (h z) (flat_map h zs) (subst (λ w. In y (h w)) e i)
+in_flat h y x (z ∷ zs) i (inl e) = in_left y (h z) (flat_map h zs) (subst (λ w. OccursIn y (h w)) e i)
 in_flat h y x (z ∷ zs) i (inr j) = in_right y (h z) (flat_map h zs) (in_flat h y x zs i j)
 
-pub contained : {X : Type 0} (x : X) (xs : List X) → In x xs → Contains xs x
+pub contained : {X : Type 0} (x : X) (xs : List X) → OccursIn x xs → Contains xs x
 contained x [] i = absurd i
 contained x (y ∷ ys) (inl e) = (0, omega arith, sym e)
 contained x (y ∷ ys) (inr i) = contains_later y x ys (contained x ys i)
 
 -- two functions that agree at each element
-pub map_in : {X Y : Type 0} (f g : X → Y) (xs : List X) → ((x : X) → In x xs → f x ≡ g x)
+pub map_in : {X Y : Type 0} (f g : X → Y) (xs : List X) → ((x : X) → OccursIn x xs → f x ≡ g x)
     → map f xs ≡ map g xs
 map_in f g [] same = refl
 map_in f g (x ∷ xs) same =
     ap₂ (λ y ys. y ∷ ys) (same x (inl refl)) (map_in f g xs (λ y i. same y (inr i)))
 
-pub all_in : {X : Type 0} (P : X → Type 0) (xs : List X) → All P xs → (x : X) → In x xs → P x
+pub all_in : {X : Type 0} (P : X → Type 0) (xs : List X) → All P xs → (x : X) → OccursIn x xs → P x
 all_in P [] h x i = absurd i
 all_in P (y ∷ ys) h x (inl e) = subst P (sym e) (All-head P y ys h)
 all_in P (y ∷ ys) h x (inr i) = all_in P ys (All-tail P y ys h) x i
@@ -58,11 +60,11 @@ all_in P (y ∷ ys) h x (inr i) = all_in P ys (All-tail P y ys h) x i
 
 abbrev pub Climbs : List ℕ → Type 0
 Climbs [] = Unit {0}
-Climbs (a ∷ us) = ((m : ℕ) → In m us → a < m) × Climbs us
+Climbs (a ∷ us) = ((m : ℕ) → OccursIn m us → a < m) × Climbs us
 
 module _ {X : Type 0} (number_of : X → ℕ) where
   mapped_in : (P : ℕ → Type 0) (xs : List X) → All (λ y. P (number_of y)) xs → (m : ℕ)
-      → In m (map number_of xs) → P m
+      → OccursIn m (map number_of xs) → P m
   mapped_in P [] h m i = absurd i
   mapped_in P (y ∷ ys) h m (inl e) =
       subst P (sym e) (All-head (λ y. P (number_of y)) y ys h)
@@ -77,7 +79,7 @@ module _ {X : Type 0} (number_of : X → ℕ) where
 
 -- ---- positions
 
-position_first : (us : List ℕ) (n : ℕ) → ((m : ℕ) → In m us → n < m) → position us n ≡ 0
+position_first : (us : List ℕ) (n : ℕ) → ((m : ℕ) → OccursIn m us → n < m) → position us n ≡ 0
 position_first [] n above = refl
 position_first (a ∷ us) n above =
     position_low a us n (omega (arith, above a (inl refl)))
@@ -145,7 +147,7 @@ sums_either (a ∷ us) (b ∷ bs) = ap₂ (λ c cs. c ∷ cs) (either a b) (sums
     either : (m n : ℕ) → m + n ≡ n + m
     either m n = omega arith
 
-opposite_none : (us bs : List ℕ) (n : ℕ) → ((m : ℕ) → In m us → n < m) → opposite us bs n ≡ 0
+opposite_none : (us bs : List ℕ) (n : ℕ) → ((m : ℕ) → OccursIn m us → n < m) → opposite us bs n ≡ 0
 opposite_none [] bs n above = refl
 opposite_none (a ∷ us) [] n above = refl
 opposite_none (a ∷ us) (b ∷ bs) n above =
@@ -153,8 +155,8 @@ opposite_none (a ∷ us) (b ∷ bs) n above =
     (opposite_none us bs n (λ m i. above m (inr i)))
 
 -- it is at least one of the second numbers
-opposite_some : (us bs : List ℕ) → length us ≡ length bs → (n : ℕ) → In n us
-    → (m : ℕ) × In m bs × (m ≤ opposite us bs n)
+opposite_some : (us bs : List ℕ) → length us ≡ length bs → (n : ℕ) → OccursIn n us
+    → (m : ℕ) × OccursIn m bs × (m ≤ opposite us bs n)
 opposite_some [] bs long n i = absurd i
 opposite_some (a ∷ us) [] long n i = absurd (omega (arith, long))
 opposite_some (a ∷ us) (b ∷ bs) long n (inl e) = (
@@ -175,7 +177,7 @@ opposite_some (a ∷ us) (b ∷ bs) long n (inr i) =
 
 -- each of the first numbers is taken to the number in common at its position
 pub lifted_is : (us bs : List ℕ) → Climbs us → Climbs bs → length us ≡ length bs → (n : ℕ)
-    → In n us → lifted us bs n ≡ place_of (sums us bs) (position us n)
+    → OccursIn n us → lifted us bs n ≡ place_of (sums us bs) (position us n)
 lifted_is [] bs up over long n i = absurd i
 lifted_is (a ∷ us) [] up over long n i = absurd (omega (arith, long))
 lifted_is (a ∷ us) (b ∷ bs) up over long n (inl e) =

@@ -19,8 +19,8 @@ use Rattle.item_core.specs.declared.item.Body.{Body}
 use Rattle.item_core.specs.declared.item.Body.TheVariants.{Group}
 use Rattle.item_core.specs.declared.item.Item.{Item}
 use Rattle.item_core.specs.Edge.{family_of}
-use Rattle.tree_laws.specs.Carried.{LeafDuals, back, backs, row_dual}
-use Rattle.renumbering_laws.specs.RenamedForm.{Agree}
+use Rattle.tree_laws.specs.Carried.{LeafAnswerDuals, back, backs, row_dual}
+use Rattle.renumbering_laws.specs.RenamedForm.{AgreeRenamed}
 use Rattle.renumbering_laws.specs.RenamedImageLaws.{image-renamed}
 use Rattle.renumbering_laws.specs.RenamedItems.{IsRenaming, renamed_body, renamed_item, size-renamed}
 use Rattle.renumbering_laws.specs.RenamedTrees.{Alike, InAlike, alike_by, alike_each_in, alike_native, alike_none_in}
@@ -31,9 +31,9 @@ is_objective-renamed σ (Group set vars) = refl
 is_objective-renamed σ _ = refl
 
 -- what is carried back: the objective's dual, and those of the leaf rows at their addresses
-pub record DualsAgree (σ : Address → Address) (d e : LeafDuals) : Type 0 where
+pub record DualsAgree (σ : Address → Address) (d e : LeafAnswerDuals) : Type 0 where
   pub objective : e.objective ≡ d.objective
-  pub duals : Agree σ d.duals e.duals
+  pub duals : AgreeRenamed σ d.duals e.duals
 
 module _ (σ : Address → Address) (r : IsRenaming σ) where
   by_family : (f : Family) (item : Item) (ys : List (List Rational))
@@ -58,7 +58,7 @@ module _ (σ : Address → Address) (r : IsRenaming σ) where
       ap (λ image. length image.rows) (image-renamed σ r edge item)
       ∙ length-map (image_of edge item).rows (renamed_item σ)
 
-  module _ (rules : Rules Item Entry) (g : Entry → Entry) (d e : LeafDuals)
+  module _ (rules : Rules Item Entry) (g : Entry → Entry) (d e : LeafAnswerDuals)
       (same : DualsAgree σ d e) where
     native_back : (item other : Item) → other ≡ renamed_item σ item
         → row_dual e other ≡ row_dual d item

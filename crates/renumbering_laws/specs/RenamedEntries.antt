@@ -11,7 +11,7 @@ use Rattle.aff_core.specs.Function.{Function}
 use Rattle.aff_core.specs.KeyOrder.{address_order}
 use Rattle.aff_core.specs.declared.sense.Sense.{Sense}
 use Rattle.bridge_face.specs.Law.{expressed, listed}
-use Rattle.expansion.specs.Rules.{Image as Children}
+use Rattle.expansion.specs.Rules.{ItemChildren as Children}
 use Rattle.fresh_bridging.specs.Entries.{Entry, expression_in, function_in, is_kept, kept_in, objective_by, plain_or_affine, put_in, put_in_body, put_in_body_fits, put_in_fits, put_into, put_into_fits, vector_by}
 use Rattle.fresh_bridging.specs.FitTests.{substitution_fits}
 use Rattle.item_core.specs.declared.image.Expression.{Expression}

@@ -14,7 +14,7 @@ use Rattle.aff_core.specs.declared.sense.Sense.TheVariants.{Min, Max}
 use Rattle.equality_form.specs.Columns.{parts_among, parts_of, slack_at, slacks_from}
 use Rattle.equality_form.specs.EqualityForm.{cell_count, cells_from, cells_of, cost, cost_among, cost_of, costs_at, form_from, form_of_leaves, numbers_at, right_sides, row_cells, unit_at}
 use Rattle.equality_form.specs.Equations.{Equation, RightFits, equations, equations_among, equations_for, equations_of, flipped, is_flipped, number_of, right_of, slack_of}
-use Rattle.equality_form.specs.ReadBack.{Answer, AnswerFits, PointFits, ValuesFit, after, by_rows, duals_in, in_parts, infeasible, listed_at, optimal, point_in, read_back, unbounded, unflipped, value_in, values_in}
+use Rattle.equality_form.specs.ReadBack.{AnswerByAddress, AnswerFits, LeafPointFits, ValuesFit, after, by_rows, duals_in, in_parts, infeasible, listed_at, optimal, point_in, read_back, unbounded, unflipped, value_in, values_in}
 use Rattle.map_laws.specs.EachLaws.{all_from_map}
 use Rattle.item_core.specs.declared.item.Body.{Body}
 use Rattle.item_core.specs.declared.item.Body.TheVariants.{PlainObj, AffineObj}
@@ -39,13 +39,13 @@ module _ (σ : Address → Address) where
   renamed_equation e = record { function = renamed σ e.function; set = e.set }
 
   -- what is at the new addresses is what is at the old
-  abbrev pub Agree : {X : Type 0} → (Address → X) → (Address → X) → Type 0
-  Agree x y = (v : Address) → y (σ v) ≡ x v
+  abbrev pub AgreeRenamed : {X : Type 0} → (Address → X) → (Address → X) → Type 0
+  AgreeRenamed x y = (v : Address) → y (σ v) ≡ x v
 
-  abbrev pub AnswersAgree : Answer → Answer → Type 0
-  AnswersAgree (optimal x y) (optimal u v) = Agree x u × Agree y v
-  AnswersAgree (infeasible y) (infeasible v) = Agree y v
-  AnswersAgree (unbounded x d) (unbounded u e) = Agree x u × Agree d e
+  abbrev pub AnswersAgree : AnswerByAddress → AnswerByAddress → Type 0
+  AnswersAgree (optimal x y) (optimal u v) = AgreeRenamed x u × AgreeRenamed y v
+  AnswersAgree (infeasible y) (infeasible v) = AgreeRenamed y v
+  AnswersAgree (unbounded x d) (unbounded u e) = AgreeRenamed x u × AgreeRenamed d e
   AnswersAgree _ _ = ⊥
 
   parts-renamed : (vars : List (Address × LeafVar))
@@ -236,7 +236,7 @@ module _ (σ : Address → Address) (r : IsRenaming σ) where
         (all_from_map RightFits (renamed_equation σ) (equations one)
         (subst (All RightFits) equations-renamed h))
 
-    point-renamed : (x : List Rational) → Agree σ (point_in one x) (point_in other x)
+    point-renamed : (x : List Rational) → AgreeRenamed σ (point_in one x) (point_in other x)
     point-renamed x v =
         (λ i. listed_at zero_ℚ (map (λ e. e.0) (l.variables i)) (values_in (l.variables i) x) (σ v))
         ∙ (λ i. listed_at zero_ℚ (keys-renamed (λ var. var) (finite.entries one.variables) i)
@@ -244,7 +244,7 @@ module _ (σ : Address → Address) (r : IsRenaming σ) where
         ∙ listed-renamed zero_ℚ (finite.keys one.variables)
         (values_in (finite.entries one.variables) x) v
 
-    duals-renamed : (y : List Rational) → Agree σ (duals_in one y) (duals_in other y)
+    duals-renamed : (y : List Rational) → AgreeRenamed σ (duals_in one y) (duals_in other y)
     duals-renamed y v =
         let rows = finite.entries one.rows in
         (λ i. listed_at [] (map (λ e. e.0) (l.rows i))
@@ -264,12 +264,12 @@ module _ (σ : Address → Address) (r : IsRenaming σ) where
     read_back-renamed (solver.Infeasible y basis) = duals-renamed y
     read_back-renamed (solver.Unbounded x d basis) = (point-renamed x, point-renamed d)
 
-    point_fits : (x : List Rational) → PointFits one x → PointFits other x
+    point_fits : (x : List Rational) → LeafPointFits one x → LeafPointFits other x
     point_fits x h =
         subst (λ vars. ValuesFit vars x) (sym l.variables)
         (values_fit σ (finite.entries one.variables) x h)
 
-    point_fitted : (x : List Rational) → PointFits other x → PointFits one x
+    point_fitted : (x : List Rational) → LeafPointFits other x → LeafPointFits one x
     point_fitted x h =
         values_fitted σ (finite.entries one.variables) x
         (subst (λ vars. ValuesFit vars x) l.variables h)

@@ -13,12 +13,12 @@ use Rattle.certificates.specs.Duals.{adjoint_of_rows, dual_gap, group_with, grou
 use Rattle.certificates.specs.Points.{address_of, addresses_of, at_point, functions_of, objective_coefficient, objective_function, objective_value, sense_of, variables_at}
 use Rattle.certificates.specs.declared.certificate.Certificate.TheVariants.{Infeasible, Optimal, Unbounded}
 use Rattle.dual_laws.specs.Held.{DualRow, adjoint, gap}
-use Rattle.equality_form.specs.ReadBack.{Answer, infeasible, optimal, unbounded}
+use Rattle.equality_form.specs.ReadBack.{AnswerByAddress, infeasible, optimal, unbounded}
 use Rattle.fresh_bridging.specs.Entries.{function_in}
 use Rattle.fresh_bridging.specs.FreshBridging.{FreshBridging}
 use Rattle.fresh_bridging.specs.TheRules.{Setting, rules_by}
 use Rattle.set_core.specs.Membership.{low_of}
-use Rattle.tree_laws.specs.Carried.{LeafDuals}
+use Rattle.tree_laws.specs.Carried.{LeafAnswerDuals}
 use Rattle.tree_laws.specs.Certificate.{cancelling, certificate_of, infeasible_duals, optimal_duals, point_of, ray_of, reduced_costs, rows_of}
 use Rattle.user_model.specs.Model.{ModelValue, variables}
 use Rattle.user_model.specs.declared.function.UserFunc.{UserFunc}
@@ -30,7 +30,7 @@ use Rattle.user_model.specs.declared.objective.Objective.TheVariants as objectiv
 use Rattle.user_model.specs.declared.row.Row.{Row}
 use Rattle.renumbering_laws.specs.RenamedDuals.{DualsAgree, backs_alike}
 use Rattle.renumbering_laws.specs.RenamedEntries.{function_in-renamed, renamed_entry}
-use Rattle.renumbering_laws.specs.RenamedForm.{Agree, AnswersAgree, map_kept}
+use Rattle.renumbering_laws.specs.RenamedForm.{AgreeRenamed, AnswersAgree, map_kept}
 use Rattle.renumbering_laws.specs.RenamedFunctions.{coefficient-renamed, constant-renamed, constant_function-renamed, slope-renamed, value-renamed, variable-renamed}
 use Rattle.renumbering_laws.specs.RenamedItems.{IsRenaming, map_either, renamed, variables_listed}
 use Rattle.renumbering_laws.specs.RenamedLeaves.{flat_map_either}
@@ -66,7 +66,7 @@ module _ (σ : Address → Address) (r : IsRenaming σ) where
       (gap-renamed hs)
 
   pub spread-renamed : (us : List Address) (x : List Rational)
-      → Agree σ (spread us x) (spread (map σ us) x)
+      → AgreeRenamed σ (spread us x) (spread (map σ us) x)
   spread-renamed [] x v = refl
   spread-renamed (u ∷ us) [] v = refl
   spread-renamed (u ∷ us) (q ∷ x) v =
@@ -120,7 +120,7 @@ module _ (ν : Renumbering) (rising : IsRising ν) where
       ap₂ (λ fs hs. record { duals = y; functions = fs; set = row.set } ∷ hs)
       (functions-renumbered row.func) (rows_with-renumbered ys rows)
 
-  module _ (w u : Address → Rational) (same : Agree (renumbered ν) w u) where
+  module _ (w u : Address → Rational) (same : AgreeRenamed (renumbered ν) w u) where
     numbers-renumbered : (vars : List GroupVar)
         → map u (addresses_of (map (renumbered_variable ν) vars)) ≡ map w (addresses_of vars)
     numbers-renumbered vars =
@@ -156,7 +156,7 @@ module _ (ν : Renumbering) (rising : IsRising ν) where
     renewed = renumbered_model ν model
 
     pub at_point-renumbered : (x : List Rational)
-        → Agree (renumbered ν) (at_point model x) (at_point renewed x)
+        → AgreeRenamed (renumbered ν) (at_point model x) (at_point renewed x)
     at_point-renumbered x v =
         ap (λ us. spread us x (renumbered ν v)) (user_addresses ν model)
         ∙ spread-renamed (renumbered ν) renaming (addresses_of (variables model)) x v
@@ -214,14 +214,14 @@ module _ (ν : Renumbering) (rising : IsRising ν) where
         ∙ function_in-renamed (renumbered ν) renaming b.made.entries v
 
     -- numbers of the user's variables
-    pub each_variable : {X : Type 0} (f h : Address → X) → Agree (renumbered ν) f h
+    pub each_variable : {X : Type 0} (f h : Address → X) → AgreeRenamed (renumbered ν) f h
         → map h (addresses_of (variables (renumbered_model ν model)))
         ≡ map f (addresses_of (variables model))
     each_variable f h same =
         ap (map h) (user_addresses ν model)
         ∙ map_kept (renumbered ν) h f same (addresses_of (variables model))
 
-    module _ (x y : Address → Rational) (same : Agree (renumbered ν) x y) where
+    module _ (x y : Address → Rational) (same : AgreeRenamed (renumbered ν) x y) where
       pub point-renumbered : point_of second y ≡ point_of b x
       point-renumbered =
           each_variable (λ v. value_of (function_in b.made.entries v) x)
@@ -236,7 +236,7 @@ module _ (ν : Renumbering) (rising : IsRising ν) where
           (λ v. ap (λ f. slope f y) (expression-renumbered v)
           ∙ slope-renamed (renumbered ν) renaming.order (function_in b.made.entries v) x y same)
 
-    pub rows-renumbered : (d e : LeafDuals) → DualsAgree (renumbered ν) d e
+    pub rows-renumbered : (d e : LeafAnswerDuals) → DualsAgree (renumbered ν) d e
         → rows_of second e ≡ rows_of b d
     rows-renumbered d e same =
         ap₂ take (length-map model.rows (renumbered_row ν))
@@ -263,7 +263,8 @@ module _ (ν : Renumbering) (rising : IsRising ν) where
         (λ v. ap neg_ℚ (adjoint_of_rows-renumbered model rows v))
 
     -- the certificate is the same
-    pub certificate-renumbered : (one other : Answer) → AnswersAgree (renumbered ν) one other
+    pub certificate-renumbered : (one other : AnswerByAddress)
+        → AnswersAgree (renumbered ν) one other
         → certificate_of second other ≡ certificate_of b one
     certificate-renumbered (optimal x y) (optimal u w) same =
         let rows = rows-renumbered (optimal_duals b y) (optimal_duals second w)

@@ -9,7 +9,7 @@ use Rattle.aff_core.specs.declared.root.Root.{Root}
 use Rattle.aff_core.specs.declared.root.Root.TheVariants.{Variable, Group, Row, Objective}
 use Rattle.expansion.specs.Bridged.{Fresh}
 use Rattle.expansion.specs.Read.{leaves_in, leaves_of_each, model_leaves}
-use Rattle.expansion.specs.Rules.{Image as Children}
+use Rattle.expansion.specs.Rules.{ItemChildren as Children}
 use Rattle.fresh_bridging.specs.FreshBridging.{FreshBridging, is_made, leaves_of}
 use Rattle.fresh_bridging.specs.Leaves.{leaf_model_of}
 use Rattle.fresh_bridging.specs.ModelImage.{group_item, model_image, objective_items, row_body, row_item}

@@ -32,7 +32,7 @@ use Rattle.user_model.specs.declared.group.GroupVar.{GroupVar}
 use Rattle.user_model.specs.declared.objective.Objective.{Objective}
 use Rattle.user_model.specs.declared.objective.Objective.TheVariants as objective
 use Rattle.user_model.specs.declared.row.Row.{Row}
-use Rattle.renumbering_laws.specs.CommonNumbers.{Climbs, In, all_in, climbs, contained, in_flat, in_left, in_map, in_right, lifted, lifted_is, lifted_rises, map_in, place_of, sums, sums_either}
+use Rattle.renumbering_laws.specs.CommonNumbers.{Climbs, OccursIn, all_in, climbs, contained, in_flat, in_left, in_map, in_right, lifted, lifted_is, lifted_rises, map_in, place_of, sums, sums_either}
 use Rattle.renumbering_laws.specs.RenamedFunctions.{nonzero-renamed}
 use Rattle.renumbering_laws.specs.RenamedItems.{renamed}
 use Rattle.renumbering_laws.specs.RenamedLeaves.{flat_map_either}
@@ -44,7 +44,7 @@ use Rattle.renumbering_laws.specs.RenumberedModel.{IsRising, Renumbering, renumb
 test_same : (a b : ℕ) → (a == b) ≡ true → a ≡ b
 test_same a b e = grind (arith, nat_tests)
 
-any_of : {X : Type 0} (p : X → Bool) (x : X) (xs : List X) → In x xs → p x ≡ true
+any_of : {X : Type 0} (p : X → Bool) (x : X) (xs : List X) → OccursIn x xs → p x ≡ true
     → list_any p xs ≡ true
 any_of p x [] i h = absurd i
 any_of p x (y ∷ ys) (inl e) h = ap (λ b. b || list_any p ys) (ap p (sym e) ∙ h)
@@ -55,28 +55,29 @@ any_of p x (y ∷ ys) (inr i) h = ap (λ b. p y || b) (any_of p x ys i h) ∙ ov
     over false = refl
 
 any_in : (n : ℕ) (vars : List GroupVar) → list_any (λ v. v.number == n) vars ≡ true
-    → In n (map variable_number vars)
+    → OccursIn n (map variable_number vars)
 any_in n [] h = absurd (subst T (sym h) tt)
 any_in n (v ∷ vs) h = by (any_in n vs) (v.number == n) refl h
   where
-    by : (list_any (λ w. w.number == n) vs ≡ true → In n (map variable_number vs)) → (b : Bool)
+    by : (list_any (λ w. w.number == n) vs ≡ true → OccursIn n (map variable_number vs))
+        → (b : Bool)
         → (v.number == n) ≡ b → (b || list_any (λ w. w.number == n) vs) ≡ true
-        → (n ≡ v.number) ⊎ In n (map variable_number vs)
+        → (n ≡ v.number) ⊎ OccursIn n (map variable_number vs)
     by rest true e k = inl (sym (test_same v.number n e))
     by rest false e k = inr (rest k)
 
 -- the variable of a number that stands
 number_in : (n : ℕ) (groups : List Group) → IsSome (find (has_variable n) groups)
-    → In n (map variable_number (flat_map (λ g. g.vars) groups))
+    → OccursIn n (map variable_number (flat_map (λ g. g.vars) groups))
 number_in n [] h = absurd (subst T (sym h) tt)
 number_in n (g ∷ gs) h =
-    subst (In n) (sym (map-append variable_number g.vars (flat_map (λ g. g.vars) gs)))
+    subst (OccursIn n) (sym (map-append variable_number g.vars (flat_map (λ g. g.vars) gs)))
     (by (number_in n gs) (has_variable n g) refl h)
   where
     by : (IsSome (find (has_variable n) gs)
-        → In n (map variable_number (flat_map (λ g. g.vars) gs))) → (b : Bool)
+        → OccursIn n (map variable_number (flat_map (λ g. g.vars) gs))) → (b : Bool)
         → has_variable n g ≡ b → IsSome (cond b (Some g) (find (has_variable n) gs))
-        → In n (map variable_number g.vars ++ map variable_number (flat_map (λ g. g.vars) gs))
+        → OccursIn n (map variable_number g.vars ++ map variable_number (flat_map (λ g. g.vars) gs))
     by rest true e k = in_left n (map variable_number g.vars) _ (any_in n g.vars e)
     by rest false e k = in_right n (map variable_number g.vars) _ (rest k)
 
@@ -136,17 +137,17 @@ module _ (model : ModelValue) (valid : IsValid model) (vs gs rs : List ℕ) wher
     own_climb : Climbs own
     own_climb = climbs variable_number (variables model) valid.consistent.variables_rise
 
-    number_same : (n : ℕ) → In n own → added.variable n ≡ in_common.variable (position own n)
+    number_same : (n : ℕ) → OccursIn n own → added.variable n ≡ in_common.variable (position own n)
     number_same n i = lifted_is own vs own_climb vs_climb vs_long n i
 
-    group_number_same : (g : Group) → In g model.groups
+    group_number_same : (g : Group) → OccursIn g model.groups
         → added.group g.id ≡ in_common.group (position own_groups g.id)
     group_number_same g i =
         lifted_is own_groups gs
         (climbs group_number model.groups valid.consistent.groups_rise) gs_climb gs_long g.id
         (in_map group_number g model.groups i)
 
-    row_number_same : (r : Row) → In r model.rows
+    row_number_same : (r : Row) → OccursIn r model.rows
         → added.row r.id ≡ in_common.row (position own_rows r.id)
     row_number_same r i =
         lifted_is own_rows rs
@@ -155,7 +156,7 @@ module _ (model : ModelValue) (valid : IsValid model) (vs gs rs : List ℕ) wher
 
     -- ---- groups
 
-    group_same : (g : Group) → In g model.groups
+    group_same : (g : Group) → OccursIn g model.groups
         → renumbered_group added g ≡ renumbered_group in_common (group_by_position model g)
     group_same g i =
         ap₂ (λ n vars. record g { id = n; vars = vars }) (group_number_same g i)
@@ -175,7 +176,7 @@ module _ (model : ModelValue) (valid : IsValid model) (vs gs rs : List ℕ) wher
     AllStand mentions = (at : Address) → mentions at ≡ true → Stands model.groups at
 
     standing : (at : Address) → Stands model.groups at
-        → (n : ℕ) × (at ≡ variable_address n) × In n own
+        → (n : ℕ) × (at ≡ variable_address n) × OccursIn n own
     standing at h = (h.number, h.address, number_in h.number model.groups h.group)
 
     address_same : (at : Address) → Stands model.groups at
@@ -198,7 +199,7 @@ module _ (model : ModelValue) (valid : IsValid model) (vs gs rs : List ℕ) wher
         (position_less own one.0 two.0 (contained one.0 own one.2) below)
 
     abbrev EachStands : List (Address × Rational) → Type 0
-    EachStands ts = (t : Address × Rational) → In t ts → Stands model.groups t.0
+    EachStands ts = (t : Address × Rational) → OccursIn t ts → Stands model.groups t.0
 
     below_placed : (k : Address) → Stands model.groups k → (ts : List (Address × Rational))
         → EachStands ts → T (below_all address_cmp k ts)
@@ -270,7 +271,7 @@ module _ (model : ModelValue) (valid : IsValid model) (vs gs rs : List ℕ) wher
     objective_same (objective.Affine sense f) stand =
         ap (objective.Affine sense) (affine_same f stand)
 
-    row_same : (r : Row) → In r model.rows
+    row_same : (r : Row) → OccursIn r model.rows
         → renumbered_row added r ≡ renumbered_row in_common (row_by_position model r)
     row_same r i =
         ap₂ (λ n f. record r { id = n; func = f }) (row_number_same r i)

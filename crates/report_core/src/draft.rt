@@ -27,6 +27,7 @@ impl Model for Draft {
 }
 
 impl Draft {
+    /// A text without bytes.
     pub fn new(alloc: Global) -> Draft
         ensures { result ≡ [] }
     {
@@ -36,12 +37,14 @@ impl Draft {
         }
     }
 
+    /// Appends a text as it is.
     pub fn push(&mut self, text: &str) -> Result<(), Memory>
         ensures { OnOk result (self.new ≡ self.old ++ text.now) }
     {
         self.push_bytes(text.as_bytes())
     }
 
+    /// Appends bytes as they are.
     pub fn push_bytes(&mut self, bytes: &[u8]) -> Result<(), Memory>
         ensures { OnOk result (self.new ≡ self.old ++ bytes.now) }
     {
@@ -49,6 +52,7 @@ impl Draft {
         Ok(())
     }
 
+    /// Appends a count in decimal digits.
     pub fn push_number(&mut self, number: u128) -> Result<(), Memory>
         ensures { OnOk result (self.new ≡ self.old ++ decimal number) }
     {
@@ -56,12 +60,14 @@ impl Draft {
         self.push_bytes(text.as_bytes())
     }
 
+    /// Appends a fraction as it is printed: `-3` or `22/7`, in lowest terms.
     pub fn push_ratio(&mut self, number: &Ratio) -> Result<(), Memory>
         ensures { OnOk result (self.new ≡ self.old ++ text_of number.now) }
     {
         number.print(&mut self.bytes)
     }
 
+    /// Appends a name with its escapes, so that it is one token.
     pub fn push_name(&mut self, name: &Name) -> Result<(), Memory>
         ensures { OnOk result (self.new ≡ self.old ++ escaped name.now) }
     {
@@ -69,7 +75,7 @@ impl Draft {
         self.push_bytes(token.as_slice())
     }
 
-    /// As `affine:LessThan`, or `free`.
+    /// Appends a kind, such as `affine:LessThan` or `free`.
     #[tactic(auto, using(crate::proofs::Texts::joined_alone, crate::proofs::Texts::joined_both))]
     pub fn push_kind(&mut self, kind: Kind) -> Result<(), Memory>
         ensures { OnOk result (self.new ≡ self.old ++ name_of kind) }
@@ -83,6 +89,7 @@ impl Draft {
         self.push(second)
     }
 
+    /// The whole text.
     pub fn into_text(self) -> Text
         ensures { result ≡ self }
     {

@@ -1,4 +1,5 @@
-//! What the answers to a script come to: how many lines, refusals and calls, and the last answer.
+//! What the answers to a script come to: how many lines and refusals, the sum of the numbers after
+//! `ok`, and the last answer.
 #![tactic(auto)]
 
 mod calls;

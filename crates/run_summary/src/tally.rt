@@ -9,7 +9,7 @@ use report_core::Answer;
 use std::alloc::Global;
 
 /// How many answers there were, how many of them were refusals, the sum of the numbers after `ok`,
-/// and the last of them.
+/// and the last of them. The sum bounds how often the solver's model was called, which may be less.
 #[derive(Debug, Drop)]
 pub struct Tally {
     pub lines: u128,

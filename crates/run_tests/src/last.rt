@@ -1,5 +1,5 @@
 // What the last line of a script does to the solver's model.
-use address_map::{Address, Entries};
+use address_map::{Address, EntriesLeft};
 use bridge_face::Bridge;
 use edit_engine::{Answer, Session};
 use io_face::Shelf;
@@ -86,7 +86,7 @@ fn indices_in<B: Bridge>(alloc: Global, session: &Session<B>) -> Result<Indices,
     })
 }
 
-fn copies_of(alloc: Global, leaves: Entries<'_, usize>) -> Result<Vec<Leaf>, Stop> {
+fn copies_of(alloc: Global, leaves: EntriesLeft<'_, usize>) -> Result<Vec<Leaf>, Stop> {
     let mut copies = Vec::new(alloc);
     for leaf in leaves {
         copies.push(*leaf)?;

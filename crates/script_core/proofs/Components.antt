@@ -4,7 +4,7 @@ use Rattle.std.specs.List.{slice_split, onto_first}
 use Rattle.std.specs.Option.{option_and_then}
 use Rattle.std.proofs.lemmas.List.{append-nil}
 use Rattle.script_core.specs.declared.terms.Term.{Term}
-use Rattle.script_core.specs.Reading.{Tokens, is}
+use Rattle.script_core.specs.Reading.{TokenList, is}
 use Rattle.script_tokens.specs.Each.{each}
 use Rattle.script_core.specs.Terms.{term_of, terms_of, components_of}
 
@@ -12,7 +12,7 @@ abbrev Components : Type 0
 Components = List (List Term)
 
 -- the components, when some are made, some terms of the next are read, and these tokens are left
-abbrev pub components_after : Components → List Term → Tokens → Option Components
+abbrev pub components_after : Components → List Term → TokenList → Option Components
 components_after made terms [] = Some (made ++ terms ∷ [])
 components_after made terms (token ∷ tokens) =
     cond (is ";" token)
@@ -74,11 +74,11 @@ added made terms t (Some ts) (Some more) =
     ap (λ us. Some (made ++ us ∷ more)) (append_assoc terms (t ∷ []) ts)
 
 -- what runs say, the first of which goes on a component
-abbrev Says : Components → List Term → List Tokens → Option Components → Type 0
+abbrev Says : Components → List Term → List TokenList → Option Components → Type 0
 Says made terms runs o = o ≡ joined made terms (each terms_of runs)
 
-after_term : (made : Components) (terms : List Term) (token : List ℕ) (tokens run : Tokens)
-    (runs : List Tokens) (o : Option Term)
+after_term : (made : Components) (terms : List Term) (token : List ℕ) (tokens run : TokenList)
+    (runs : List TokenList) (o : Option Term)
     → ((t : Term) → Says made (terms ++ t ∷ []) (run ∷ runs)
     (components_after made (terms ++ t ∷ []) tokens))
     → option_and_then (λ t. components_after made (terms ++ t ∷ []) tokens) o
@@ -89,7 +89,7 @@ after_term made terms token tokens run runs None rest = refl
 after_term made terms token tokens run runs (Some t) rest =
     rest t ∙ added made terms t (terms_of run) (each terms_of runs)
 
-components_after_is : (tokens : Tokens) (made : Components) (terms : List Term)
+components_after_is : (tokens : TokenList) (made : Components) (terms : List Term)
     → components_after made terms tokens
     ≡ joined made terms (each terms_of (slice_split (is ";") tokens))
 unfolding joined with_first
@@ -98,7 +98,7 @@ components_after_is (token ∷ tokens) made terms =
     at (is ";" token) refl (split_cases (is ";") tokens) (components_after_is tokens)
   where
     at : (b : Bool) → is ";" token ≡ b
-        → ((run : Tokens) × (runs : List Tokens) × (slice_split (is ";") tokens ≡ run ∷ runs))
+        → ((run : TokenList) × (runs : List TokenList) × (slice_split (is ";") tokens ≡ run ∷ runs))
         → ((made : Components) (terms : List Term) → components_after made terms tokens ≡ joined
         made terms (each terms_of (slice_split (is ";") tokens)))
         → components_after made terms (token ∷ tokens)
@@ -114,7 +114,7 @@ components_after_is (token ∷ tokens) made terms =
         (each terms_of runs)) split.2)
         ∙ sym (ap (λ runs. joined made terms (each terms_of (onto_first token runs))) split.2))
 
-pub components_after_start : (tokens : Tokens) → components_after [] [] tokens
+pub components_after_start : (tokens : TokenList) → components_after [] [] tokens
     ≡ components_of tokens
 unfolding joined with_first
 components_after_start tokens =

@@ -13,7 +13,7 @@ use Rattle.script_core.specs.declared.reading.LineReading.{LineReading}
 use Rattle.script_core.specs.declared.reading.LineReading.TheVariants as reading
 use Rattle.script_core.specs.Changes.{coefficient_form, vector_coefficient_form, constant_form, vector_constant_form, objective_coefficient_form, objective_constant_form, row_set_form, reset_form, free_form, delete_variable_form, delete_row_form, rename_variable_form, rename_row_form}
 use Rattle.script_core.specs.Keyword.{keyword_of}
-use Rattle.script_core.specs.Reading.{Tokens, says, alone}
+use Rattle.script_core.specs.Reading.{TokenList, says, alone}
 use Rattle.script_core.specs.Rows.{bound_form, row_form, vector_bound_form, vector_row_form, objective_form, objective_variable_form}
 use Rattle.script_core.specs.Solver.{optimize_form, load_form}
 use Rattle.script_core.specs.Tables.{target_form, support_form, cost_form, switch_form}
@@ -22,11 +22,11 @@ use Rattle.script_tokens.specs.Each.{◌>>=◌}
 use Rattle.script_tokens.specs.Tokens.{is_line_byte, tokens_of}
 
 -- a word alone
-abbrev pub word_alone : Command → Tokens → Option LineReading
+abbrev pub word_alone : Command → TokenList → Option LineReading
 word_alone command tokens = alone (reading.Says command) tokens
 
 -- the form that a keyword names, of the tokens that follow it
-unfoldable pub form_of : Keyword → Tokens → Option LineReading
+unfoldable pub form_of : Keyword → TokenList → Option LineReading
 form_of word.Var tokens = variable_form tokens
 form_of word.Vars tokens = group_form tokens
 form_of word.Bound tokens = bound_form tokens
@@ -70,7 +70,7 @@ form_of word.Load tokens = load_form tokens
 form_of word.Quit tokens = word_alone command.Quit tokens
 
 -- a line without tokens and a remark are silent
-unfoldable pub line_form : Tokens → Option LineReading
+unfoldable pub line_form : TokenList → Option LineReading
 line_form [] = says command.Silent
 line_form (first ∷ tokens) =
     if starts_with nat_eq first (codes "#") then says command.Silent
@@ -93,6 +93,6 @@ unfoldable pub line_said : List ℕ → Result Command LineFault
 line_said line = answer_of (reading_of line)
 
 -- the answer is this, but where memory ran out
-abbrev pub Answers : Result Command LineFault → Result Command LineFault → Type 0
-Answers said (Err fault.Memory) = Unit {0}
-Answers said answer = answer ≡ said
+abbrev pub IsParsedAs : Result Command LineFault → Result Command LineFault → Type 0
+IsParsedAs said (Err fault.Memory) = Unit {0}
+IsParsedAs said answer = answer ≡ said

@@ -8,8 +8,8 @@ use Rattle.script_core.specs.declared.reading.LineReading.{LineReading}
 use Rattle.script_core.specs.declared.reading.LineReading.TheVariants.{Says, Overflow}
 
 -- the tokens of a line, or what is left of them
-abbrev pub Tokens : Type 0
-Tokens = List (List ℕ)
+abbrev pub TokenList : Type 0
+TokenList = List (List ℕ)
 
 -- whether a token is this word
 abbrev pub is : String → List ℕ → Bool
@@ -28,6 +28,6 @@ makes_with edit (Some function) = makes (edit function)
 makes_with edit None = Some Overflow
 
 -- what nothing follows
-abbrev pub alone : {X : Type 0} → X → Tokens → Option X
+abbrev pub alone : {X : Type 0} → X → TokenList → Option X
 alone x [] = Some x
 alone x (_ ∷ _) = None

@@ -5,31 +5,31 @@ use Rattle.ratio_core.specs.Rational.{Rational}
 use Rattle.ratio_core.specs.Text.{rational_of}
 use Rattle.set_core.specs.declared.set.Set.{Set}
 use Rattle.set_core.specs.declared.set.Set.TheVariants.{LessThan, GreaterThan, EqualTo, Interval, Reals, Zeros, Nonnegatives, Nonpositives, NormInfinityCone, NormOneCone}
-use Rattle.script_core.specs.Reading.{Tokens, is, alone}
+use Rattle.script_core.specs.Reading.{TokenList, is, alone}
 use Rattle.script_tokens.specs.Each.{◌>>=◌}
 
 -- the number that the first token is, and the tokens after it
-unfoldable pub first_number : Tokens → Option (Rational × Tokens)
+unfoldable pub first_number : TokenList → Option (Rational × TokenList)
 first_number (token ∷ tokens) = do
   number ← rational_of token
   Some (number, tokens)
 first_number [] = None
 
 -- a set of one bound, and the tokens after it
-abbrev pub bounded : (Rational → Set) → Tokens → Option (Set × Tokens)
+abbrev pub bounded : (Rational → Set) → TokenList → Option (Set × TokenList)
 bounded set tokens = do
   bound ← first_number tokens
   Some (set bound.0, bound.1)
 
 -- an interval by its bounds, and the tokens after them
-abbrev pub interval : Tokens → Option (Set × Tokens)
+abbrev pub interval : TokenList → Option (Set × TokenList)
 interval tokens = do
   lower ← first_number tokens
   upper ← first_number lower.1
   Some (Interval lower.0 upper.0, upper.1)
 
 -- >= Q, <= Q, == Q or in L U: the set, and the tokens after it
-unfoldable pub relation_of : List ℕ → Tokens → Option (Set × Tokens)
+unfoldable pub relation_of : List ℕ → TokenList → Option (Set × TokenList)
 relation_of word tokens =
     if is ">=" word then bounded GreaterThan tokens
     else (if is "<=" word then bounded LessThan tokens
@@ -38,13 +38,13 @@ relation_of word tokens =
     else None)))
 
 -- a relation that nothing follows
-unfoldable pub last_relation_of : List ℕ → Tokens → Option Set
+unfoldable pub last_relation_of : List ℕ → TokenList → Option Set
 last_relation_of word tokens = do
   relation ← relation_of word tokens
   alone relation.0 relation.1
 
 -- a name and a relation that nothing follows
-unfoldable pub last_named_relation_of : Tokens → Option (List ℕ × Set)
+unfoldable pub last_named_relation_of : TokenList → Option (List ℕ × Set)
 last_named_relation_of (token ∷ word ∷ tokens) = do
   name ← name_of_token token
   set ← last_relation_of word tokens

@@ -3,21 +3,21 @@ use Rattle.std.specs.Prelude.{ℕ, Bool, List, [], ◌∷◌, Option, Some, None
 use Rattle.bridge_graph.specs.Hypergraph.{is_edge_cost}
 use Rattle.script_core.specs.declared.command.Command.TheVariants.{Target, Support, Cost, Switch}
 use Rattle.script_core.specs.declared.reading.LineReading.{LineReading}
-use Rattle.script_core.specs.Reading.{Tokens, says}
+use Rattle.script_core.specs.Reading.{TokenList, says}
 use Rattle.script_tokens.specs.Each.{◌>>=◌}
 use Rattle.script_tokens.specs.Family.{family_of}
 use Rattle.script_tokens.specs.Number.{number_of}
 use Rattle.script_tokens.specs.Table.{edge_numbered, native_kind_of, target_of}
 
 -- target T
-unfoldable pub target_form : Tokens → Option LineReading
+unfoldable pub target_form : TokenList → Option LineReading
 target_form (word ∷ []) = do
   target ← target_of word
   says (Target target)
 target_form _ = None
 
 -- support K, unsupport K
-unfoldable pub support_form : Bool → Tokens → Option LineReading
+unfoldable pub support_form : Bool → TokenList → Option LineReading
 support_form value (word ∷ []) = do
   kind ← native_kind_of word
   says (Support kind value)
@@ -30,7 +30,7 @@ cost_of token = do
   if is_edge_cost cost then Some cost else None
 
 -- cost E N
-unfoldable pub cost_form : Tokens → Option LineReading
+unfoldable pub cost_form : TokenList → Option LineReading
 cost_form (token ∷ number ∷ []) = do
   place ← number_of token
   edge ← edge_numbered place
@@ -39,7 +39,7 @@ cost_form (token ∷ number ∷ []) = do
 cost_form _ = None
 
 -- on F, off F
-unfoldable pub switch_form : Bool → Tokens → Option LineReading
+unfoldable pub switch_form : Bool → TokenList → Option LineReading
 switch_form value (word ∷ []) = do
   family ← family_of word
   says (Switch family value)

@@ -1,6 +1,6 @@
 //! Lines, each of the form that its first word names.
 ghost use Rattle.std.specs.Prelude.{◌≡◌, IfOk};
-ghost use Rattle.script_core.specs.Line.{Answers, form_of, line_form, line_said, reading_of, word_alone};
+ghost use Rattle.script_core.specs.Line.{IsParsedAs, form_of, line_form, line_said, reading_of, word_alone};
 
 use crate::keyword::Keyword;
 use crate::reading::{LineReading, alone};
@@ -14,7 +14,7 @@ use user_model::{Edit, Sense};
 /// and `Overflow` exactly where it is and a sum of its terms, from the left, exceeds 128 bits.
 #[tactic(auto, unfolding(crate::specs::Line::line_said))]
 pub fn parse_line(alloc: Global, line: &[u8]) -> Result<Command, LineFault>
-    ensures { Answers (line_said line.now) result }
+    ensures { IsParsedAs (line_said line.now) result }
 {
     match reading(alloc, line)? {
         None => Err(LineFault::BadLine),

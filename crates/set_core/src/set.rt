@@ -123,6 +123,7 @@ impl Set {
         )
     }
 
+    /// Whether it is one of the two norm cones, `NormInfinityCone` and `NormOneCone`.
     pub fn is_norm_cone(&self) -> bool
         ensures { result ≡ is_norm_cone self.now }
     {

@@ -10,7 +10,7 @@ use Rattle.set_core.specs.declared.set.Set.{Set}
 use Rattle.set_map.specs.CombinationLaws.{is_mapped}
 use Rattle.set_map.specs.Combinations.{IsMapped, mapped}
 use Rattle.set_map.specs.Fitting.{AppliedFits, MappedFits}
-use Rattle.set_map.specs.Kept.{IsKept}
+use Rattle.set_map.specs.Kept.{IsMatrixKept}
 use Rattle.set_map.specs.MappedSet.{CarriesBack, seen_through}
 use Rattle.set_map.specs.MappedSetLaws.{carries_back}
 use Rattle.set_map.specs.Matrices.{AreInverse, ArePair, Matrix, applied, transposed}
@@ -27,7 +27,7 @@ told_mapped m rows f fs r a b said =
 
 -- the law of what is carried back
 pub told_back : (m rows columns across : Matrix) (y ys : List Rational)
-    (r : Result (List Rational) NumberFault) → m ≡ rows → IsKept rows columns → across ≡ columns
+    (r : Result (List Rational) NumberFault) → m ≡ rows → IsMatrixKept rows columns → across ≡ columns
     → ys ≡ y → length y ≡ length m
     → ExactWhere r (AppliedFits across ys) (λ w. w ≡ applied across ys)
     → IfOk r (λ w. (inverse : Matrix) (set : Set) (fs : List Function) → ArePair m inverse

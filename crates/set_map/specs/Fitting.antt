@@ -21,7 +21,7 @@ abbrev pub ProductFits : Matrix → Matrix → Type 0
 ProductFits a b = All (AppliedFits (transposed b)) a
 
 -- both products
-pub record ProductsFit (a b : Matrix) : Type 0 where
+pub record BothProductsFit (a b : Matrix) : Type 0 where
   pub right : ProductFits a b
   pub left : ProductFits b a
 

@@ -3,9 +3,9 @@ ghost use Rattle.std.specs.Prelude.{◌≡◌, ◌↔◌, IfOk, IsTrue, List, le
 ghost use Rattle.ratio_core.specs.Answers.{ExactWhere};
 ghost use Rattle.aff_core.specs.Function.{Function};
 ghost use Rattle.set_core.specs.declared.set.Set.{Set};
-ghost use Rattle.set_map.specs.Answers.{Reads};
+ghost use Rattle.set_map.specs.Answers.{ReadsMatrix};
 ghost use Rattle.set_map.specs.Combinations.{IsMapped};
-ghost use Rattle.set_map.specs.Fitting.{AppliedFits, MappedFits, ProductsFit};
+ghost use Rattle.set_map.specs.Fitting.{AppliedFits, BothProductsFit, MappedFits};
 ghost use Rattle.set_map.specs.MappedSet.{CarriesBack, seen_through};
 ghost use Rattle.set_map.specs.Matrices.{AreInverse, ArePair, Matrix, applied, transposed};
 
@@ -29,7 +29,7 @@ pub struct SetMap {
 impl Model for SetMap {
     ghost use Rattle.std.specs.Coded.{coded_list};
     ghost use Rattle.ratio_core.specs.Rational.{rational_code};
-    ghost use Rattle.set_map.specs.Kept.{IsKept};
+    ghost use Rattle.set_map.specs.Kept.{IsMatrixKept};
     ghost use Rattle.set_map.specs.Matrices.{Matrix};
 
     ghost Value = { Matrix };
@@ -38,7 +38,7 @@ impl Model for SetMap {
 
     ghost view = { λ a. a.rows };
 
-    ghost invariant = { λ a. IsKept a.rows a.columns };
+    ghost invariant = { λ a. IsMatrixKept a.rows a.columns };
 }
 
 impl SetMap {
@@ -47,7 +47,7 @@ impl SetMap {
     /// `NotInverse` exactly where none does and a product isn't the unit matrix.
     pub fn read(alloc: Global, rows: &[Ratios], inverse: &[Ratios]) -> Result<SetMap, MapFault>
         requires { ArePair rows.now inverse.now }
-        ensures { Reads rows.now inverse.now result }
+        ensures { ReadsMatrix rows.now inverse.now result }
     {
         let columns = transposed(alloc, rows)?;
         let is_inverse = are_inverse(alloc, rows, &columns, inverse)?;
@@ -93,7 +93,7 @@ fn are_inverse(
 ) -> Result<bool, NumberFault>
     requires pair { ArePair rows.now inverse.now }
     requires columns { columns.now ≡ transposed rows.now }
-    ensures { ExactWhere result (ProductsFit rows.now inverse.now)
+    ensures { ExactWhere result (BothProductsFit rows.now inverse.now)
         (λ are_inverse. IsTrue are_inverse ↔ AreInverse rows.now inverse.now) }
 {
     let others = transposed(alloc, inverse)?;

@@ -3,14 +3,14 @@ use Rattle.std.specs.Prelude.{◌≡◌, ◌≢◌, ◌⊎◌, ◌≤◌, ℕ, L
 use Rattle.std.specs.Result.{result_unwrap_or}
 use Rattle.std.proofs.Common.{ap, arith, inl, inr, subst, sym, ◌∙◌}
 use Rattle.std.proofs.lemmas.Option.{none-some, same_Some}
-use Rattle.file_command.specs.Ending.{CanBeFetched, EndsWith, IsSound}
-use Rattle.file_command.specs.Loading.{AnswersFile, AnswersMade, AnswersRead, Loads}
+use Rattle.file_command.specs.Ending.{CanBeFetched, EndsWith}
+use Rattle.file_command.specs.Loading.{AnswersFile, AnswersMade, AnswersRead, LoadsStored}
 use Rattle.file_command.specs.LoadingLaws.{shelf_fault}
-use Rattle.file_command.specs.Status.{IsEnded}
+use Rattle.file_command.specs.Status.{IsAnswerWritten}
 use Rattle.file_command.specs.declared.status.Status.{Status}
 use Rattle.file_command.specs.declared.status.Status.TheVariants as status
 use Rattle.fresh_bridging.specs.TheRules.{Setting}
-use Rattle.io_face.specs.Fault.{HasFaulted}
+use Rattle.io_face.specs.Fault.{CountsNoFault, HasFaulted}
 use Rattle.io_face.specs.Shelf.{AsksFor, Gives, file_limit}
 use Rattle.io_face.specs.Told.{MayGive, Told}
 use Rattle.io_face.specs.ToldLaws.{asks_more}
@@ -20,14 +20,14 @@ use Rattle.lists.specs.declared.memory.Memory.{Memory as NoMemory}
 use Rattle.map_file.specs.Lines.{file_in}
 use Rattle.map_file.specs.declared.file.MapFile.{MapFile}
 use Rattle.model_load.specs.Loads.{after_edits}
-use Rattle.model_store.specs.Store.{Stored}
+use Rattle.model_store.specs.Store.{StoredModel}
 use Rattle.mof_fetch.specs.Fetched.{IsReadOf}
 use Rattle.mof_fetch.specs.FetchedLaws.{may_fail}
 use Rattle.mof_fetch.specs.declared.fault.FileFault.{FileFault}
 use Rattle.mof_fetch.specs.declared.fault.FileFault.TheVariants as file
 use Rattle.report_core.specs.declared.answer.Answer.{Answer}
 use Rattle.report_core.specs.declared.answer.Answer.TheVariants.{Memory, ReadFault, TooLong}
-use Rattle.setmap_command.specs.Files.{AsksFiles, CanBothBeFetched, FetchesFile, IsMade, Says, SaysFetched, fetch_answer}
+use Rattle.setmap_command.specs.Files.{AsksModelAndMaps, CanBothBeFetched, FetchesFile, IsModelRead, SaysFetched, SaysOfMaps, fetch_answer}
 use Rattle.setmap_command.specs.Says.{SaysFile}
 use Rattle.setmap_command.specs.SaysLaws.{maps_plain}
 use Rattle.user_model.specs.Model.{ModelValue, empty_model}
@@ -73,7 +73,8 @@ read_whole (Err fault) memory e = never (sym memory ∙ same_reason {A = MapFile
 pub says_fetched : (setting : Setting) (shelf : Told) (maps : List ℕ) (file : MapFile)
     (model : ModelValue) (told : Result Answer NoMemory) (answer : Answer)
     → FetchesFile shelf maps (Ok file) → IfOk told (SaysFile setting file model)
-    → answer ≡ result_unwrap_or told Memory → answer ≢ Memory → Says setting shelf maps model answer
+    → answer ≡ result_unwrap_or told Memory → answer ≢ Memory
+    → SaysOfMaps setting shelf maps model answer
 says_fetched setting shelf maps file model (Ok a) answer fetched said is not = (
   Ok fetched.0,
   fetched.1,
@@ -94,15 +95,15 @@ never_so (Err e') answer is not e = never (sym is ∙ e)
 -- ---- the files that are asked for
 
 module _ (shelf : Told) (model maps : List ℕ) where
-  pub asks_both : (first second third : Option (List (List ℕ))) (stored : Stored)
-      → Loads shelf model (Ok stored) → AsksFor first second (model ∷ [])
-      → AsksFor second third (maps ∷ []) → AsksFiles shelf model maps (AsksFor first third)
+  pub asks_both : (first second third : Option (List (List ℕ))) (stored : StoredModel)
+      → LoadsStored shelf model (Ok stored) → AsksFor first second (model ∷ [])
+      → AsksFor second third (maps ∷ []) → AsksModelAndMaps shelf model maps (AsksFor first third)
   asks_both first second third stored loads asks more =
       inl ((stored, loads), asks_more first second third (model ∷ []) (maps ∷ []) asks more)
 
   pub asks_one : (first second : Option (List (List ℕ))) (answer : Answer)
-      → Loads shelf model (Err answer) → AsksFor first second (model ∷ []) → answer ≢ Memory
-      → AsksFiles shelf model maps (AsksFor first second)
+      → LoadsStored shelf model (Err answer) → AsksFor first second (model ∷ []) → answer ≢ Memory
+      → AsksModelAndMaps shelf model maps (AsksFor first second)
   asks_one first second answer loads asks not = inr ((answer, loads not), asks)
 
 -- ---- which file wasn't fetched
@@ -115,7 +116,7 @@ tells_none {answer} {said} {reason} is none tells =
 -- the model's, or, where that makes a model, the maps'
 abbrev OneFails : Told → List ℕ → List ℕ → FetchFault → Type 0
 OneFails shelf model maps reason =
-    MayGive shelf model (Err reason) ⊎ (IsMade shelf model × MayGive shelf maps (Err reason))
+    MayGive shelf model (Err reason) ⊎ (IsModelRead shelf model × MayGive shelf maps (Err reason))
 
 module _ (setting : Setting) (shelf : Told) (model maps : List ℕ) (answer : Answer)
     (reason : FetchFault) (tells : shelf_fault answer ≡ Some reason) where
@@ -133,7 +134,7 @@ module _ (setting : Setting) (shelf : Told) (model maps : List ℕ) (answer : An
 
   made_fails : (edits : List Edit) → IsReadOf shelf model (Ok edits)
       → (made : Result ModelValue Refusal) → after_edits empty_model edits ≡ made
-      → AnswersMade (Says setting shelf maps) made answer → OneFails shelf model maps reason
+      → AnswersMade (SaysOfMaps setting shelf maps) made answer → OneFails shelf model maps reason
   made_fails edits read (Ok m) made said =
       inr (
         (
@@ -145,7 +146,7 @@ module _ (setting : Setting) (shelf : Told) (model maps : List ℕ) (answer : An
   made_fails edits read (Err refusal) made is = absurd (tells_none is refl tells)
 
   read_fails : (read : Result (List Edit) FileFault) → IsReadOf shelf model read
-      → AnswersRead (Says setting shelf maps) read answer → OneFails shelf model maps reason
+      → AnswersRead (SaysOfMaps setting shelf maps) read answer → OneFails shelf model maps reason
   read_fails (Ok edits) of said =
       made_fails edits of (after_edits empty_model edits) refl said
   read_fails (Err file.Failed) of is =
@@ -159,13 +160,14 @@ module _ (setting : Setting) (shelf : Told) (model maps : List ℕ) (answer : An
 
 one_fails : (setting : Setting) (shelf : Told) (model maps : List ℕ) (answer : Answer)
     (reason : FetchFault) → shelf_fault answer ≡ Some reason
-    → AnswersFile (Says setting shelf maps) shelf model answer → OneFails shelf model maps reason
+    → AnswersFile (SaysOfMaps setting shelf maps) shelf model answer
+    → OneFails shelf model maps reason
 one_fails setting shelf model maps answer reason tells h =
     read_fails setting shelf model maps answer reason tells h.0 h.1 h.2
 
 -- ---- nothing is against it
 
-unsound : (old new : ℕ) → IsSound old new → HasFaulted old new → ⊥
+unsound : (old new : ℕ) → CountsNoFault old new → HasFaulted old new → ⊥
 unsound old new sound (inl rose) = omega (arith, sound.0, sound.1, rose)
 unsound old new sound (inr stands) = omega (arith, sound.0, sound.1, stands)
 
@@ -180,11 +182,11 @@ failed_never shelf name reads reads' can rose gave =
 
 pub both_end_well : (setting : Setting) (shelf : Told) (model maps : List ℕ) (end : Status)
     (old new : Option (List ℕ)) (reads reads' writes writes' : ℕ)
-    → EndsWith (AnswersFile (Says setting shelf maps) shelf model) end old new
+    → EndsWith (AnswersFile (SaysOfMaps setting shelf maps) shelf model) end old new
     → (end ≡ status.ReadFault → HasFaulted reads reads')
     → (end ≡ status.WriteFault → HasFaulted writes writes')
-    → CanBothBeFetched shelf model maps reads reads' → IsSound writes writes'
-    → IsEnded end ⊎ (end ≡ status.Memory)
+    → CanBothBeFetched shelf model maps reads reads' → CountsNoFault writes writes'
+    → IsAnswerWritten end ⊎ (end ≡ status.Memory)
 both_end_well setting shelf model maps status.Done old new reads reads' writes writes' h read write
     can sound = inl tt
 both_end_well setting shelf model maps status.SomeRefused old new reads reads' writes writes' h

@@ -8,7 +8,7 @@ use Rattle.io_face.specs.declared.shelf.FetchFault.{FetchFault}
 use Rattle.io_face.specs.declared.shelf.FetchFault.TheVariants as fetch
 use Rattle.map_file.specs.Lines.{file_in}
 use Rattle.map_file.specs.declared.file.MapFile.{MapFile}
-use Rattle.model_store.specs.Store.{Stored}
+use Rattle.model_store.specs.Store.{StoredModel}
 use Rattle.report_core.specs.declared.answer.Answer.{Answer}
 use Rattle.report_core.specs.declared.answer.Answer.TheVariants.{Memory, ReadFault, TooLong}
 use Rattle.setmap_command.specs.Says.{SaysMaps}
@@ -31,28 +31,28 @@ FetchesFile shelf name (Ok file) =
 FetchesFile shelf name (Err fault) = MayGive shelf name (Err fault)
 
 -- for a model the file of the maps is fetched
-abbrev pub Says : Setting → Told → List ℕ → ModelValue → Answer → Type 0
-Says setting shelf maps model answer =
+abbrev pub SaysOfMaps : Setting → Told → List ℕ → ModelValue → Answer → Type 0
+SaysOfMaps setting shelf maps model answer =
     (given : Result (List ℕ) FetchFault) × MayGive shelf maps given
     × SaysFetched setting model given answer
 
 -- ---- the files that are asked for
 
 -- the model's file is read as a model
-abbrev pub IsMade : Told → List ℕ → Type 0
-IsMade shelf model = (stored : Stored) × IsModelOf shelf model stored
+abbrev pub IsModelRead : Told → List ℕ → Type 0
+IsModelRead shelf model = (stored : StoredModel) × IsModelOf shelf model stored
 
 -- or this is why not
 abbrev pub IsNotMade : Told → List ℕ → Type 0
 IsNotMade shelf model = (answer : Answer) × AnswersFile (λ made said. ⊥) shelf model answer
 
 -- the model's file, and after that the maps', where the model was made
-abbrev pub AsksFiles : Told → List ℕ → List ℕ → (List (List ℕ) → Type 0) → Type 0
-AsksFiles shelf model maps asked =
-    (IsMade shelf model × asked (model ∷ maps ∷ []))
+abbrev pub AsksModelAndMaps : Told → List ℕ → List ℕ → (List (List ℕ) → Type 0) → Type 0
+AsksModelAndMaps shelf model maps asked =
+    (IsModelRead shelf model × asked (model ∷ maps ∷ []))
     ⊎ (IsNotMade shelf model × asked (model ∷ []))
 
 -- nothing speaks against fetching the model's file, nor the maps' where the model is made
 pub record CanBothBeFetched (shelf : Told) (model maps : List ℕ) (old new : ℕ) : Type 0 where
   pub first : CanBeFetched shelf model old new
-  pub second : IsMade shelf model → CanBeFetched shelf maps old new
+  pub second : IsModelRead shelf model → CanBeFetched shelf maps old new

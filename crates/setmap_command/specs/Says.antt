@@ -5,7 +5,7 @@
 use Rattle.std.specs.Prelude.{◌≡◌, ◌⊎◌, ℕ, List, All, Option, Some, None, Result, Ok, Err}
 use Rattle.cache_layer.specs.Answers.{IsAttached}
 use Rattle.cache_layer.specs.Outcome.{IsOptimized}
-use Rattle.cache_layer.specs.State.{State}
+use Rattle.cache_layer.specs.CacheState.{CacheState}
 use Rattle.cache_layer.specs.declared.fault.AttachFault.{AttachFault}
 use Rattle.cache_layer.specs.declared.fault.OptFault.{OptFault}
 use Rattle.cert_text.specs.Text.{certificate_text}
@@ -35,8 +35,8 @@ abbrev pub pivots : ℕ
 pivots = 100000
 
 -- the model is one with the mapped rows
-abbrev pub StandsFrom : MapFile → ModelValue → Type 0
-StandsFrom file new = (model : ModelValue) × StandsFor model (uses_in model file) new
+abbrev pub StandsForMapped : MapFile → ModelValue → Type 0
+StandsForMapped file new = (model : ModelValue) × StandsFor model (uses_in model file) new
 
 -- ---- to the model with the mapped rows
 
@@ -51,30 +51,30 @@ module _ (model : ModelValue) (file : MapFile) (new : ModelValue) where
       × (answer ≡ Printed
       (certificate_text (variables_of new.groups) new.rows (taken_from file c)))
 
-  abbrev pub SaysGiven : Result Certificate OptFault → Answer → Type 0
-  SaysGiven (Ok c) answer =
+  abbrev pub SaysMappedGiven : Result Certificate OptFault → Answer → Type 0
+  SaysMappedGiven (Ok c) answer =
       (exceeds : Option (List ℕ)) × TakesFrom file c exceeds × SaysBack c exceeds answer
-  SaysGiven (Err fault) answer = answer ≡ optimize_fault_answer fault
+  SaysMappedGiven (Err fault) answer = answer ≡ optimize_fault_answer fault
 
-  abbrev pub SaysOptimized : State → Answer → Type 0
-  SaysOptimized s answer =
-      (given : Result Certificate OptFault) × IsOptimized s pivots given × SaysGiven given answer
+  abbrev pub SaysMappedOptimized : CacheState → Answer → Type 0
+  SaysMappedOptimized s answer =
+      (given : Result Certificate OptFault) × IsOptimized s pivots given × SaysMappedGiven given answer
 
-  abbrev pub SaysAttached : Result ℕ AttachFault → State → Answer → Type 0
-  SaysAttached (Ok leaves) s answer = SaysOptimized s answer
-  SaysAttached (Err fault) s answer = answer ≡ attach_fault_answer fault
+  abbrev pub SaysMappedAttached : Result ℕ AttachFault → CacheState → Answer → Type 0
+  SaysMappedAttached (Ok leaves) s answer = SaysMappedOptimized s answer
+  SaysMappedAttached (Err fault) s answer = answer ≡ attach_fault_answer fault
 
-  abbrev pub SaysSolved : State → Answer → Type 0
-  SaysSolved s answer =
-      (made : Result ℕ AttachFault) × (after : State) × IsAttached s made after
-      × SaysAttached made after answer
+  abbrev pub SaysMappedSolved : CacheState → Answer → Type 0
+  SaysMappedSolved s answer =
+      (made : Result ℕ AttachFault) × (after : CacheState) × IsAttached s made after
+      × SaysMappedAttached made after answer
 
 -- ---- to a model and what its maps say
 
 module _ (setting : Setting) (file : MapFile) (model : ModelValue) where
   -- the model with the mapped rows, or why there is none
   abbrev pub SaysMapped : Mapped → Answer → Type 0
-  SaysMapped (Made new) answer = SaysSolved model file new (alone setting new) answer
+  SaysMapped (Made new) answer = SaysMappedSolved model file new (alone setting new) answer
   SaysMapped (IsRefused refusal) answer = answer ≡ refused (refused_of refusal)
   SaysMapped (Exceeds row) answer = answer ≡ row_overflow row
 

@@ -1,7 +1,7 @@
 -- What is answered to a model and its maps is no fault of the shelf.
 use Rattle.std.specs.Prelude.{◌≡◌, ℕ, List, Option, Some, None, Result, Ok, Err, refl}
 use Rattle.std.proofs.Common.{inl, inr}
-use Rattle.cache_layer.specs.State.{State}
+use Rattle.cache_layer.specs.CacheState.{CacheState}
 use Rattle.cache_layer.specs.declared.fault.AttachFault.{AttachFault}
 use Rattle.cache_layer.specs.declared.fault.OptFault.{OptFault}
 use Rattle.certificates.specs.declared.certificate.Certificate.{Certificate}
@@ -13,7 +13,7 @@ use Rattle.mapped_model.specs.Mapping.{Mapped, Made, IsRefused, Exceeds}
 use Rattle.mapped_model.specs.Uses.{wrong_line}
 use Rattle.model_command.specs.TellingLaws.{attach_fault, optimize_fault}
 use Rattle.report_core.specs.declared.answer.Answer.{Answer}
-use Rattle.setmap_command.specs.Says.{SaysAttached, SaysBack, SaysBy, SaysFile, SaysGiven, SaysMapped, SaysMaps}
+use Rattle.setmap_command.specs.Says.{SaysBack, SaysBy, SaysFile, SaysMapped, SaysMappedAttached, SaysMappedGiven, SaysMaps}
 use Rattle.user_model.specs.Model.{ModelValue}
 
 module _ (model : ModelValue) (file : MapFile) (answer : Answer) where
@@ -23,12 +23,12 @@ module _ (model : ModelValue) (file : MapFile) (answer : Answer) where
   back_plain new c None h = same_fault answer _ h.2 refl
 
   given_plain : (new : ModelValue) (given : Result Certificate OptFault)
-      → SaysGiven model file new given answer → shelf_fault answer ≡ None
+      → SaysMappedGiven model file new given answer → shelf_fault answer ≡ None
   given_plain new (Ok c) h = back_plain new c h.0 h.2
   given_plain new (Err fault) h = same_fault answer _ h (optimize_fault fault)
 
-  attached_plain : (new : ModelValue) (made : Result ℕ AttachFault) (s : State)
-      → SaysAttached model file new made s answer → shelf_fault answer ≡ None
+  attached_plain : (new : ModelValue) (made : Result ℕ AttachFault) (s : CacheState)
+      → SaysMappedAttached model file new made s answer → shelf_fault answer ≡ None
   attached_plain new (Ok leaves) s h = given_plain new h.0 h.2
   attached_plain new (Err fault) s h = same_fault answer _ h (attach_fault fault)
 

@@ -10,10 +10,10 @@ ghost use Rattle.io_face.specs.Told.{told_by};
 ghost use Rattle.map_file.specs.Lines.{file_in};
 ghost use Rattle.map_file.specs.Shaped.{IsShaped};
 ghost use Rattle.model_command.specs.Alone.{standard_by};
-ghost use Rattle.setmap_command.specs.Files.{AsksFiles, FetchesFile, Says, fetch_answer};
+ghost use Rattle.setmap_command.specs.Files.{AsksModelAndMaps, FetchesFile, SaysOfMaps, fetch_answer};
 ghost use Rattle.setmap_command.specs.Says.{SaysFile};
 
-use crate::command::Command;
+use crate::command::MappedCommand;
 use crate::solving::solved;
 use crate::telling::tell_mapping;
 use bridge_face::Bridge;
@@ -31,7 +31,7 @@ use std::alloc::Global;
 /// only for a model that was made.
 pub(crate) fn answer<H: Shelf, B: Bridge>(
     alloc: Global,
-    command: &Command,
+    command: &MappedCommand,
     shelf: &mut H,
     bridges: Vec<B>,
 ) -> Answer
@@ -40,12 +40,12 @@ pub(crate) fn answer<H: Shelf, B: Bridge>(
     ensures answers { let setting = standard_by (prelude.map B.state bridges.items) in
         let told = told_by (H.files shelf.old) (H.sure shelf.old) in
         result ≢ Answer.Memory
-        → AnswersFile (Says setting told command.now.maps) told command.now.model result }
+        → AnswersFile (SaysOfMaps setting told command.now.maps) told command.now.model result }
     ensures cause { result ≡ Answer.ReadFault
         → HasFaulted (H.faults shelf.old) (H.faults shelf.new) }
     ensures sound { result ≢ Answer.ReadFault → H.faults shelf.new ≡ H.faults shelf.old }
     ensures asks { result ≢ Answer.Memory
-        → AsksFiles (told_by (H.files shelf.old) (H.sure shelf.old)) command.now.model
+        → AsksModelAndMaps (told_by (H.files shelf.old) (H.sure shelf.old)) command.now.model
         command.now.maps (AsksFor (H.asked shelf.old) (H.asked shelf.new)) }
 {
     match model_of(alloc, shelf, &command.model) {
@@ -66,7 +66,7 @@ fn answer_on<H: Shelf, B: Bridge>(
     requires once { IsTrue (occur_once (families_of (prelude.map B.state bridges.items))) }
     requires kept { All (λ s. s.kept ≡ finite.empty) (prelude.map B.state bridges.items) }
     ensures says { result ≢ Answer.Memory
-        → Says (standard_by (prelude.map B.state bridges.items))
+        → SaysOfMaps (standard_by (prelude.map B.state bridges.items))
         (told_by (H.files shelf.old) (H.sure shelf.old)) maps.now model.model result }
     ensures cause { result ≡ Answer.ReadFault
         → HasFaulted (H.faults shelf.old) (H.faults shelf.new) }

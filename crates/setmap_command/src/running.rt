@@ -9,7 +9,7 @@ ghost use Rattle.file_command.specs.Loading.{AnswersFile};
 ghost use Rattle.io_face.specs.Shelf.{AsksFor};
 ghost use Rattle.io_face.specs.Told.{told_by};
 ghost use Rattle.model_command.specs.Alone.{standard_by};
-ghost use Rattle.setmap_command.specs.Files.{AsksFiles, CanBothBeFetched, Says};
+ghost use Rattle.setmap_command.specs.Files.{AsksModelAndMaps, CanBothBeFetched, SaysOfMaps};
 ghost use Rattle.setmap_command.specs.Words.{command_in};
 
 use crate::answering::answer;
@@ -43,8 +43,8 @@ pub fn run<H: Shelf, O: Sink, B: Bridge>(
     ensures runs { let setting = standard_by (prelude.map B.state bridges.items) in
         let told = told_by (H.files shelf.old) (H.sure shelf.old) in
         IsRun (command_in (texts words.now))
-        (λ command. AnswersFile (Says setting told command.maps) told command.model)
-        (λ command before after. AsksFiles told command.model command.maps (AsksFor before after))
+        (λ command. AnswersFile (SaysOfMaps setting told command.maps) told command.model)
+        (λ command before after. AsksModelAndMaps told command.model command.maps (AsksFor before after))
         (λ command. CanBothBeFetched told command.model command.maps)
         (seen (H.asked shelf.old) (H.faults shelf.old) (O.written output.old) (O.faults output.old))
         (seen (H.asked shelf.new) (H.faults shelf.new) (O.written output.new) (O.faults output.new))

@@ -10,7 +10,7 @@ ghost use Rattle.certificates.specs.Points.{variables_of};
 ghost use Rattle.mapped_model.specs.Stands.{StandsFor};
 ghost use Rattle.mapped_model.specs.Uses.{uses_in};
 ghost use Rattle.model_command.specs.Alone.{alone, standard_by};
-ghost use Rattle.setmap_command.specs.Says.{SaysGiven, SaysOptimized, SaysSolved, StandsFrom};
+ghost use Rattle.setmap_command.specs.Says.{SaysMappedGiven, SaysMappedOptimized, SaysMappedSolved, StandsForMapped};
 ghost use Rattle.user_model.specs.Model.{ModelValue};
 ghost use Rattle.user_model.specs.Valid.{IsValid};
 
@@ -35,12 +35,12 @@ pub(crate) fn solved<B: Bridge>(
     rows: &MappedRows,
     bridges: Vec<B>,
 ) -> Result<Answer, Memory>
-    requires stands { StandsFrom rows.now model.model }
+    requires stands { StandsForMapped rows.now model.model }
     requires settled { model.parked ≡ [] }
     requires once { IsTrue (occur_once (families_of (prelude.map B.state bridges.items))) }
     requires kept { All (λ s. s.kept ≡ finite.empty) (prelude.map B.state bridges.items) }
     ensures { (old : ModelValue) → StandsFor old (uses_in old rows.now) model.model
-        → IfOk result (SaysSolved old rows.now model.model
+        → IfOk result (SaysMappedSolved old rows.now model.model
         (alone (standard_by (prelude.map B.state bridges.items)) model.model)) }
 {
     let mut cache = cache_of(alloc, model, bridges);
@@ -53,9 +53,9 @@ fn attached<B: Bridge>(
     rows: &MappedRows,
     cache: &mut Cache<B>,
 ) -> Result<Answer, Memory>
-    requires { StandsFrom rows.now (model_in cache.old) }
+    requires { StandsForMapped rows.now (model_in cache.old) }
     ensures { (old : ModelValue) → StandsFor old (uses_in old rows.now) (model_in cache.old)
-        → IfOk result (SaysSolved old rows.now (model_in cache.old) (state_of cache.old)) }
+        → IfOk result (SaysMappedSolved old rows.now (model_in cache.old) (state_of cache.old)) }
 {
     match cache.attach() {
         Ok(_leaves) => optimized(alloc, rows, cache),
@@ -68,9 +68,9 @@ fn optimized<B: Bridge>(
     rows: &MappedRows,
     cache: &Cache<B>,
 ) -> Result<Answer, Memory>
-    requires { StandsFrom rows.now (model_in cache.now) }
+    requires { StandsForMapped rows.now (model_in cache.now) }
     ensures { (old : ModelValue) → StandsFor old (uses_in old rows.now) (model_in cache.now)
-        → IfOk result (SaysOptimized old rows.now (model_in cache.now) (state_of cache.now)) }
+        → IfOk result (SaysMappedOptimized old rows.now (model_in cache.now) (state_of cache.now)) }
 {
     match cache.optimize(PIVOTS) {
         Ok(certificate) => told(alloc, rows, cache.model(), certificate),
@@ -85,10 +85,10 @@ fn told(
     model: &UserModel,
     certificate: Certificate,
 ) -> Result<Answer, Memory>
-    requires stands { StandsFrom rows.now model.now.model }
+    requires stands { StandsForMapped rows.now model.now.model }
     requires good { Good model.now.model certificate }
     ensures { (old : ModelValue) → StandsFor old (uses_in old rows.now) model.now.model
-        → IfOk result (SaysGiven old rows.now model.now.model (prelude.Ok certificate)) }
+        → IfOk result (SaysMappedGiven old rows.now model.now.model (prelude.Ok certificate)) }
 {
     match rows.take_back(certificate) {
         Ok(certificate) => printed(alloc, model, &certificate),

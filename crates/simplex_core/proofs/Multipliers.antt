@@ -4,15 +4,15 @@ use Rattle.std.proofs.Common.{sym, ◌∙◌, ap, ap₂}
 use Rattle.ratio_core.specs.Rational.{neg_ℚ, one_ℚ, ◌-ℚ◌}
 use Rattle.rational_laws.specs.Field.{zero-+ℚ}
 use Rattle.simplex_form.specs.Form.{Form, first_cost, second_cost}
-use Rattle.simplex_form.specs.Basis.{IsBasis, State}
+use Rattle.simplex_form.specs.Basis.{BasisState, IsBasis}
 use Rattle.simplex_form.specs.Board.{multiplier}
 use Rattle.simplex_laws.specs.AgreementLaws.{artificial_column}
 use Rattle.simplex_laws.specs.TurnLaws.{column_unit, first_cost_artificial, past_reals, second_cost_artificial}
 use Rattle.simplex_laws.specs.ValueLaws.{multiplier_by_price}
-use Rattle.tableau_core.specs.Contents.{IsBoardOf, Contents, readings_of}
+use Rattle.tableau_core.specs.BoardContents.{IsBoardOf, BoardContents, readings_of}
 use Rattle.simplex_core.specs.Placed.{artificial}
 
-module _ (F : Form) (s : State) (t : Contents) (basis : IsBasis F s) (h : IsBoardOf F s t) where
+module _ (F : Form) (s : BasisState) (t : BoardContents) (basis : IsBasis F s) (h : IsBoardOf F s t) where
   pub first_multiplier : IsTrue t.in_first → (k : ℕ) → k < F.rows
       → one_ℚ -ℚ artificial (readings_of t).first_price (readings_of t) k
       ≡ multiplier F s (first_cost F) k

@@ -9,7 +9,7 @@ use Rattle.rational_laws.specs.Order.{not_‹ℚ_from_≤ℚ, zero_‹ℚ_one, �
 use Rattle.simplex_form.specs.BoundedSums.{delta, sum_to}
 use Rattle.simplex_laws.specs.BoundedSumLaws.{delta_other, delta_same, delta_sym, same_or_other, sum_to-neg_ℚ, sum_to_delta_right, sum_to_same, sum_to_zeros}
 use Rattle.simplex_form.specs.Form.{Form, second_cost}
-use Rattle.simplex_form.specs.Basis.{IsBasis, State, basic}
+use Rattle.simplex_form.specs.Basis.{BasisState, IsBasis, basic}
 use Rattle.simplex_form.specs.Board.{entry, point, price, ray, right_side}
 use Rattle.tableau_core.specs.ListLaws.{listed_more}
 use Rattle.tableau_core.specs.Row.{cell}
@@ -111,7 +111,7 @@ module _ (c n : ℕ) (at : ℕ → ℕ) (w : ℕ → Rational) where
 
 -- ---- a basis
 
-module _ (F : Form) (s : State) (h : IsBasis F s) where
+module _ (F : Form) (s : BasisState) (h : IsBasis F s) where
   -- an entry of a basic column
   entry-basic : (i k : ℕ) → i < F.rows → k < F.rows → entry F s (basic s k) i ≡ delta i k
   entry-basic i k b c = h.inverse.units i k b c

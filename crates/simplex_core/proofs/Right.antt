@@ -5,13 +5,13 @@ use Rattle.std.proofs.Common.{sym, ◌∙◌, ap, subst}
 use Rattle.std.proofs.lemmas.Bool.{cond-false, cond-true}
 use Rattle.ratio_core.specs.Rational.{Rational, zero_ℚ, ◌*ℚ◌, ◌≤ℚ◌, ◌‹ℚ◌}
 use Rattle.simplex_laws.specs.BoundedSumLaws.{sum_to_same}
-use Rattle.simplex_form.specs.Form.{Form, IsFeasible, IsInfeasible, IsOptimal, IsStandard, IsUnbounded, cost_at, first_cost, left_side, second_cost, weighted}
-use Rattle.simplex_form.specs.Basis.{State, start}
+use Rattle.simplex_form.specs.Form.{Form, IsFormFeasible, IsFormInfeasible, IsFormOptimal, IsFormUnbounded, IsStandard, cost_at, first_cost, left_side, second_cost, weighted}
+use Rattle.simplex_form.specs.Basis.{BasisState, start}
 use Rattle.simplex_form.specs.Board.{multiplier, point, ray}
 use Rattle.simplex_form.specs.declared.turn.Turn.{Turn}
 use Rattle.simplex_form.specs.Fit.{start_fits}
-use Rattle.simplex_form.specs.Standing.{IsAnswered}
-use Rattle.simplex_form.specs.Outcome.{IsOutcome, outcome, outcome_from, overflowing}
+use Rattle.simplex_form.specs.Standing.{HasRightAnswer}
+use Rattle.simplex_form.specs.TrailOutcome.{IsOutcome, outcome, outcome_from, overflowing}
 use Rattle.simplex_laws.specs.OutcomeLaws.{ended_right, outcome_is}
 use Rattle.tableau_core.specs.Row.{cell}
 use Rattle.simplex_core.specs.declared.answer.SolverAnswer.{SolverAnswer}
@@ -19,7 +19,7 @@ use Rattle.simplex_core.specs.declared.answer.SolverAnswer.TheVariants.{Infeasib
 use Rattle.simplex_core.specs.declared.fault.SolveFault.{SolveFault}
 use Rattle.simplex_core.specs.declared.fault.SolveFault.TheVariants.{Overflow}
 use Rattle.simplex_core.specs.declared.form.StdForm.{StdForm}
-use Rattle.simplex_core.specs.Answer.{IsReadOff, IsRightAnswer, Tells}
+use Rattle.simplex_core.specs.Answer.{IsReadOff, IsRightAnswer, TellsOutcome}
 use Rattle.simplex_core.specs.StdForm.{IsWellShaped, equality_form}
 
 -- ---- answers that agree on the rows and the real columns
@@ -41,15 +41,15 @@ module _ (F : Form) where
   weighted_same y w v e =
       sum_to_same F.rows (λ i. y i *ℚ v i) (λ i. w i *ℚ v i) (λ i b. ap (λ q. q *ℚ v i) (e i b))
 
-  feasible_same : (x z : ℕ → Rational) → ((j : ℕ) → j < F.reals → x j ≡ z j) → IsFeasible F x
-      → IsFeasible F z
+  feasible_same : (x z : ℕ → Rational) → ((j : ℕ) → j < F.reals → x j ≡ z j) → IsFormFeasible F x
+      → IsFormFeasible F z
   feasible_same x z e h = record {
     nonneg = λ j b. subst (λ q. zero_ℚ ≤ℚ q) (e j b) (h.nonneg j b);
     meets = λ i b. sym (left_same x z e i) ∙ h.meets i b;
   }
 
   optimal_same : (x z y w : ℕ → Rational) → ((j : ℕ) → j < F.reals → x j ≡ z j)
-      → ((i : ℕ) → i < F.rows → y i ≡ w i) → IsOptimal F x y → IsOptimal F z w
+      → ((i : ℕ) → i < F.rows → y i ≡ w i) → IsFormOptimal F x y → IsFormOptimal F z w
   optimal_same x z y w e f h = record {
     feasible = feasible_same x z e h.feasible;
     reduced = λ j b. subst (λ q. q ≤ℚ F.costs j) (weighted_same y w (λ i. F.matrix i j) f)
@@ -57,8 +57,8 @@ module _ (F : Form) where
     equal = sym (weighted_same y w F.right f) ∙ h.equal ∙ cost_same x z e;
   }
 
-  infeasible_same : (y w : ℕ → Rational) → ((i : ℕ) → i < F.rows → y i ≡ w i) → IsInfeasible F y
-      → IsInfeasible F w
+  infeasible_same : (y w : ℕ → Rational) → ((i : ℕ) → i < F.rows → y i ≡ w i) → IsFormInfeasible F y
+      → IsFormInfeasible F w
   infeasible_same y w f h = record {
     nonpos = λ j b. subst (λ q. q ≤ℚ zero_ℚ) (weighted_same y w (λ i. F.matrix i j) f)
         (h.nonpos j b);
@@ -66,7 +66,7 @@ module _ (F : Form) where
   }
 
   unbounded_same : (x z d w : ℕ → Rational) → ((j : ℕ) → j < F.reals → x j ≡ z j)
-      → ((j : ℕ) → j < F.reals → d j ≡ w j) → IsUnbounded F x d → IsUnbounded F z w
+      → ((j : ℕ) → j < F.reals → d j ≡ w j) → IsFormUnbounded F x d → IsFormUnbounded F z w
   unbounded_same x z d w e f h = record {
     feasible = feasible_same x z e h.feasible;
     nonneg = λ j b. subst (λ q. zero_ℚ ≤ℚ q) (f j b) (h.nonneg j b);
@@ -74,40 +74,40 @@ module _ (F : Form) where
     falls = subst (λ q. q ‹ℚ zero_ℚ) (cost_same d w f) h.falls;
   }
 
-  read_right : (s : State) (t : Turn) (answer : SolverAnswer) → IsAnswered F s t
+  read_right : (s : BasisState) (t : Turn) (answer : SolverAnswer) → HasRightAnswer F s t
       → IsReadOff F s t answer → IsRightAnswer F answer
   read_right s t (Optimal x y basis) h k = (
     k.1.long,
     k.2.long,
     optimal_same (point F s) (cell x) (multiplier F s (second_cost F))
         (cell y) (λ j b. sym (k.1.cells j b)) (λ i b. sym (k.2.cells i b))
-        (subst (IsAnswered F s) k.0 h),
+        (subst (HasRightAnswer F s) k.0 h),
   )
   read_right s t (Infeasible y basis) h k = (
     k.1.long,
     infeasible_same (multiplier F s (first_cost F)) (cell y)
-        (λ i b. sym (k.1.cells i b)) (subst (IsAnswered F s) k.0 h),
+        (λ i b. sym (k.1.cells i b)) (subst (HasRightAnswer F s) k.0 h),
   )
   read_right s t (Unbounded x d basis) h k = (
     k.2.long,
     k.3.long,
     unbounded_same (point F s) (cell x) (ray F s k.0) (cell d)
-        (λ j b. sym (k.2.cells j b)) (λ j b. sym (k.3.cells j b)) (subst (IsAnswered F s) k.1 h),
+        (λ j b. sym (k.2.cells j b)) (λ j b. sym (k.3.cells j b)) (subst (HasRightAnswer F s) k.1 h),
   )
 
   -- ---- from the outcome
 
   pub tells_right : IsStandard F → (n : ℕ) (res : Result SolverAnswer SolveFault)
-      → Tells F n (outcome F n) res → IfOk res (IsRightAnswer F)
+      → TellsOutcome F n (outcome F n) res → IfOk res (IsRightAnswer F)
   tells_right h n (Ok answer) k =
       read_right k.0 k.1 answer (ended_right F h n k.0 k.1
       (subst (IsOutcome F n) k.2 (outcome_is F n))) k.3
   tells_right h n (Err e) k = tt
 
   pub tells_all : (n : ℕ) (res : Result SolverAnswer SolveFault) → start_fits F ≡ true
-      → Tells F n (outcome_from F n (start F)) res → Tells F n (outcome F n) res
+      → TellsOutcome F n (outcome_from F n (start F)) res → TellsOutcome F n (outcome F n) res
   tells_all n res e k =
-      subst (λ o. Tells F n o res) (sym (cond-true (start_fits F) (outcome_from F n (start F))
+      subst (λ o. TellsOutcome F n o res) (sym (cond-true (start_fits F) (outcome_from F n (start F))
       (overflowing (start F)) e)) k
 
   basis-start : (start F).basis ≡ range_with_len F.reals F.rows
@@ -115,7 +115,8 @@ module _ (F : Form) where
   basis-start = refl
 
   pub tells_start : (n : ℕ) (basis : List ℕ) → start_fits F ≡ false
-      → basis ≡ range_with_len F.reals F.rows → Tells F n (outcome F n) (Err (Overflow basis))
+      → basis ≡ range_with_len F.reals F.rows
+      → TellsOutcome F n (outcome F n) (Err (Overflow basis))
   tells_start n basis e same = (
     start F,
     cond-false (start_fits F) (outcome_from F n (start F)) (overflowing (start F)) e,

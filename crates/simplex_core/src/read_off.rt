@@ -4,9 +4,9 @@ ghost use Rattle.ratio_core.specs.Rational.{neg_ℚ, one_ℚ, zero_ℚ, ◌-ℚ�
 ghost use Rattle.simplex_form.specs.Turns.{multipliers_fit};
 ghost use Rattle.simplex_form.specs.declared.turn.Turn.TheVariants as turn;
 ghost use Rattle.tableau_core.specs.Start.{IsListOf};
-ghost use Rattle.tableau_core.specs.Contents.{readings_of};
+ghost use Rattle.tableau_core.specs.BoardContents.{readings_of};
 ghost use Rattle.simplex_core.specs.Placed.{GivesPoint, GivesRay, artificial};
-ghost use Rattle.simplex_core.specs.Steps.{Reads};
+ghost use Rattle.simplex_core.specs.Steps.{ReadsTurn};
 
 use crate::answer::{Basis, SolverAnswer};
 use lists::{Memory, Sequence};
@@ -17,7 +17,7 @@ use tableau_core::{CostRow, Tableau};
 pub(crate) fn infeasible<T: Tableau>(alloc: Global, board: &T) -> Result<SolverAnswer, Memory>
     requires first { IsTrue (T.contents board.now).in_first }
     requires fit { multipliers_fit (readings_of (T.contents board.now)) ≡ true }
-    ensures { IfOk result (Reads (T.contents board.now) turn.Infeasible) }
+    ensures { IfOk result (ReadsTurn (T.contents board.now) turn.Infeasible) }
 {
     let y = first_multipliers(alloc, board)?;
     let basis = basis_of(alloc, board)?;
@@ -30,7 +30,7 @@ pub(crate) fn unbounded<T: Tableau>(
     q: usize,
 ) -> Result<SolverAnswer, Memory>
     requires { q < (T.contents board.now).reals }
-    ensures { IfOk result (Reads (T.contents board.now) (turn.Unbounded q)) }
+    ensures { IfOk result (ReadsTurn (T.contents board.now) (turn.Unbounded q)) }
 {
     let x = point(alloc, board)?;
     let d = ray(alloc, board, q)?;
@@ -39,7 +39,7 @@ pub(crate) fn unbounded<T: Tableau>(
 }
 
 pub(crate) fn optimal<T: Tableau>(alloc: Global, board: &T) -> Result<SolverAnswer, Memory>
-    ensures { IfOk result (Reads (T.contents board.now) turn.Optimal) }
+    ensures { IfOk result (ReadsTurn (T.contents board.now) turn.Optimal) }
 {
     let x = point(alloc, board)?;
     let y = second_multipliers(alloc, board)?;

@@ -3,8 +3,8 @@ ghost use Rattle.std.specs.Prelude.{◌≡◌, ◌<◌, IsTrue, IfSome, length};
 ghost use Rattle.ratio_core.specs.Rational.{zero_ℚ};
 ghost use Rattle.simplex_form.specs.Fit.{uses_first};
 ghost use Rattle.simplex_form.specs.Turns as bland;
-ghost use Rattle.tableau_core.specs.Contents.{readings_of};
-ghost use Rattle.simplex_core.specs.Phases.{IsInPhase, IsWithin};
+ghost use Rattle.tableau_core.specs.BoardContents.{readings_of};
+ghost use Rattle.simplex_core.specs.Phases.{IsInPhase, IsTurnWithin};
 
 use ratio_core::Ratio;
 use simplex_form::{Phase, Turn};
@@ -14,7 +14,7 @@ use tableau_core::{CostRow, Tableau, is_positive};
 pub(crate) fn turn<T: Tableau>(board: &T, phase: Phase) -> Turn
     requires phase { IsInPhase phase (T.contents board.now) }
     ensures turn { result ≡ bland.turn_in phase (readings_of (T.contents board.now)) }
-    ensures within { IsWithin (T.contents board.now) result }
+    ensures within { IsTurnWithin (T.contents board.now) result }
 {
     match phase {
         Phase::First => first_turn(board),
@@ -27,7 +27,7 @@ fn first_turn<T: Tableau>(board: &T) -> Turn
     requires first { IsTrue (T.contents board.now).in_first }
     ensures turn { let R = readings_of (T.contents board.now) in
         result ≡ bland.first_turn R (bland.entering R R.first_price) }
-    ensures within { IsWithin (T.contents board.now) result }
+    ensures within { IsTurnWithin (T.contents board.now) result }
 {
     if let Some(column) = board.entering(CostRow::First) {
         return enters(board, Phase::First, column);
@@ -45,7 +45,7 @@ fn first_turn<T: Tableau>(board: &T) -> Turn
 fn sweep_turn<T: Tableau>(board: &T) -> Turn
     ensures turn { let R = readings_of (T.contents board.now) in
         result ≡ bland.sweep_turn R (bland.swept_entry R) }
-    ensures within { IsWithin (T.contents board.now) result }
+    ensures within { IsTurnWithin (T.contents board.now) result }
 {
     match swept(board) {
         Some(found) => Turn::Pivot {
@@ -60,7 +60,7 @@ fn sweep_turn<T: Tableau>(board: &T) -> Turn
 fn second_turn<T: Tableau>(board: &T) -> Turn
     ensures turn { let R = readings_of (T.contents board.now) in
         result ≡ bland.second_turn R (bland.entering R R.second_price) }
-    ensures within { IsWithin (T.contents board.now) result }
+    ensures within { IsTurnWithin (T.contents board.now) result }
 {
     match board.entering(CostRow::Second) {
         Some(column) => enters(board, Phase::Second, column),
@@ -74,7 +74,7 @@ fn enters<T: Tableau>(board: &T, phase: Phase, column: usize) -> Turn
     requires column { column < (T.contents board.now).reals }
     ensures turn { result
         ≡ bland.enters phase column (bland.leaving (readings_of (T.contents board.now)) column) }
-    ensures within { IsWithin (T.contents board.now) result }
+    ensures within { IsTurnWithin (T.contents board.now) result }
 {
     match board.leaving(column) {
         Some(row) => Turn::Pivot { phase, row, column },

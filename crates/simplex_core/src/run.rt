@@ -4,9 +4,9 @@ ghost use Rattle.ratio_core.specs.Rational.{zero_ℚ};
 ghost use Rattle.simplex_form.specs.Basis.{start};
 ghost use Rattle.simplex_form.specs.Fit.{pivot_fits, uses_first};
 ghost use Rattle.simplex_form.specs.Form.{Form, IsStandard};
-ghost use Rattle.simplex_form.specs.Outcome.{outcome_from};
-ghost use Rattle.tableau_core.specs.Contents.{IsBoardOf, IsPivoted, readings_of};
-ghost use Rattle.simplex_core.specs.Answer.{Tells};
+ghost use Rattle.simplex_form.specs.TrailOutcome.{outcome_from};
+ghost use Rattle.tableau_core.specs.BoardContents.{IsBoardOf, IsPivoted, readings_of};
+ghost use Rattle.simplex_core.specs.Answer.{TellsOutcome};
 ghost use Rattle.simplex_core.specs.Phases.{in_phase};
 
 use crate::answer::SolverAnswer;
@@ -26,7 +26,7 @@ pub(crate) fn run<T: Tableau + Drop>(
 ) -> Result<SolverAnswer, SolveFault>
     requires in_first { (T.contents board).in_first ≡ true }
     ensures { (F : Form) → IsStandard F → IsBoardOf F (start F) (T.contents board)
-        → Tells F pivots (outcome_from F pivots (start F)) result }
+        → TellsOutcome F pivots (outcome_from F pivots (start F)) result }
 {
     let mut phase = Phase::First;
     let mut left = pivots;

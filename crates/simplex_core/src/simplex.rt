@@ -1,7 +1,7 @@
 //! The simplex.
 ghost use Rattle.std.specs.Prelude.{◌≡◌, ◌+◌, ◌<◌, ◌^◌, IfOk};
 ghost use Rattle.std.specs.List.{range_with_len};
-ghost use Rattle.simplex_form.specs.Outcome.{IsOutcome, outcome};
+ghost use Rattle.simplex_form.specs.TrailOutcome.{IsOutcome, outcome};
 ghost use Rattle.simplex_core.specs.Answer.{IsRightAnswer, SaysOutcome};
 ghost use Rattle.simplex_core.specs.StdForm.{IsWellShaped, equality_form};
 

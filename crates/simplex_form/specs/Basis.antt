@@ -20,23 +20,23 @@ pub record IsInverse (n : ℕ) (column : ℕ → ℕ → Rational) (basic : ℕ 
       sum_to n (λ i. column (basic i) k *ℚ times n M v i) ≡ v k
 
 -- a basis of the trail with its phase, and its inverse, which the basis determines
-pub record State : Type 0 where
+pub record BasisState : Type 0 where
   pub phase : Phase
   pub basis : List ℕ
   pub inverse : ℕ → ℕ → Rational
 
 -- the basic column of row i
-abbrev pub basic : State → ℕ → ℕ
+abbrev pub basic : BasisState → ℕ → ℕ
 basic s i = slice_index s.basis i
 
 -- the basis has a column for each row, and the inverse is its inverse
-pub record IsBasis (F : Form) (s : State) : Type 0 where
+pub record IsBasis (F : Form) (s : BasisState) : Type 0 where
   pub long : length s.basis ≡ F.rows
   pub within : (i : ℕ) → i < F.rows → basic s i < F.reals + F.rows
   pub inverse : IsInverse F.rows (column F) (basic s) s.inverse
 
 -- the artificial columns and the unit matrix
-unfoldable pub start : Form → State
+unfoldable pub start : Form → BasisState
 start F = record {
   phase = First;
   basis = range_with_len F.reals F.rows;

@@ -43,26 +43,26 @@ abbrev pub weighted : Form → (ℕ → Rational) → (ℕ → Rational) → Rat
 weighted F y v = sum_to F.rows (λ i. y i *ℚ v i)
 
 -- x is at least 0 and meets the equations
-pub record IsFeasible (F : Form) (x : ℕ → Rational) : Type 0 where
+pub record IsFormFeasible (F : Form) (x : ℕ → Rational) : Type 0 where
   pub nonneg : (j : ℕ) → j < F.reals → zero_ℚ ≤ℚ x j
   pub meets : (i : ℕ) → i < F.rows → left_side F x i ≡ F.right i
 
 -- x is feasible, no reduced cost is negative, and the multipliers cost what x costs: so no feasible
 -- point costs less
-pub record IsOptimal (F : Form) (x y : ℕ → Rational) : Type 0 where
-  pub feasible : IsFeasible F x
+pub record IsFormOptimal (F : Form) (x y : ℕ → Rational) : Type 0 where
+  pub feasible : IsFormFeasible F x
   pub reduced : (j : ℕ) → j < F.reals → weighted F y (λ i. F.matrix i j) ≤ℚ F.costs j
   pub equal : weighted F y F.right ≡ cost_at F x
 
 -- the multipliers are at most 0 on each column and above 0 on the right sides: so no point is
 -- feasible
-pub record IsInfeasible (F : Form) (y : ℕ → Rational) : Type 0 where
+pub record IsFormInfeasible (F : Form) (y : ℕ → Rational) : Type 0 where
   pub nonpos : (j : ℕ) → j < F.reals → weighted F y (λ i. F.matrix i j) ≤ℚ zero_ℚ
   pub above : zero_ℚ ‹ℚ weighted F y F.right
 
 -- from the feasible x the ray d goes on without end, and the cost falls along it
-pub record IsUnbounded (F : Form) (x d : ℕ → Rational) : Type 0 where
-  pub feasible : IsFeasible F x
+pub record IsFormUnbounded (F : Form) (x d : ℕ → Rational) : Type 0 where
+  pub feasible : IsFormFeasible F x
   pub nonneg : (j : ℕ) → j < F.reals → zero_ℚ ≤ℚ d j
   pub stays : (i : ℕ) → i < F.rows → left_side F d i ≡ zero_ℚ
   pub falls : cost_at F d ‹ℚ zero_ℚ

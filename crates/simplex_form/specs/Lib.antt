@@ -9,4 +9,4 @@ pub mod Turns
 pub mod Fit
 pub mod Standing
 pub mod Trail
-pub mod Outcome
+pub mod TrailOutcome

@@ -2,7 +2,7 @@
 use Rattle.std.specs.Prelude.{◌≡◌, ℕ, ◌+◌, ◌<◌, Bool, IsTrue, List, slice_index, slice_set}
 use Rattle.ratio_core.specs.Rational.{Rational, ◌*ℚ◌, ◌-ℚ◌, ◌/ℚ◌}
 use Rattle.simplex_form.specs.Form.{Form, first_cost, second_cost}
-use Rattle.simplex_form.specs.Basis.{State, pivoted}
+use Rattle.simplex_form.specs.Basis.{BasisState, pivoted}
 use Rattle.simplex_form.specs.Board as board
 
 -- the sizes; the entry of each column in each row; the right side of each row; the price of each
@@ -25,7 +25,7 @@ abbrev pub basic_at : Readings → ℕ → ℕ
 basic_at R i = slice_index R.basis i
 
 -- what is read of a form at a basis
-abbrev pub readings : Form → State → Readings
+abbrev pub readings : Form → BasisState → Readings
 readings F s = record {
   rows = F.rows;
   reals = F.reals;

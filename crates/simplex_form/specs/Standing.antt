@@ -7,8 +7,8 @@ use Rattle.simplex_form.specs.declared.turn.Phase.TheVariants.{First, Second, Sw
 use Rattle.simplex_form.specs.declared.turn.Turn.{Turn}
 use Rattle.simplex_form.specs.declared.turn.Turn.TheVariants.{Infeasible, Optimal, Pivot, Stuck, Unbounded}
 use Rattle.simplex_form.specs.BoundedSums.{sum_to}
-use Rattle.simplex_form.specs.Form.{Form, IsInfeasible, IsOptimal, IsUnbounded, first_cost, second_cost}
-use Rattle.simplex_form.specs.Basis.{IsBasis, State, basic}
+use Rattle.simplex_form.specs.Form.{Form, IsFormInfeasible, IsFormOptimal, IsFormUnbounded, first_cost, second_cost}
+use Rattle.simplex_form.specs.Basis.{BasisState, IsBasis, basic}
 use Rattle.simplex_form.specs.Board.{multiplier, point, ray, right_side}
 use Rattle.simplex_form.specs.Readings.{Readings, basic_at, readings}
 use Rattle.simplex_form.specs.Turns.{ratio}
@@ -29,16 +29,16 @@ HasNoPositiveEntry R q = (i : ℕ) → i < R.rows → R.entry q i ≤ℚ zero_�
 
 -- a ratio with its basic column comes before another: it is less, or it is equal and the column no
 -- greater
-abbrev pub ComesFirst : Rational → ℕ → Rational → ℕ → Type 0
-ComesFirst p a q b = (p ‹ℚ q) ⊎ ((p ≡ q) × (a ≤ b))
+abbrev pub IsRatioBefore : Rational → ℕ → Rational → ℕ → Type 0
+IsRatioBefore p a q b = (p ‹ℚ q) ⊎ ((p ≡ q) × (a ≤ b))
 
 -- r is the row of least ratio among those of positive entry, and of these the one of least basic
 -- column
-pub record Leaves (R : Readings) (q r : ℕ) : Type 0 where
+pub record LeavesBasis (R : Readings) (q r : ℕ) : Type 0 where
   pub row : r < R.rows
   pub above : zero_ℚ ‹ℚ R.entry q r
   pub least : (i : ℕ) → i < R.rows → zero_ℚ ‹ℚ R.entry q i →
-      ComesFirst (ratio R q r) (basic_at R r) (ratio R q i) (basic_at R i)
+      IsRatioBefore (ratio R q r) (basic_at R r) (ratio R q i) (basic_at R i)
 
 -- no row of an artificial column has a real entry that isn't 0
 abbrev pub IsSwept : Readings → Type 0
@@ -66,34 +66,34 @@ StandsIn Sweep R = IsDrained R
 StandsIn Second R = IsDrained R × IsSwept R
 
 -- a basis with no negative right side, where what its phase needs stands
-pub record Stands (F : Form) (s : State) : Type 0 where
+pub record StandsAtBasis (F : Form) (s : BasisState) : Type 0 where
   pub basis : IsBasis F s
   pub nonneg : (i : ℕ) → i < F.rows → zero_ℚ ≤ℚ right_side F s i
   pub phase : StandsIn s.phase (readings F s)
 
 -- the sum of the artificial columns' values
-abbrev pub infeasibility : Form → State → Rational
+abbrev pub infeasibility : Form → BasisState → Rational
 infeasibility F s = sum_to F.rows (λ i. first_cost F (basic s i) *ℚ right_side F s i)
 
 -- what a turn says of the basis
-abbrev pub Says : Form → State → Turn → Type 0
-Says F s (Pivot First r q) = let R = readings F s in Enters R R.first_price q × Leaves R q r
-Says F s (Pivot Sweep r q) = let R = readings F s in IsDrained R × Sweeps R r q
-Says F s (Pivot Second r q) =
-    let R = readings F s in IsDrained R × IsSwept R × Enters R R.second_price q × Leaves R q r
-Says F s Stuck =
+abbrev pub TurnSays : Form → BasisState → Turn → Type 0
+TurnSays F s (Pivot First r q) = let R = readings F s in Enters R R.first_price q × LeavesBasis R q r
+TurnSays F s (Pivot Sweep r q) = let R = readings F s in IsDrained R × Sweeps R r q
+TurnSays F s (Pivot Second r q) =
+    let R = readings F s in IsDrained R × IsSwept R × Enters R R.second_price q × LeavesBasis R q r
+TurnSays F s Stuck =
     let R = readings F s in HasNoNegativePrice R R.first_price × (zero_ℚ ‹ℚ infeasibility F s)
-Says F s Infeasible =
+TurnSays F s Infeasible =
     let R = readings F s in HasNoNegativePrice R R.first_price × (zero_ℚ ‹ℚ infeasibility F s)
-Says F s (Unbounded q) =
+TurnSays F s (Unbounded q) =
     let R = readings F s in
     IsDrained R × IsSwept R × Enters R R.second_price q × HasNoPositiveEntry R q
-Says F s Optimal =
+TurnSays F s Optimal =
     let R = readings F s in IsDrained R × IsSwept R × HasNoNegativePrice R R.second_price
 
 -- the right answer to each end
-abbrev pub IsAnswered : Form → State → Turn → Type 0
-IsAnswered F s Infeasible = IsInfeasible F (multiplier F s (first_cost F))
-IsAnswered F s (Unbounded q) = IsUnbounded F (point F s) (ray F s q)
-IsAnswered F s Optimal = IsOptimal F (point F s) (multiplier F s (second_cost F))
-IsAnswered F s _ = Unit {0}
+abbrev pub HasRightAnswer : Form → BasisState → Turn → Type 0
+HasRightAnswer F s Infeasible = IsFormInfeasible F (multiplier F s (first_cost F))
+HasRightAnswer F s (Unbounded q) = IsFormUnbounded F (point F s) (ray F s q)
+HasRightAnswer F s Optimal = IsFormOptimal F (point F s) (multiplier F s (second_cost F))
+HasRightAnswer F s _ = Unit {0}

@@ -4,7 +4,7 @@ use Rattle.simplex_form.specs.declared.turn.Phase.{Phase}
 use Rattle.simplex_form.specs.declared.turn.Turn.{Turn}
 use Rattle.simplex_form.specs.declared.turn.Turn.TheVariants.{Pivot, Stuck}
 use Rattle.simplex_form.specs.Form.{Form}
-use Rattle.simplex_form.specs.Basis.{State, start}
+use Rattle.simplex_form.specs.Basis.{BasisState, start}
 use Rattle.simplex_form.specs.Board.{pivot}
 use Rattle.simplex_form.specs.Readings.{readings}
 use Rattle.simplex_form.specs.Turns.{turn}
@@ -22,23 +22,23 @@ ends Stuck = false
 ends _ = true
 
 -- the basis after the turn's pivot, which is the same where it has none
-abbrev pub after : Form → State → Turn → State
+abbrev pub after : Form → BasisState → Turn → BasisState
 after F s (Pivot phase r q) = pivot F s phase r q
 after F s _ = s
 
-abbrev pub next : Form → State → State
+abbrev pub next : Form → BasisState → BasisState
 next F s = after F s (turn F s)
 
 -- the turn is a pivot that fits
-abbrev pub goes_on : Form → State → Bool
+abbrev pub goes_on : Form → BasisState → Bool
 goes_on F s = is_some (pivot_phase (turn F s)) && turn_fits (readings F s) (turn F s)
 
 -- a basis and its phase
-abbrev pub stop : State → Phase × List ℕ
+abbrev pub stop : BasisState → Phase × List ℕ
 stop s = (s.phase, s.basis)
 
 -- the bases of n pivots from s on, each with its phase, or up to the first that has no next
-abbrev pub trail_from : Form → ℕ → State → List (Phase × List ℕ)
+abbrev pub trail_from : Form → ℕ → BasisState → List (Phase × List ℕ)
 trail_from F zero s = stop s ∷ []
 trail_from F (suc n) s = stop s ∷ (if goes_on F s then trail_from F n (next F s) else [])
 
@@ -47,7 +47,7 @@ abbrev pub trail : Form → ℕ → List (Phase × List ℕ)
 trail F n = if start_fits F then trail_from F n (start F) else stop (start F) ∷ []
 
 -- the basis that n steps lead to
-abbrev pub reached : Form → ℕ → State
+abbrev pub reached : Form → ℕ → BasisState
 reached F zero = start F
 reached F (suc n) = next F (reached F n)
 

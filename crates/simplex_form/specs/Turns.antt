@@ -8,7 +8,7 @@ use Rattle.simplex_form.specs.declared.turn.Turn.{Turn}
 use Rattle.simplex_form.specs.declared.turn.Turn.TheVariants.{Infeasible, Optimal, Pivot, Stuck, Unbounded}
 use Rattle.simplex_form.specs.Search.{all_below, best_below, least_below, least_row, some_below}
 use Rattle.simplex_form.specs.Form.{Form}
-use Rattle.simplex_form.specs.Basis.{State}
+use Rattle.simplex_form.specs.Basis.{BasisState}
 use Rattle.simplex_form.specs.Readings.{Readings, basic_at, readings}
 
 abbrev pub is_below : Rational → Rational → Bool
@@ -93,5 +93,5 @@ turn_in Sweep R = sweep_turn R (swept_entry R)
 turn_in Second R = second_turn R (entering R R.second_price)
 
 -- what is done at the basis
-abbrev pub turn : Form → State → Turn
+abbrev pub turn : Form → BasisState → Turn
 turn F s = turn_in s.phase (readings F s)

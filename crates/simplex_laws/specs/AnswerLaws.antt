@@ -6,12 +6,12 @@ use Rattle.ratio_core.specs.Rational.{Rational, zero_ℚ, ◌*ℚ◌, ◌+ℚ◌
 use Rattle.rational_laws.specs.Field.{*ℚ-+ℚ, *ℚ-zero, *ℚ_assoc, *ℚ_comm, +ℚ-zero}
 use Rattle.rational_laws.specs.Order.{nonneg_add, nonneg_mul, nonpos_mul, not_‹ℚ_from_≤ℚ, ≤ℚ-*ℚ}
 use Rattle.simplex_form.specs.BoundedSums.{sum_to}
-use Rattle.simplex_form.specs.Form.{Form, IsFeasible, IsInfeasible, IsOptimal, IsUnbounded, cost_at, left_side, weighted}
+use Rattle.simplex_form.specs.Form.{Form, IsFormFeasible, IsFormInfeasible, IsFormOptimal, IsFormUnbounded, cost_at, left_side, weighted}
 use Rattle.simplex_laws.specs.BoundedSumLaws.{sum_to-*ℚ, sum_to-+ℚ, sum_to-≤ℚ, sum_to_nonpos, sum_to_same}
 use Rattle.simplex_laws.specs.PivotLaws.{products_regrouped}
 
 -- the multipliers make of the right sides what they make of each column, times the feasible point
-pub weighted_by_point : (F : Form) (y z : ℕ → Rational) → IsFeasible F z
+pub weighted_by_point : (F : Form) (y z : ℕ → Rational) → IsFormFeasible F z
     → weighted F y F.right ≡ sum_to F.reals (λ j. weighted F y (λ i. F.matrix i j) *ℚ z j)
 weighted_by_point F y z h =
     sum_to_same F.rows (λ i. y i *ℚ F.right i) (λ i. y i *ℚ left_side F z i)
@@ -19,7 +19,7 @@ weighted_by_point F y z h =
     ∙ products_regrouped F.rows F.reals y F.matrix z
 
 -- no feasible point costs less than an optimal one
-pub optimal-least : (F : Form) (x y z : ℕ → Rational) → IsOptimal F x y → IsFeasible F z
+pub optimal-least : (F : Form) (x y z : ℕ → Rational) → IsFormOptimal F x y → IsFormFeasible F z
     → cost_at F x ≤ℚ cost_at F z
 optimal-least F x y z best h =
     subst (λ c. c ≤ℚ cost_at F z) (sym (weighted_by_point F y z h) ∙ best.equal)
@@ -28,7 +28,8 @@ optimal-least F x y z best h =
     (h.nonneg j b)))
 
 -- an infeasible form has no feasible point
-pub infeasible-none : (F : Form) (y z : ℕ → Rational) → IsInfeasible F y → ¬ (IsFeasible F z)
+pub infeasible-none : (F : Form) (y z : ℕ → Rational) → IsFormInfeasible F y
+    → ¬ (IsFormFeasible F z)
 infeasible-none F y z farkas h =
     not_‹ℚ_from_≤ℚ (weighted F y F.right) zero_ℚ
     (subst (λ c. c ≤ℚ zero_ℚ) (sym (weighted_by_point F y z h))
@@ -57,8 +58,8 @@ further_sum n f x d t =
     inner f t d = sym (*ℚ_assoc f t d) ∙ ap (λ c. c *ℚ d) (*ℚ_comm f t) ∙ *ℚ_assoc t f d
 
 -- each point along the ray is feasible
-pub unbounded-feasible : (F : Form) (x d : ℕ → Rational) (t : Rational) → IsUnbounded F x d
-    → zero_ℚ ≤ℚ t → IsFeasible F (further x t d)
+pub unbounded-feasible : (F : Form) (x d : ℕ → Rational) (t : Rational) → IsFormUnbounded F x d
+    → zero_ℚ ≤ℚ t → IsFormFeasible F (further x t d)
 unbounded-feasible F x d t u h = record {
   nonneg = λ j b. nonneg_add (x j) (t *ℚ d j) (u.feasible.nonneg j b)
       (nonneg_mul t (d j) h (u.nonneg j b));

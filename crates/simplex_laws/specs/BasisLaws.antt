@@ -2,13 +2,13 @@
 use Rattle.std.specs.Prelude.{◌≡◌, ℕ, ◌<◌, slice_index}
 use Rattle.std.proofs.Common.{ap, subst, ◌∙◌}
 use Rattle.ratio_core.specs.Rational.{Rational, ◌*ℚ◌, ◌-ℚ◌}
-use Rattle.simplex_form.specs.Basis.{IsBasis, IsInverse, State, basic, times}
+use Rattle.simplex_form.specs.Basis.{BasisState, IsBasis, IsInverse, basic, times}
 use Rattle.simplex_form.specs.Board.{entry, price, right_side}
 use Rattle.simplex_form.specs.Form.{Form, column}
 use Rattle.simplex_laws.specs.BoundedSumLaws.{sum_to_same}
 use Rattle.simplex_laws.specs.InverseLaws.{inverse-unique}
 
-module _ (F : Form) (s t : State) (left : IsBasis F s) (right : IsBasis F t)
+module _ (F : Form) (s t : BasisState) (left : IsBasis F s) (right : IsBasis F t)
     (same : s.basis ≡ t.basis) where
   -- row i of the one inverse times a vector is that of the other
   pub times-determined : (v : ℕ → Rational) (i : ℕ) → i < F.rows

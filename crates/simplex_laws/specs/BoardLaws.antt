@@ -4,7 +4,7 @@ use Rattle.std.proofs.Common.{sym, ◌∙◌, ap, subst}
 use Rattle.std.proofs.lemmas.List.{get_or-set_other, get_or-set_same, length-set}
 use Rattle.ratio_core.specs.Rational.{Rational, inverse_ℚ, zero_ℚ, ◌*ℚ◌, ◌+ℚ◌, ◌-ℚ◌}
 use Rattle.rational_laws.specs.Ring.{as_expression, by_ring, ring₄}
-use Rattle.simplex_form.specs.Basis.{IsBasis, IsInverse, State, basic, pivoted}
+use Rattle.simplex_form.specs.Basis.{BasisState, IsBasis, IsInverse, basic, pivoted}
 use Rattle.simplex_form.specs.Board.{entry, pivot, price, right_side}
 use Rattle.simplex_form.specs.BoundedSums.{sum_to}
 use Rattle.simplex_form.specs.Form.{Form, column, first_cost, second_cost}
@@ -14,7 +14,7 @@ use Rattle.simplex_laws.specs.BoundedSumLaws.{same_or_other, sum_to_same}
 use Rattle.simplex_laws.specs.InverseLaws.{inverse_pivoted}
 use Rattle.simplex_laws.specs.PivotLaws.{pivot-weighted, times-pivoted}
 
-module _ (F : Form) (s : State) (phase : Phase) (r q : ℕ) where
+module _ (F : Form) (s : BasisState) (phase : Phase) (r q : ℕ) where
   -- ---- the basis
 
   pub basic-pivot_at : IsBasis F s → r < F.rows → basic (pivot F s phase r q) r ≡ q

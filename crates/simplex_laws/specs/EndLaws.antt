@@ -4,12 +4,12 @@ use Rattle.std.proofs.Common.{sym, ◌∙◌, ap, ap₂, arith, subst}
 use Rattle.ratio_core.specs.Rational.{Rational, neg_ℚ, one_ℚ, zero_ℚ, ◌*ℚ◌, ◌-ℚ◌, ◌≤ℚ◌, ◌‹ℚ◌}
 use Rattle.rational_laws.specs.Field.{*ℚ-zero, -ℚ-itself, zero-*ℚ}
 use Rattle.rational_laws.specs.Order.{nonneg_add, nonneg_mul, nonneg_neg, nonpos_mul, zero_‹ℚ_one, ≤ℚ_from_nonneg, ≤ℚ_from_‹ℚ, ≤ℚ_refl}
-use Rattle.simplex_form.specs.Basis.{State, basic}
+use Rattle.simplex_form.specs.Basis.{BasisState, basic}
 use Rattle.simplex_form.specs.Board.{entry, multiplier, point, price, ray, right_side}
 use Rattle.simplex_form.specs.BoundedSums.{delta, sum_to}
-use Rattle.simplex_form.specs.Form.{Form, IsFeasible, IsInfeasible, IsOptimal, IsUnbounded, column, cost_at, first_cost, left_side, second_cost, weighted}
+use Rattle.simplex_form.specs.Form.{Form, IsFormFeasible, IsFormInfeasible, IsFormOptimal, IsFormUnbounded, column, cost_at, first_cost, left_side, second_cost, weighted}
 use Rattle.simplex_form.specs.Readings.{readings}
-use Rattle.simplex_form.specs.Standing.{Enters, HasNoNegativePrice, HasNoPositiveEntry, IsAnswered, IsDrained, IsSwept, Says, Stands, infeasibility}
+use Rattle.simplex_form.specs.Standing.{Enters, HasNoNegativePrice, HasNoPositiveEntry, HasRightAnswer, IsDrained, IsSwept, StandsAtBasis, TurnSays, infeasibility}
 use Rattle.simplex_form.specs.declared.turn.Turn.{Turn}
 use Rattle.simplex_form.specs.declared.turn.Turn.TheVariants.{Infeasible, Optimal, Pivot, Stuck, Unbounded}
 use Rattle.simplex_laws.specs.AgreementLaws.{real_column}
@@ -52,7 +52,7 @@ real_weighted F y j b = sum_to_same F.rows (λ i. y i *ℚ column F j i) (λ i. 
     (λ i _. ap (λ x. y i *ℚ x) (column_real F j i b))
 
 -- values w at the basic columns leave an artificial column at 0, where each row of one has 0
-placed_zero : (F : Form) (s : State) (w : ℕ → Rational)
+placed_zero : (F : Form) (s : BasisState) (w : ℕ → Rational)
     → ((i : ℕ) → i < F.rows → F.reals ≤ basic s i → w i ≡ zero_ℚ) → (j : ℕ) → F.reals ≤ j
     → sum_to F.rows (λ i. delta (basic s i) j *ℚ w i) ≡ zero_ℚ
 placed_zero F s w z j a =
@@ -63,7 +63,8 @@ placed_zero F s w z j a =
     (λ n. ap (λ y. y *ℚ w i) (delta_other (basic s i) j n) ∙ zero-*ℚ (w i)))
 
 -- a price of a real column says how its multipliers stand to its cost
-weighted_at_most : (F : Form) (s : State) → Stands F s → (cost : ℕ → Rational) (j : ℕ) → j < F.reals
+weighted_at_most : (F : Form) (s : BasisState) → StandsAtBasis F s → (cost : ℕ → Rational) (j : ℕ)
+    → j < F.reals
     → zero_ℚ ≤ℚ price F s cost j → weighted F (multiplier F s cost) (λ i. F.matrix i j) ≤ℚ cost j
 weighted_at_most F s h cost j b k =
     subst (λ x. x ≤ℚ cost j) (real_weighted F (multiplier F s cost) j b)
@@ -72,8 +73,8 @@ weighted_at_most F s h cost j b k =
 
 -- ---- the ends
 
-module _ (F : Form) (s : State) (h : Stands F s) where
-  pub point_feasible : IsDrained (readings F s) → IsFeasible F (point F s)
+module _ (F : Form) (s : BasisState) (h : StandsAtBasis F s) where
+  pub point_feasible : IsDrained (readings F s) → IsFormFeasible F (point F s)
   point_feasible d = record {
     nonneg = λ j b. sum_to_nonneg F.rows (λ i. delta (basic s i) j *ℚ right_side F s i)
         (λ i c. nonneg_mul (delta (basic s i) j) (right_side F s i) (delta_nonneg (basic s i) j)
@@ -84,7 +85,7 @@ module _ (F : Form) (s : State) (h : Stands F s) where
 
   pub optimal_right : IsDrained (readings F s)
       → HasNoNegativePrice (readings F s) (price F s (second_cost F))
-      → IsOptimal F (point F s) (multiplier F s (second_cost F))
+      → IsFormOptimal F (point F s) (multiplier F s (second_cost F))
   optimal_right d k = record {
     feasible = point_feasible d;
     reduced = λ j b. subst (λ x. weighted F (multiplier F s (second_cost F)) (λ i. F.matrix i j) ≤ℚ
@@ -93,7 +94,7 @@ module _ (F : Form) (s : State) (h : Stands F s) where
   }
 
   pub infeasible_right : HasNoNegativePrice (readings F s) (price F s (first_cost F))
-      → zero_ℚ ‹ℚ infeasibility F s → IsInfeasible F (multiplier F s (first_cost F))
+      → zero_ℚ ‹ℚ infeasibility F s → IsFormInfeasible F (multiplier F s (first_cost F))
   infeasible_right k above = record {
     nonpos = λ j b. subst (λ x. weighted F (multiplier F s (first_cost F)) (λ i. F.matrix i j) ≤ℚ x)
         (first_cost_real F j b) (weighted_at_most F s h (first_cost F) j b (k j b));
@@ -121,7 +122,7 @@ module _ (F : Form) (s : State) (h : Stands F s) where
 
   pub unbounded_right : (q : ℕ) → IsDrained (readings F s) → IsSwept (readings F s)
       → Enters (readings F s) (price F s (second_cost F)) q → HasNoPositiveEntry (readings F s) q
-      → IsUnbounded F (point F s) (ray F s q)
+      → IsFormUnbounded F (point F s) (ray F s q)
   unbounded_right q d w e none = record {
     feasible = point_feasible d;
     nonneg = λ j b. ray_nonneg q none j;
@@ -131,7 +132,7 @@ module _ (F : Form) (s : State) (h : Stands F s) where
         (real_column q F.reals F.rows e.real)) ∙ real_cost F (ray F s q)) e.negative;
   }
 
-  pub end_right : (t : Turn) → Says F s t → IsAnswered F s t
+  pub end_right : (t : Turn) → TurnSays F s t → HasRightAnswer F s t
   end_right (Pivot phase r q) k = tt
   end_right Stuck k = tt
   end_right Infeasible k = infeasible_right k.0 k.1

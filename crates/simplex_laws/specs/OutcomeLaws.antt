@@ -2,12 +2,12 @@
 use Rattle.std.specs.Prelude.{◌≡◌, ℕ, zero, suc, ◌+◌, ◌≤◌, ◌&&◌, true, false, is_some, if◌then◌else◌, refl}
 use Rattle.std.proofs.Common.{inl, inr, sym, ◌∙◌, arith, subst, true≢false}
 use Rattle.std.proofs.lemmas.Bool.{cond_both}
-use Rattle.simplex_form.specs.Basis.{State, start}
+use Rattle.simplex_form.specs.Basis.{BasisState, start}
 use Rattle.simplex_form.specs.Fit.{start_fits, turn_fits}
 use Rattle.simplex_form.specs.Form.{Form, IsStandard}
-use Rattle.simplex_form.specs.Outcome.{HasTrail, IsOutcome, Outcome, ended, limited, outcome, outcome_from, overflowing, unless_ended}
+use Rattle.simplex_form.specs.TrailOutcome.{HasTrail, IsOutcome, TrailOutcome, ended, limited, outcome, outcome_from, overflowing, unless_ended}
 use Rattle.simplex_form.specs.Readings.{Readings, readings}
-use Rattle.simplex_form.specs.Standing.{IsAnswered}
+use Rattle.simplex_form.specs.Standing.{HasRightAnswer}
 use Rattle.simplex_form.specs.Trail.{ends, pivot_phase, reached}
 use Rattle.simplex_form.specs.Turns.{turn}
 use Rattle.simplex_form.specs.declared.turn.Turn.{Turn}
@@ -29,7 +29,7 @@ module _ (F : Form) where
   longer k h e f =
       trail_more F k h (pivots_on (readings F (reached F k)) (turn F (reached F k)) e f)
 
-  at_end : (n k : ℕ) → k ≤ n → HasTrail F k → (other : Outcome)
+  at_end : (n k : ℕ) → k ≤ n → HasTrail F k → (other : TrailOutcome)
       → (ends (turn F (reached F k)) ≡ false → IsOutcome F n other)
       → IsOutcome F n (unless_ended F (reached F k) other)
   at_end n k b h other more =
@@ -65,8 +65,8 @@ module _ (F : Form) where
       zero_lem n = omega arith
 
   -- and an end is answered right
-  pub ended_right : IsStandard F → (n : ℕ) (s : State) (t : Turn) → IsOutcome F n (ended s t)
-      → IsAnswered F s t
+  pub ended_right : IsStandard F → (n : ℕ) (s : BasisState) (t : Turn) → IsOutcome F n (ended s t)
+      → HasRightAnswer F s t
   ended_right h n s t o =
-      subst (λ u. IsAnswered F s u) (sym o.4) (subst (λ x. IsAnswered F x (turn F x)) (sym o.3)
+      subst (λ u. HasRightAnswer F s u) (sym o.4) (subst (λ x. HasRightAnswer F x (turn F x)) (sym o.3)
       (answers_right F h o.0))

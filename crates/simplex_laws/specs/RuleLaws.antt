@@ -9,7 +9,7 @@ use Rattle.rational_laws.specs.Order.{‹ℚ-≤ℚ_trans, ‹ℚ_from_≤ℚ_an
 use Rattle.rational_laws.specs.Tests.{ge_from_failed, lt_from_test, nonzero_from_test, test_from_lt, zero_from_test}
 use Rattle.simplex_form.specs.Board.{price}
 use Rattle.simplex_form.specs.Readings.{Readings, basic_at}
-use Rattle.simplex_form.specs.Standing.{ComesFirst, Enters, HasNoNegativePrice, HasNoPositiveEntry, IsSwept, Leaves, Sweeps}
+use Rattle.simplex_form.specs.Standing.{Enters, HasNoNegativePrice, HasNoPositiveEntry, IsRatioBefore, IsSwept, LeavesBasis, Sweeps}
 use Rattle.simplex_form.specs.Turns.{entering, is_artificial, is_below, leaves_before, leaving, ratio, swept_column, swept_entry, swept_in}
 use Rattle.simplex_laws.specs.SearchLaws.{IsBest, IsLeast, IsLeastRow, best_below_is, least_below_is, least_row_is}
 
@@ -36,35 +36,35 @@ entering_is R price =
 
 abbrev pub IsLeaving : Readings → ℕ → Option ℕ → Type 0
 IsLeaving R q None = HasNoPositiveEntry R q
-IsLeaving R q (Some r) = Leaves R q r
+IsLeaving R q (Some r) = LeavesBasis R q r
 
-pub at_most_from_first : (p q : Rational) (a b : ℕ) → ComesFirst p a q b → p ≤ℚ q
+pub at_most_from_first : (p q : Rational) (a b : ℕ) → IsRatioBefore p a q b → p ≤ℚ q
 at_most_from_first p q a b (inl h) = ≤ℚ_from_‹ℚ p q h
 at_most_from_first p q a b (inr h) = ≤ℚ_from_≡ p q h.0
 
-first_chain : (p q r : Rational) (a b c : ℕ) → ComesFirst p a q b → ComesFirst q b r c
-    → ComesFirst p a r c
+first_chain : (p q r : Rational) (a b c : ℕ) → IsRatioBefore p a q b → IsRatioBefore q b r c
+    → IsRatioBefore p a r c
 first_chain p q r a b c (inl h) k = inl (‹ℚ-≤ℚ_trans p q r h (at_most_from_first q r b c k))
 first_chain p q r a b c (inr h) (inl k) = inl (≤ℚ-‹ℚ_trans p q r (≤ℚ_from_≡ p q h.0) k)
 first_chain p q r a b c (inr h) (inr k) = inr (h.0 ∙ k.0, omega (arith, h.1, k.1))
 
 first_from_test : (p q : Rational) (a b : ℕ)
-    → (is_below p q || rational_eq p q && nat_lt a b) ≡ true → ComesFirst p a q b
+    → (is_below p q || rational_eq p q && nat_lt a b) ≡ true → IsRatioBefore p a q b
 first_from_test p q a b = by_tests (is_below p q) (rational_eq p q) (nat_lt a b) refl refl refl
   where
     by_tests : (u v w : Bool) → is_below p q ≡ u → rational_eq p q ≡ v → nat_lt a b ≡ w
-        → (u || v && w) ≡ true → ComesFirst p a q b
+        → (u || v && w) ≡ true → IsRatioBefore p a q b
     by_tests true v w e f g h = inl (lt_from_test p q e)
     by_tests false true true e f g h = inr (rational_eq-true p q f, omega (arith, ltb-true a b g))
     by_tests false true false e f g h = absurd (true≢false (sym h))
     by_tests false false w e f g h = absurd (true≢false (sym h))
 
 first_from_failed : (p q : Rational) (a b : ℕ)
-    → (is_below p q || rational_eq p q && nat_lt a b) ≡ false → ComesFirst q b p a
+    → (is_below p q || rational_eq p q && nat_lt a b) ≡ false → IsRatioBefore q b p a
 first_from_failed p q a b = by_tests (is_below p q) (rational_eq p q) (nat_lt a b) refl refl refl
   where
     by_tests : (u v w : Bool) → is_below p q ≡ u → rational_eq p q ≡ v → nat_lt a b ≡ w
-        → (u || v && w) ≡ false → ComesFirst q b p a
+        → (u || v && w) ≡ false → IsRatioBefore q b p a
     by_tests true v w e f g h = absurd (true≢false h)
     by_tests false true true e f g h = absurd (true≢false h)
     by_tests false true false e f g h = inr (sym (rational_eq-true p q f), ltb-false a b g)
@@ -84,7 +84,7 @@ leaving_is R q = meaning (leaving R q) (best_below_is R.rows test (leaves_before
     at i = ratio R q i
 
     Before : ℕ → ℕ → Type 0
-    Before i k = ComesFirst (ratio R q i) (basic_at R i) (ratio R q k) (basic_at R k)
+    Before i k = IsRatioBefore (ratio R q i) (basic_at R i) (ratio R q k) (basic_at R k)
 
     meaning : (o : Option ℕ) → IsBest R.rows test Before o → IsLeaving R q o
     meaning None h = λ i b. ge_from_failed zero_ℚ (R.entry q i) (h i b)

@@ -4,11 +4,11 @@ use Rattle.std.proofs.Common.{inl, inr, sym, ◌∙◌, ap, arith, subst}
 use Rattle.ratio_core.specs.Rational.{Rational, inverse_ℚ, zero_ℚ, ◌*ℚ◌, ◌-ℚ◌, ◌≤ℚ◌, ◌‹ℚ◌}
 use Rattle.rational_laws.specs.Order.{above_inverse, nonneg_from_≤ℚ, nonneg_mul, nonpos_mul, not_‹ℚ_from_≤ℚ, ≤ℚ-*ℚ_left, ≤ℚ_from_‹ℚ, ≤ℚ_or_‹ℚ, ≤ℚ_refl, ≤ℚ_trans}
 use Rattle.rational_laws.specs.Field.{*ℚ_comm}
-use Rattle.simplex_form.specs.Basis.{IsBasis, State, basic, pivoted}
+use Rattle.simplex_form.specs.Basis.{BasisState, IsBasis, basic, pivoted}
 use Rattle.simplex_form.specs.Board.{entry, pivot, right_side}
 use Rattle.simplex_form.specs.Form.{Form}
 use Rattle.simplex_form.specs.Readings.{readings}
-use Rattle.simplex_form.specs.Standing.{IsDrained, IsSwept, Leaves, Says, Stands, StandsIn, Sweeps}
+use Rattle.simplex_form.specs.Standing.{IsDrained, IsSwept, LeavesBasis, StandsAtBasis, StandsIn, Sweeps, TurnSays}
 use Rattle.simplex_form.specs.Trail.{after}
 use Rattle.simplex_form.specs.Turns.{ratio}
 use Rattle.simplex_form.specs.declared.turn.Phase.{Phase}
@@ -38,14 +38,14 @@ within_step x e t w h k least = nonneg_from_≤ℚ (e *ℚ t) x (by_sign (≤ℚ
         subst (λ y. (e *ℚ t) ≤ℚ y) (quotient_back e x (above_not_zero e high))
         (≤ℚ-*ℚ_left t (x *ℚ inverse_ℚ e) e (least high) (≤ℚ_from_‹ℚ zero_ℚ e high))
 
-module _ (F : Form) (s : State) (h : Stands F s) where
+module _ (F : Form) (s : BasisState) (h : StandsAtBasis F s) where
   -- the step's length
-  step_nonneg : (q r : ℕ) → Leaves (readings F s) q r → zero_ℚ ≤ℚ ratio (readings F s) q r
+  step_nonneg : (q r : ℕ) → LeavesBasis (readings F s) q r → zero_ℚ ≤ℚ ratio (readings F s) q r
   step_nonneg q r k =
       nonneg_mul (right_side F s r) (inverse_ℚ (entry F s q r)) (h.nonneg r k.row)
       (≤ℚ_from_‹ℚ zero_ℚ (inverse_ℚ (entry F s q r)) (above_inverse (entry F s q r) k.above))
 
-  leaving_nonneg : (q r i : ℕ) → Leaves (readings F s) q r → i < F.rows
+  leaving_nonneg : (q r i : ℕ) → LeavesBasis (readings F s) q r → i < F.rows
       → zero_ℚ ≤ℚ pivoted r (entry F s q) (right_side F s) i
   leaving_nonneg q r i k b =
       pivoted_each (λ _ x. zero_ℚ ≤ℚ x) r (entry F s q) (right_side F s) i (step_nonneg q r k)
@@ -53,7 +53,8 @@ module _ (F : Form) (s : State) (h : Stands F s) where
       (h.nonneg i b) (step_nonneg q r k) (λ a. at_most_from_first (ratio (readings F s) q r)
       (ratio (readings F s) q i) (basic s r) (basic s i) (k.least i b a)))
 
-  pub nonneg-leaving : (phase : Phase) (q r : ℕ) → Leaves (readings F s) q r → (i : ℕ) → i < F.rows
+  pub nonneg-leaving : (phase : Phase) (q r : ℕ) → LeavesBasis (readings F s) q r → (i : ℕ)
+      → i < F.rows
       → zero_ℚ ≤ℚ right_side F (pivot F s phase r q) i
   nonneg-leaving phase q r k i b =
       subst (λ x. zero_ℚ ≤ℚ x) (sym (right_side-pivot F s phase r q i)) (leaving_nonneg q r i k b)
@@ -104,7 +105,7 @@ module _ (F : Form) (s : State) (h : Stands F s) where
 
   -- ---- the next basis
 
-  basis-leaving : (phase : Phase) (q r : ℕ) → q < F.reals → Leaves (readings F s) q r
+  basis-leaving : (phase : Phase) (q r : ℕ) → q < F.reals → LeavesBasis (readings F s) q r
       → IsBasis F (pivot F s phase r q)
   basis-leaving phase q r c k = basis-pivot F s phase r q h.basis k.row
       (real_column q F.reals F.rows c) (above_not_zero (entry F s q r) k.above)
@@ -124,7 +125,7 @@ module _ (F : Form) (s : State) (h : Stands F s) where
   phase-pivot phase q r k = k
 
   -- each turn leads to a basis where the same stands
-  pub after_stands : (t : Turn) → Says F s t → Stands F (after F s t)
+  pub after_stands : (t : Turn) → TurnSays F s t → StandsAtBasis F (after F s t)
   after_stands (Pivot First r q) k = record {
     basis = basis-leaving First q r k.0.real k.1;
     nonneg = nonneg-leaving First q r k.1;

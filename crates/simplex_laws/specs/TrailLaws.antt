@@ -5,13 +5,13 @@ use Rattle.std.proofs.lemmas.Bool.{cond-true}
 use Rattle.std.proofs.lemmas.List.FromFn.{get_or-range_with_len, length-range_with_len}
 use Rattle.ratio_core.specs.Rational.{Rational, neg_ℚ, one_ℚ, zero_ℚ, ◌*ℚ◌, ◌+ℚ◌, ◌-ℚ◌, ◌≤ℚ◌}
 use Rattle.rational_laws.specs.Field.{*ℚ_comm, +ℚ-neg_ℚ, +ℚ-zero, neg_ℚ-zero, one-*ℚ, zero-*ℚ, zero-+ℚ}
-use Rattle.simplex_form.specs.Basis.{IsBasis, IsInverse, State, basic, start, times}
+use Rattle.simplex_form.specs.Basis.{BasisState, IsBasis, IsInverse, basic, start, times}
 use Rattle.simplex_form.specs.Board.{entry, price, right_side}
 use Rattle.simplex_form.specs.BoundedSums.{delta, sum_to}
 use Rattle.simplex_form.specs.Fit.{start_fits}
 use Rattle.simplex_form.specs.Form.{Form, IsStandard, column, first_cost, second_cost}
-use Rattle.simplex_form.specs.Outcome.{HasTrail}
-use Rattle.simplex_form.specs.Standing.{IsAnswered, Stands}
+use Rattle.simplex_form.specs.TrailOutcome.{HasTrail}
+use Rattle.simplex_form.specs.Standing.{HasRightAnswer, StandsAtBasis}
 use Rattle.simplex_form.specs.Trail.{goes_on, next, reached, stop, trail, trail_from}
 use Rattle.simplex_form.specs.Turns.{turn}
 use Rattle.simplex_form.specs.declared.turn.Phase.{Phase}
@@ -109,7 +109,7 @@ module _ (F : Form) where
       ∙ ap (λ x. second_cost F j -ℚ x) (sum_to_zero F.rows)
       ∙ ap (λ x. second_cost F j +ℚ x) neg_ℚ-zero ∙ +ℚ-zero (second_cost F j)
 
-  pub start_stands : IsStandard F → Stands F (start F)
+  pub start_stands : IsStandard F → StandsAtBasis F (start F)
   unfolding start
   start_stands h = record {
     basis = start_basis;
@@ -119,21 +119,21 @@ module _ (F : Form) where
 
   -- ---- the trail
 
-  pub reached_stands : IsStandard F → (n : ℕ) → Stands F (reached F n)
+  pub reached_stands : IsStandard F → (n : ℕ) → StandsAtBasis F (reached F n)
   reached_stands h zero = start_stands h
   reached_stands h (suc n) =
-      let now : Stands F (reached F n) = reached_stands h n in
+      let now : StandsAtBasis F (reached F n) = reached_stands h n in
       after_stands F (reached F n) now (turn F (reached F n)) (turn_says F (reached F n) now)
 
   -- whichever end is reached, after however many steps, its answer is right
-  pub answers_right : IsStandard F → (n : ℕ) → IsAnswered F (reached F n) (turn F (reached F n))
+  pub answers_right : IsStandard F → (n : ℕ) → HasRightAnswer F (reached F n) (turn F (reached F n))
   answers_right h n =
-      let now : Stands F (reached F n) = reached_stands h n in
+      let now : StandsAtBasis F (reached F n) = reached_stands h n in
       end_right F (reached F n) now (turn F (reached F n)) (turn_says F (reached F n) now)
 
   -- ---- the trail's length
 
-  reached_from : ℕ → State → State
+  reached_from : ℕ → BasisState → BasisState
   reached_from zero s = s
   reached_from (suc n) s = next F (reached_from n s)
 
@@ -142,13 +142,13 @@ module _ (F : Form) where
   reached_from-start zero = refl
   reached_from-start (suc n) = ap (next F) (reached_from-start n)
 
-  reached_from-next : (n : ℕ) (s : State) → reached_from n (next F s) ≡ reached_from (suc n) s
+  reached_from-next : (n : ℕ) (s : BasisState) → reached_from n (next F s) ≡ reached_from (suc n) s
   unfolding reached_from
   reached_from-next zero s = refl
   reached_from-next (suc n) s = ap (next F) (reached_from-next n s)
 
   -- a trail with a pivot has one at its first basis
-  first_goes_on : (n : ℕ) (s : State) → length (trail_from F (suc n) s) ≡ suc (suc n)
+  first_goes_on : (n : ℕ) (s : BasisState) → length (trail_from F (suc n) s) ≡ suc (suc n)
       → (goes_on F s ≡ true) × (length (trail_from F n (next F s)) ≡ suc n)
   first_goes_on n s e = by_test (goes_on F s) refl e
     where
@@ -158,7 +158,7 @@ module _ (F : Form) where
       by_test true g h = (g, omega (arith, h))
       by_test false g h = absurd (omega (arith, h))
 
-  one_more : (n : ℕ) (s : State) → length (trail_from F n s) ≡ suc n
+  one_more : (n : ℕ) (s : BasisState) → length (trail_from F n s) ≡ suc n
       → goes_on F (reached_from n s) ≡ true → length (trail_from F (suc n) s) ≡ suc (suc n)
   unfolding reached_from
   one_more zero s e g =
@@ -175,7 +175,7 @@ module _ (F : Form) where
           → length (stop s ∷ xs) ≡ suc n
       longer_lem xs n e = omega (arith, e)
 
-  each_goes_on : (n k : ℕ) (s : State) → length (trail_from F n s) ≡ suc n → k < n
+  each_goes_on : (n k : ℕ) (s : BasisState) → length (trail_from F n s) ≡ suc n → k < n
       → goes_on F (reached_from k s) ≡ true
   unfolding reached_from
   each_goes_on zero k s e b = absurd (omega (arith, b))
@@ -184,7 +184,7 @@ module _ (F : Form) where
       ap (goes_on F) (sym (reached_from-next k s))
       ∙ each_goes_on n k (next F s) (first_goes_on n s e).1 (omega (arith, b))
 
-  each_stop : (n k : ℕ) (s : State) → length (trail_from F n s) ≡ suc n → k ≤ n
+  each_stop : (n k : ℕ) (s : BasisState) → length (trail_from F n s) ≡ suc n → k ≤ n
       → slice_get (trail_from F n s) k ≡ Some (stop (reached_from k s))
   unfolding reached_from
   each_stop zero zero s e b = refl

@@ -7,12 +7,12 @@ use Rattle.ratio_core.specs.Rational.{Rational, neg_ℚ, one_ℚ, zero_ℚ, ◌*
 use Rattle.rational_laws.specs.Field.{one-*ℚ, zero-+ℚ}
 use Rattle.rational_laws.specs.Order.{nonneg_mul, nonneg_neg, nonpos_mul, not_‹ℚ_from_≤ℚ, zero_‹ℚ_one, ≤ℚ_antisymm, ≤ℚ_from_‹ℚ, ‹ℚ-≤ℚ_trans, ≤ℚ_refl}
 use Rattle.rational_laws.specs.Tests.{ge_from_failed, lt_from_test}
-use Rattle.simplex_form.specs.Basis.{State, basic}
+use Rattle.simplex_form.specs.Basis.{BasisState, basic}
 use Rattle.simplex_form.specs.Board.{entry, price, right_side}
 use Rattle.simplex_form.specs.BoundedSums.{delta, sum_to}
 use Rattle.simplex_form.specs.Form.{Form, column, first_cost, second_cost}
 use Rattle.simplex_form.specs.Readings.{Readings, basic_at, readings}
-use Rattle.simplex_form.specs.Standing.{Enters, HasNoNegativePrice, HasNoPositiveEntry, IsDrained, IsSwept, Says, Stands, StandsIn, infeasibility}
+use Rattle.simplex_form.specs.Standing.{Enters, HasNoNegativePrice, HasNoPositiveEntry, IsDrained, IsSwept, StandsAtBasis, StandsIn, TurnSays, infeasibility}
 use Rattle.simplex_form.specs.Turns.{entering, enters, first_turn, infeasible_turn, is_artificial, is_below, is_left_above, leaving, multipliers_fit, second_turn, sweep_turn, swept_entry, turn, turn_in}
 use Rattle.simplex_form.specs.declared.turn.Phase.{Phase}
 use Rattle.simplex_form.specs.declared.turn.Phase.TheVariants.{First, Second, Sweep}
@@ -71,7 +71,7 @@ first_cost_nonneg F j = by_test (nat_lt j F.reals)
 -- ---- the first phase
 
 -- where no entry of a real column is positive, its first price isn't negative
-first_price_nonneg : (F : Form) (s : State) (q : ℕ) → HasNoPositiveEntry (readings F s) q
+first_price_nonneg : (F : Form) (s : BasisState) (q : ℕ) → HasNoPositiveEntry (readings F s) q
     → q < F.reals → zero_ℚ ≤ℚ price F s (first_cost F) q
 first_price_nonneg F s q none b =
     subst (λ x. zero_ℚ ≤ℚ (x -ℚ lowered)) (sym (first_cost_real F q b))
@@ -83,7 +83,7 @@ first_price_nonneg F s q none b =
     lowered : Rational
     lowered = sum_to F.rows (λ i. first_cost F (basic s i) *ℚ entry F s q i)
 
-pub first_phase_bounded : (F : Form) (s : State) (q : ℕ)
+pub first_phase_bounded : (F : Form) (s : BasisState) (q : ℕ)
     → Enters (readings F s) (price F s (first_cost F)) q → HasNoPositiveEntry (readings F s) q → ⊥
 first_phase_bounded F s q e none =
     not_‹ℚ_from_≤ℚ zero_ℚ (price F s (first_cost F) q) (first_price_nonneg F s q none e.real)
@@ -103,7 +103,7 @@ drained_from_test R nonneg e i b a =
     second_false false b e h = absurd (true≢false (sym e))
 
 -- where one is, so is their sum
-pub infeasibility-above : (F : Form) (s : State)
+pub infeasibility-above : (F : Form) (s : BasisState)
     → ((i : ℕ) → i < F.rows → zero_ℚ ≤ℚ right_side F s i) → is_left_above (readings F s) ≡ true
     → zero_ℚ ‹ℚ infeasibility F s
 infeasibility-above F s nonneg e = by_row (some_below_true F.rows
@@ -130,57 +130,57 @@ infeasibility-above F s nonneg e = by_row (some_below_true F.rows
 
 -- ---- the turns
 
-module _ (F : Form) (s : State) (h : Stands F s) where
+module _ (F : Form) (s : BasisState) (h : StandsAtBasis F s) where
   abbrev R : Readings
   R = readings F s
 
-  second_says : IsDrained R → IsSwept R → Says F s (second_turn R (entering R R.second_price))
+  second_says : IsDrained R → IsSwept R → TurnSays F s (second_turn R (entering R R.second_price))
   second_says d w = by_entering (entering R R.second_price) (entering_is R R.second_price)
     where
       by_leaving : (q : ℕ) → Enters R R.second_price q → (o : Option ℕ) → IsLeaving R q o
-          → Says F s (enters Second q o)
+          → TurnSays F s (enters Second q o)
       by_leaving q e None k = (d, w, e, k)
       by_leaving q e (Some r) k = (d, w, e, k)
 
-      by_entering : (o : Option ℕ) → IsEntering R R.second_price o → Says F s (second_turn R o)
+      by_entering : (o : Option ℕ) → IsEntering R R.second_price o → TurnSays F s (second_turn R o)
       by_entering None e = (d, w, e)
       by_entering (Some q) e = by_leaving q e (leaving R q) (leaving_is R q)
 
-  sweep_says : IsDrained R → Says F s (sweep_turn R (swept_entry R))
+  sweep_says : IsDrained R → TurnSays F s (sweep_turn R (swept_entry R))
   sweep_says d = by_entry (swept_entry R) (swept_entry_is R)
     where
-      by_entry : (o : Option (ℕ × ℕ)) → IsSweep R o → Says F s (sweep_turn R o)
+      by_entry : (o : Option (ℕ × ℕ)) → IsSweep R o → TurnSays F s (sweep_turn R o)
       by_entry None w = second_says d w
       by_entry (Some found) w = (d, w)
 
-  first_says : Says F s (first_turn R (entering R R.first_price))
+  first_says : TurnSays F s (first_turn R (entering R R.first_price))
   first_says = by_entering (entering R R.first_price) (entering_is R R.first_price)
     where
       by_leaving : (q : ℕ) → Enters R R.first_price q → (o : Option ℕ) → IsLeaving R q o
-          → Says F s (enters First q o)
+          → TurnSays F s (enters First q o)
       by_leaving q e None k = absurd (first_phase_bounded F s q e k)
       by_leaving q e (Some r) k = (e, k)
 
       by_fit : (b : Bool) → HasNoNegativePrice R R.first_price → zero_ℚ ‹ℚ infeasibility F s
-          → Says F s (infeasible_turn b)
+          → TurnSays F s (infeasible_turn b)
       by_fit true e k = (e, k)
       by_fit false e k = (e, k)
 
       by_test : HasNoNegativePrice R R.first_price → (b : Bool) → is_left_above R ≡ b
-          → Says F s (if b then infeasible_turn (multipliers_fit R)
+          → TurnSays F s (if b then infeasible_turn (multipliers_fit R)
           else sweep_turn R (swept_entry R))
       by_test e true k = by_fit (multipliers_fit R) e (infeasibility-above F s h.nonneg k)
       by_test e false k = sweep_says (drained_from_test R h.nonneg k)
 
-      by_entering : (o : Option ℕ) → IsEntering R R.first_price o → Says F s (first_turn R o)
+      by_entering : (o : Option ℕ) → IsEntering R R.first_price o → TurnSays F s (first_turn R o)
       by_entering None e = by_test e (is_left_above R) refl
       by_entering (Some q) e = by_leaving q e (leaving R q) (leaving_is R q)
 
   -- the turn is right about the basis
-  pub turn_says : Says F s (turn F s)
+  pub turn_says : TurnSays F s (turn F s)
   turn_says = by_phase s.phase h.phase
     where
-      by_phase : (p : Phase) → StandsIn p R → Says F s (turn_in p R)
+      by_phase : (p : Phase) → StandsIn p R → TurnSays F s (turn_in p R)
       by_phase First k = first_says
       by_phase Sweep k = sweep_says k
       by_phase Second k = second_says k.0 k.1

@@ -4,7 +4,7 @@ use Rattle.std.proofs.Common.{sym, ◌∙◌, ap, ap₂, arith}
 use Rattle.ratio_core.specs.Rational.{Rational, zero_ℚ, ◌*ℚ◌, ◌+ℚ◌, ◌-ℚ◌}
 use Rattle.rational_laws.specs.Field.{*ℚ--ℚ, +ℚ-neg_ℚ, +ℚ-zero}
 use Rattle.rational_laws.specs.Ring.{as_expression, by_ring, ring₂}
-use Rattle.simplex_form.specs.Basis.{IsBasis, State, basic}
+use Rattle.simplex_form.specs.Basis.{BasisState, IsBasis, basic}
 use Rattle.simplex_form.specs.Board.{entry, multiplier, point, price, ray, right_side}
 use Rattle.simplex_form.specs.BoundedSums.{delta, sum_to}
 use Rattle.simplex_form.specs.Form.{Form, column, weighted}
@@ -32,7 +32,7 @@ sum_to_shorter (suc n) a f h e =
     ap₂ ◌+ℚ◌ (sum_to_shorter n a f (omega (arith, m)) (λ k c d. e k c (omega arith)))
     (e n (omega (arith, m)) (omega arith)) ∙ +ℚ-zero (sum_to a f))
 
-module _ (F : Form) (s : State) (basis : IsBasis F s) where
+module _ (F : Form) (s : BasisState) (basis : IsBasis F s) where
   -- weights of the columns at the point are the basic weights at the right sides
   pub weighted-point : (f : ℕ → Rational)
       → sum_to (F.reals + F.rows) (λ j. f j *ℚ point F s j)

@@ -4,7 +4,7 @@ use Rattle.std.specs.FinMap as finite
 use Rattle.std.specs.FinMap.{FinMap}
 use Rattle.std.specs.Ordering.{nat_cmp}
 use Rattle.slab.specs.Slab.{Slab, entries, slab_len}
-use Rattle.solver_store.specs.SolverModel.{Leaves, Stored}
+use Rattle.solver_store.specs.SolverModel.{Leaves, StoredLeaves}
 use Rattle.solver_store.specs.declared.model.SolverModel.TheInside.{Inside}
 
 -- the values by their keys
@@ -23,7 +23,7 @@ leaves_in a = record {
   calls = a.calls;
 }
 
-abbrev pub stored_in : Inside → Stored
+abbrev pub stored_in : Inside → StoredLeaves
 stored_in a = record {
   leaves = leaves_in a;
   spare_vars = room a.vars;

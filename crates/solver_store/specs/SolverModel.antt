@@ -1,6 +1,6 @@
 -- The solver's model, and what each call makes of it.
 --     Leaves           variables and rows by index, an objective, and how many calls changed it
---     Stored           the same, and how many variables and rows can still be added without memory
+--     StoredLeaves     the same, and how many variables and rows can still be added without memory
 --     no_leaves with_var with_row with_objective without_var without_row      what calls leave
 use Rattle.std.specs.Prelude.{ℕ, ◌+◌, ◌-◌, ◌^◌, Option, None, IsSome, min, refl}
 use Rattle.std.specs.Coded.{Coded, code_by, coded×, coded_ℕ, coded_option}
@@ -20,7 +20,7 @@ pub record Leaves : Type 0 where
   pub objective : Option LeafObjective
   pub calls : ℕ
 
-pub record Stored : Type 0 where
+pub record StoredLeaves : Type 0 where
   pub leaves : Leaves
   pub spare_vars : ℕ
   pub spare_rows : ℕ
@@ -34,7 +34,7 @@ leaves_code =
     (λ m. (m.vars, (m.rows, (m.objective, m.calls))))
     (λ p. record { vars = p.0; rows = p.1.0; objective = p.1.1.0; calls = p.1.1.1 }) (λ _. refl)
 
-abbrev pub stored_code : Coded Stored
+abbrev pub stored_code : Coded StoredLeaves
 stored_code =
     code_by (Leaves × (ℕ × ℕ)) (coded× leaves_code (coded× coded_ℕ coded_ℕ))
     (λ s. (s.leaves, (s.spare_vars, s.spare_rows)))

@@ -27,9 +27,9 @@ pub struct SolverModel {
 }
 
 impl Model for SolverModel {
-    ghost use Rattle.solver_store.specs.SolverModel.{Stored, stored_code};
+    ghost use Rattle.solver_store.specs.SolverModel.{StoredLeaves, stored_code};
 
-    ghost Value = { Stored };
+    ghost Value = { StoredLeaves };
 
     ghost coded = { stored_code };
 

@@ -1,6 +1,6 @@
 // Boards of one real column, pivoted twice, on the sparse board and on the dense one.
 ghost use Rattle.std.specs.Prelude.{◌≡◌, ◌<◌, length, IfSome, true};
-ghost use Rattle.tableau_core.specs.Contents.{IsInUse};
+ghost use Rattle.tableau_core.specs.BoardContents.{IsInUse};
 
 use crate::forms::is_nonnegative;
 use crate::models::number;

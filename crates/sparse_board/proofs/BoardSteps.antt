@@ -12,10 +12,10 @@ use Rattle.simplex_form.specs.Turns as bland
 use Rattle.simplex_laws.specs.AgreementLaws.{real_column}
 use Rattle.simplex_laws.specs.SearchLaws.{best_below_same, least_below_same}
 use Rattle.tableau_core.specs.Row.{cell}
-use Rattle.tableau_core.specs.Contents.{Contents, IsPivoted, readings_of, width}
+use Rattle.tableau_core.specs.BoardContents.{BoardContents, IsPivoted, readings_of, width}
 use Rattle.tableau_core.specs.Leaving.{comes_before}
 use Rattle.tableau_core.specs.KeptLaws.{column_kept, pivoted_read, row_kept, tests_read}
-use Rattle.tableau_core.specs.Numbers.{IsSettled, Numbers, kept_readings, numbers_fit}
+use Rattle.tableau_core.specs.BoardNumbers.{BoardNumbers, IsSettled, kept_readings, numbers_fit}
 use Rattle.sparse_board.specs.declared.board.Board.TheInside.{Inside}
 use Rattle.sparse_board.specs.declared.cost_rows.CostRows.{CostRows}
 use Rattle.sparse_board.specs.declared.marks.Marks.{Marks}
@@ -23,15 +23,15 @@ use Rattle.sparse_board.specs.declared.row.Row.{Row}
 use Rattle.sparse_board.specs.declared.mixed_row.MixedRow.{MixedRow}
 use Rattle.sparse_board.specs.declared.step.Step.{Step}
 use Rattle.sparse_board.specs.Mixed.{number_of, width_of}
-use Rattle.sparse_board.specs.Rows.{AreWide, SameNow, number_in_row, numbers, numbers_in, width_at}
+use Rattle.sparse_board.specs.Rows.{AreSparseRowsWide, SameNow, number_in_row, numbers, numbers_in, width_at}
 use Rattle.sparse_board.specs.Marks.{SameSizes, has}
-use Rattle.sparse_board.specs.Marking.{AreMarked}
+use Rattle.sparse_board.specs.Marking.{AreNumbersMarked}
 use Rattle.sparse_board.specs.Pivoting.{IsBoardReady}
-use Rattle.sparse_board.specs.Leaving.{IsCandidate, leaves_before, may_leave}
+use Rattle.sparse_board.specs.Leaving.{IsSparseCandidate, leaves_before, may_leave}
 use Rattle.sparse_board.proofs.RowsSteps.{row_is}
-use Rattle.sparse_board.specs.Kept.{IsKept, columns_of, contents_of, listed}
+use Rattle.sparse_board.specs.Kept.{IsSparseBoardKept, columns_of, contents_of, listed}
 
-abbrev pub numbers_of : Inside → Numbers
+abbrev pub numbers_of : Inside → BoardNumbers
 numbers_of a = numbers_in a.rows.items a.costs.first.now a.costs.second.now
 
 -- ---- the board's value
@@ -73,7 +73,7 @@ value_agrees in_first a = record {
 }
 
 -- a row and a column of the value are within what is kept
-module _ (a : Inside) (t : Contents) where
+module _ (a : Inside) (t : BoardContents) where
   pub row_within : (r : ℕ) → contents_of a ≡ t → r < length t.rows → r < length a.rows.items
   row_within r view =
       row_kept a.reals a.basis.items (numbers_of a) (contents_of a) t view
@@ -131,7 +131,7 @@ module _ (a b : Inside) (reals : b.reals ≡ a.reals) (in_first : b.costs.in_fir
   }
 
 pub wide_after : (before after : List Row) (n : ℕ) → length after ≡ length before
-    → SameNow before after → AreWide n before → AreWide n after
+    → SameNow before after → AreSparseRowsWide n before → AreSparseRowsWide n after
 wide_after before after n count rows wide i b =
     ap width_at (rows i) ∙ wide i (subst (λ k. i < k) count b)
 
@@ -153,11 +153,12 @@ module _ (a b : Inside) (reals : b.reals ≡ a.reals)
   same_width : columns_of b ≡ columns_of a
   same_width = ap₂ ◌+◌ reals count
 
-  pub kept_after : IsKept a → AreWide (columns_of a + 1) b.rows.items
+  pub kept_after : IsSparseBoardKept a → AreSparseRowsWide (columns_of a + 1) b.rows.items
       → width_of b.costs.first.now ≡ width_of a.costs.first.now
       → width_of b.costs.second.now ≡ width_of a.costs.second.now
       → b.step.width ≡ a.step.width → length b.basis.items ≡ length a.basis.items
-      → SameSizes a.marks b.marks → AreMarked (columns_of a + 1) b.marks b.rows.items → IsKept b
+      → SameSizes a.marks b.marks → AreNumbersMarked (columns_of a + 1) b.marks b.rows.items
+      → IsSparseBoardKept b
   kept_after h wide first second step basis sizes marked = record {
     few = subst (λ n. n + 1 < 2 ^ 32) (sym same_width) h.few;
     wide = λ i c. wide i c ∙ ap (λ n. n + 1) (sym same_width);
@@ -167,13 +168,14 @@ module _ (a b : Inside) (reals : b.reals ≡ a.reals)
     basis = basis ∙ h.basis ∙ sym count;
     mark_columns = sizes.columns ∙ h.mark_columns ∙ ap (λ n. n + 1) (sym same_width);
     mark_rows = sizes.rows ∙ h.mark_rows ∙ sym count;
-    marked = subst (λ n. AreMarked (n + 1) b.marks b.rows.items) (sym same_width) marked;
+    marked = subst (λ n. AreNumbersMarked (n + 1) b.marks b.rows.items) (sym same_width) marked;
   }
 
   -- `middle` are the rows as they stood, beside which the pivot was worked out
-  pub pivoted_all : (r q : ℕ) (t : Contents) → contents_of a ≡ t → r < length t.rows → q < width t
+  pub pivoted_all : (r q : ℕ) (t : BoardContents) → contents_of a ≡ t → r < length t.rows
+      → q < width t
       → b.costs.in_first ≡ a.costs.in_first → b.basis.items ≡ slice_set a.basis.items r q
-      → (middle : Numbers) → middle ≡ numbers_of a
+      → (middle : BoardNumbers) → middle ≡ numbers_of a
       → IsSettled (columns_of a) r q a.costs.in_first middle (numbers_of b)
       → IsPivoted r q t (contents_of b)
   pivoted_all r q t view row column in_first basis middle same s =
@@ -185,14 +187,14 @@ module _ (a b : Inside) (reals : b.reals ≡ a.reals)
 
 -- rows that stand are marked as they were
 pub marked_same : (w : ℕ) (marks : Marks) (before after : List Row)
-    → length after ≡ length before → SameNow before after → AreMarked w marks before
-    → AreMarked w marks after
+    → length after ≡ length before → SameNow before after → AreNumbersMarked w marks before
+    → AreNumbersMarked w marks after
 marked_same w marks before after count rows marked i b j c e =
     ap (λ o. numbers o j) (rows i) ∙ marked i (subst (λ n. i < n) count b) j c e
 
 -- ---- what the readers give
 
-module _ (a : Inside) (t : Contents) (view : contents_of a ≡ t) where
+module _ (a : Inside) (t : BoardContents) (view : contents_of a ≡ t) where
   pub read_entry : (r q : ℕ) → q < width t → number_in_row a.rows.items r q
       ≡ (readings_of t).entry q r
   read_entry r q c =
@@ -207,7 +209,7 @@ module _ (a : Inside) (t : Contents) (view : contents_of a ≡ t) where
       ∙ sym (kept_entry (columns_of a) a.rows.items r q (column_within a t q view c))
       ∙ ap (λ t. (readings_of t).entry q r) view
 
-  pub unmarked_is : IsKept a → (r q : ℕ) → r < length t.rows → q < width t
+  pub unmarked_is : IsSparseBoardKept a → (r q : ℕ) → r < length t.rows → q < width t
       → has a.marks q r ≡ false → zero_ℚ ≡ (readings_of t).entry q r
   unmarked_is h r q b c e =
       sym (h.marked r (row_within a t r view b) q (omega (arith, column_within a t q view c)) e)
@@ -285,7 +287,7 @@ ready_same rows old_rows r q marks costs step e h =
 
 -- ---- the row that leaves is that of what is read
 
-pub leaving_is : (a : Inside) (q : ℕ) (t : Contents) → contents_of a ≡ t → q < columns_of a
+pub leaving_is : (a : Inside) (q : ℕ) (t : BoardContents) → contents_of a ≡ t → q < columns_of a
     → best_below (length a.rows.items) (may_leave a.rows.items q)
     (leaves_before a.rows.items a.basis.items (columns_of a) q) ≡ bland.leaving (readings_of t) q
 leaving_is a q t view b =
@@ -303,9 +305,9 @@ leaving_is a q t view b =
     ∙ ap (λ n. best_below n (bland.may_leave R q) (bland.leaves_before R q)) (sym (count_is w rows))
     ∙ ap (λ t. bland.leaving (readings_of t) q) view
 
-pub leaving_row : (a : Inside) (q : ℕ) (t : Contents) (rows : List Row) (o : Option ℕ)
+pub leaving_row : (a : Inside) (q : ℕ) (t : BoardContents) (rows : List Row) (o : Option ℕ)
     → contents_of a ≡ t → rows ≡ a.rows.items → q < columns_of a
-    → IfSome o (λ r. IsCandidate rows q r)
+    → IfSome o (λ r. IsSparseCandidate rows q r)
     → IfSome o (λ r. (r < length t.rows) × (zero_ℚ ‹ℚ (readings_of t).entry q r))
 leaving_row a q t rows None view is b h = h
 leaving_row a q t rows (Some r) view is b h =

@@ -5,9 +5,9 @@ use Rattle.ratio_core.specs.Rational.{Rational, ◌*ℚ◌, ◌-ℚ◌}
 use Rattle.simplex_form.specs.Fit.{lowered_fits}
 use Rattle.simplex_form.specs.Search.{all_below}
 use Rattle.simplex_laws.specs.SearchLaws.{all_below_failed, all_below_more}
-use Rattle.tableau_core.specs.Numbers.{differences_fit}
+use Rattle.tableau_core.specs.BoardNumbers.{differences_fit}
 use Rattle.sparse_board.specs.declared.sparse_row.SparseRow.{SparseRow}
-use Rattle.sparse_board.specs.Numbers.{Adds, HoldsBelow, width_of}
+use Rattle.sparse_board.specs.Numbers.{AppendsNumber, HoldsBelow, width_of}
 use Rattle.sparse_board.proofs.HeldLemmas.{held_more}
 
 pub record IsEachTo (w : ℕ) (row : ℕ → Rational) (by : Rational) (units : ℕ → Rational) (j : ℕ)
@@ -19,7 +19,7 @@ pub record IsEachTo (w : ℕ) (row : ℕ → Rational) (by : Rational) (units : 
 pub each_more : (w : ℕ) (row : ℕ → Rational) (by : Rational) (units : ℕ → Rational) (j : ℕ)
     (next new : SparseRow) (value : Rational) → IsEachTo w row by units j next
     → lowered_fits (row j) by (units j) ≡ true → value ≡ row j -ℚ by *ℚ units j
-    → Adds j value next new → IsEachTo w row by units (j + 1) new
+    → AppendsNumber j value next new → IsEachTo w row by units (j + 1) new
 each_more w row by units j next new value h fits is adds = record {
   width = adds.width ∙ h.width;
   fit = all_below_more j (λ k. lowered_fits (row k) by (units k)) h.fit fits;

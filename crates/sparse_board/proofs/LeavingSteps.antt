@@ -19,11 +19,11 @@ use Rattle.sparse_board.specs.declared.row.Row.{Row}
 use Rattle.sparse_board.specs.Mixed.{number_of, width_of}
 use Rattle.std.specs.Int.{bit_at}
 use Rattle.std.proofs.lemmas.Nat.Bits.{bit_at-lt}
-use Rattle.sparse_board.specs.Leaving.{IsBestTo, IsCandidate, leaves_before, may_leave}
-use Rattle.sparse_board.specs.Marking.{AreMarked}
+use Rattle.sparse_board.specs.Leaving.{IsBestTo, IsSparseCandidate, leaves_before, may_leave}
+use Rattle.sparse_board.specs.Marking.{AreNumbersMarked}
 use Rattle.sparse_board.specs.Marks.{IsWord}
 use Rattle.sparse_board.specs.Words.{Clears}
-use Rattle.sparse_board.specs.Rows.{AreWide, number_in_row, numbers}
+use Rattle.sparse_board.specs.Rows.{AreSparseRowsWide, number_in_row, numbers}
 use Rattle.sparse_board.proofs.RowsSteps.{row_is, row_wide}
 use Rattle.sparse_board.proofs.MixedSteps.{number_narrow}
 
@@ -70,7 +70,7 @@ pub item_number : (rows : List Row) (i : ℕ) (d item : Row) → i < length rows
 item_number rows i d item b is j =
     ap (λ (x : Row). number_of x.now j) is ∙ sym (ap (λ o. numbers o j) (row_is rows i d b))
 
-pub item_width : (w : ℕ) (rows : List Row) (i : ℕ) (d item : Row) → AreWide w rows
+pub item_width : (w : ℕ) (rows : List Row) (i : ℕ) (d item : Row) → AreSparseRowsWide w rows
     → i < length rows → item ≡ slice_index_or rows i d → width_of item.now ≡ w
 item_width w rows i d item wide b is =
     ap (λ (x : Row). width_of x.now) is ∙ row_wide w rows i d wide b
@@ -119,18 +119,18 @@ module _ (rows : List Row) (basis : List ℕ) (side q : ℕ) where
   pub best_with : (i : ℕ) (best new : Option ℕ) (t : Bool) → IsBestTo rows basis side q i best
       → i < length rows
       → better_of (may_leave rows q) (leaves_before rows basis side q) best i
-      ≡ (if t then Some i else best) → (IsTrue t → IsCandidate rows q i)
+      ≡ (if t then Some i else best) → (IsTrue t → IsSparseCandidate rows q i)
       → new ≡ (if t then Some i else best) → IsBestTo rows basis side q (i + 1) new
   best_with i best new t h b better candidate is = record {
     within = omega (arith, b);
     value = is ∙ sym better
         ∙ ap (λ o. better_of (may_leave rows q) (leaves_before rows basis side q) o i) h.value
         ∙ best_more i (may_leave rows q) (leaves_before rows basis side q);
-    candidate = subst (λ o. IfSome o (λ k. IsCandidate rows q k)) (sym is) (by_test t candidate);
+    candidate = subst (λ o. IfSome o (λ k. IsSparseCandidate rows q k)) (sym is) (by_test t candidate);
   }
     where
-      by_test : (t : Bool) → (IsTrue t → IsCandidate rows q i)
-          → IfSome (if t then Some i else best) (λ k. IsCandidate rows q k)
+      by_test : (t : Bool) → (IsTrue t → IsSparseCandidate rows q i)
+          → IfSome (if t then Some i else best) (λ k. IsSparseCandidate rows q k)
       by_test true c = c refl
       by_test false c = h.candidate
 
@@ -184,7 +184,8 @@ module _ (rows : List Row) (basis : List ℕ) (side q : ℕ) where
       before_lem k s b n e f t = omega (arith, f, t)
 
 -- the rows of a word's cleared bits can't leave: they aren't marked, or have no positive entry
-pub cleared_none : (rows : List Row) (marks : Marks) (w q k word kept : ℕ) → AreMarked w marks rows
+pub cleared_none : (rows : List Row) (marks : Marks) (w q k word kept : ℕ)
+    → AreNumbersMarked w marks rows
     → q < w → marks.rows ≡ length rows → IsWord q k word marks
     → Clears (λ i. may_leave rows q i ≡ false) (length rows) (k * 64) word kept
     → (b : ℕ) → b < 64 → k * 64 + b < length rows → bit_at kept b ≡ 0

@@ -12,10 +12,10 @@ use Rattle.ratio_core.specs.RationalLaws.{fits_Decides}
 use Rattle.tableau_core.specs.LoweringLaws.{false_from_not, fits_from, lowered-zero, lowered_fits-zero, step-zero}
 use Rattle.tableau_core.specs.Row.{cell}
 use Rattle.sparse_board.specs.declared.sparse_row.SparseRow.{SparseRow}
-use Rattle.sparse_board.specs.Sparse.{IsBelow, IsSparse, IsSplit, number_in}
-use Rattle.sparse_board.specs.Numbers.{Adds, Copies, CopiesTo, HoldsBelow, IsReadyAt, number_of, row_columns, row_values, width_of}
-use Rattle.tableau_core.specs.Numbers.{differences_fit, quotients_fit}
-use Rattle.sparse_board.specs.Lowering.{IsDivided, IsLowered}
+use Rattle.sparse_board.specs.Sparse.{AreColumnsBelow, AreColumnsSplit, IsSparse, number_in}
+use Rattle.sparse_board.specs.Numbers.{AppendsNumber, Copies, CopiesTo, HoldsBelow, IsReadyAt, number_of, row_columns, row_values, width_of}
+use Rattle.tableau_core.specs.BoardNumbers.{differences_fit, quotients_fit}
+use Rattle.sparse_board.specs.Lowering.{IsSparseDivided, IsSparseLowered}
 use Rattle.sparse_board.proofs.NumberLemmas.{number_at_place, number_between, number_fits}
 use Rattle.sparse_board.proofs.HeldLemmas.{below_less, held_next, held_none, held_past}
 
@@ -33,7 +33,7 @@ past_more columns k = ap (past columns) (more_lem k)
     more_lem k = omega arith
 
 module _ (columns : List ℕ) (values : List Rational) (sparse : IsSparse columns values) where
-  pub past_split : (k : ℕ) → k ≤ length columns → IsSplit (past columns k) k columns
+  pub past_split : (k : ℕ) → k ≤ length columns → AreColumnsSplit (past columns k) k columns
   past_split zero b = record {
     within = omega arith;
     before = λ i c. absurd (omega (arith, c));
@@ -66,16 +66,16 @@ module _ (columns : List ℕ) (values : List Rational) (sparse : IsSparse column
 
 -- the place behind column c, where the i-th is column c
 pub split_more : (columns : List ℕ) (values : List Rational) → IsSparse columns values → (i c : ℕ)
-    → i < length columns → slice_index columns i ≡ c → IsSplit (c + 1) (i + 1) columns
+    → i < length columns → slice_index columns i ≡ c → AreColumnsSplit (c + 1) (i + 1) columns
 split_more columns values sparse i c b e =
-    subst (λ x. IsSplit x (i + 1) columns) (past_more columns i ∙ ap (λ x. x + 1) e)
+    subst (λ x. AreColumnsSplit x (i + 1) columns) (past_more columns i ∙ ap (λ x. x + 1) e)
     (past_split columns values sparse (i + 1) (omega (arith, b)))
 
 -- the same place, where no column is c
-pub split_other : (columns : List ℕ) (i c : ℕ) → IsSplit c i columns
+pub split_other : (columns : List ℕ) (i c : ℕ) → AreColumnsSplit c i columns
     → (i < length columns → ¬ (slice_index columns i ≡ c))
     → ((k : ℕ) → i < k → k < length columns → slice_index columns i < slice_index columns k)
-    → IsSplit (c + 1) i columns
+    → AreColumnsSplit (c + 1) i columns
 split_other columns i c split other rising = record {
   within = split.within;
   before = λ k d. omega (arith, split.before k d);
@@ -98,16 +98,16 @@ split_other columns i c split other rising = record {
 pub record IsCopiedTo (row : SparseRow) (i column : ℕ) (old next : SparseRow)
     (end : ℕ) : Type 0 where
   pub width : width_of next ≡ width_of old
-  pub reached : (d : ℕ) × (d ≤ column) × IsSplit d end (row_columns row)
-      × IsBelow d (row_columns next)
-  pub copied : (b : ℕ) (h : ℕ → Rational) → b ≤ column → IsSplit b i (row_columns row)
+  pub reached : (d : ℕ) × (d ≤ column) × AreColumnsSplit d end (row_columns row)
+      × AreColumnsBelow d (row_columns next)
+  pub copied : (b : ℕ) (h : ℕ → Rational) → b ≤ column → AreColumnsSplit b i (row_columns row)
       → HoldsBelow b h old →
       ((j : ℕ) → b ≤ j → j < column → h j ≡ number_of row j) →
-      (d : ℕ) × (d ≤ column) × (b ≤ d) × IsSplit d end (row_columns row) × HoldsBelow d h next
+      (d : ℕ) × (d ≤ column) × (b ≤ d) × AreColumnsSplit d end (row_columns row) × HoldsBelow d h next
 
 module _ (row : SparseRow) (i column : ℕ) (old : SparseRow) where
-  pub copied_none : (b : ℕ) → b ≤ column → IsSplit b i (row_columns row)
-      → IsBelow b (row_columns old) → IsCopiedTo row i column old old i
+  pub copied_none : (b : ℕ) → b ≤ column → AreColumnsSplit b i (row_columns row)
+      → AreColumnsBelow b (row_columns old) → IsCopiedTo row i column old old i
   copied_none b few split below = record {
     width = refl;
     reached = (b, few, split, below);
@@ -121,13 +121,13 @@ module _ (row : SparseRow) (i column : ℕ) (old : SparseRow) where
       abbrev at : ℕ
       at = slice_index (row_columns row) end
 
-      pub copy_above : IsBelow at (row_columns next)
+      pub copy_above : AreColumnsBelow at (row_columns next)
       copy_above =
           below_less c.reached.0 at (row_columns next) c.reached.3
           (c.reached.2.after end (omega arith) b)
 
       pub copied_more : (value : Rational) (new : SparseRow) → value ≡ cell (row_values row) end
-          → Adds at value next new → IsCopiedTo row i column old new (end + 1)
+          → AppendsNumber at value next new → IsCopiedTo row i column old new (end + 1)
       copied_more value new is adds = record {
         width = adds.width ∙ c.width;
         reached = (
@@ -166,7 +166,7 @@ module _ (row : SparseRow) (i column : ℕ) (old : SparseRow) where
     -- no number is left before the column
     module _ (past_end : end < length (row_columns row) → column ≤ slice_index
         (row_columns row) end) where
-      pub copied_split : IsSplit column end (row_columns row)
+      pub copied_split : AreColumnsSplit column end (row_columns row)
       copied_split = record {
         within = c.reached.2.within;
         before = λ k d. omega (arith, c.reached.2.before k d, c.reached.1);
@@ -181,7 +181,7 @@ module _ (row : SparseRow) (i column : ℕ) (old : SparseRow) where
           rest_lem : (c x y : ℕ) → c ≤ x → x < y → c ≤ y
           rest_lem c x y p q = omega (arith, p, q)
 
-      pub copied_below : IsBelow column (row_columns next)
+      pub copied_below : AreColumnsBelow column (row_columns next)
       copied_below = below_less c.reached.0 column (row_columns next) c.reached.3 c.reached.1
 
       pub copied_all : Copies row i column old next
@@ -203,14 +203,14 @@ module _ (row : SparseRow) (i column : ℕ) (old : SparseRow) where
 pub record IsLoweredTo (row : SparseRow) (by : Rational) (columns : List ℕ) (units : List Rational)
     (next : SparseRow) (k i : ℕ) : Type 0 where
   pub width : width_of next ≡ width_of row
-  pub split : IsSplit (past columns k) i (row_columns row)
+  pub split : AreColumnsSplit (past columns k) i (row_columns row)
   pub held : HoldsBelow (past columns k) (λ j. number_of row j -ℚ by *ℚ number_in columns
       units j) next
   pub fit : (j : ℕ) → j < past columns k
       → lowered_fits (number_of row j) by (number_in columns units j) ≡ true
 
 module _ (row : SparseRow) (by : Rational) (columns : List ℕ) (units : List Rational)
-    (sparse : IsSparse columns units) (within : IsBelow (width_of row) columns) where
+    (sparse : IsSparse columns units) (within : AreColumnsBelow (width_of row) columns) where
   abbrev unit : ℕ → Rational
   unit j = number_in columns units j
 
@@ -259,12 +259,12 @@ module _ (row : SparseRow) (by : Rational) (columns : List ℕ) (units : List Ra
 
       pub lowered_more : (new : SparseRow) (end : ℕ) → width_of new ≡ width_of next
           → lowered_fits (number_of row unit_at) by item ≡ true
-          → IsSplit (unit_at + 1) end (row_columns row)
+          → AreColumnsSplit (unit_at + 1) end (row_columns row)
           → CopiesTo row i unit_at (number_of row unit_at -ℚ by *ℚ item) next new
           → IsLoweredTo row by columns units new (k + 1) end
       lowered_more new end width fits split copied = record {
         width = width ∙ l.width;
-        split = subst (λ c. IsSplit c end (row_columns row)) (sym (past_more columns k)) split;
+        split = subst (λ c. AreColumnsSplit c end (row_columns row)) (sym (past_more columns k)) split;
         held = subst (λ c. HoldsBelow c less new) (sym (past_more columns k))
             (copied (past columns k) less (past_least columns units sparse k b) l.split l.held
             (λ j low high. between_same k j (omega (arith, b)) low (λ _. high))
@@ -313,7 +313,8 @@ module _ (row : SparseRow) (by : Rational) (columns : List ℕ) (units : List Ra
       )
 
       pub lowered_all : (column : ℕ) (new : SparseRow) → width_of row ≤ column
-          → width_of new ≡ width_of next → Copies row i column next new → IsLowered by unit row new
+          → width_of new ≡ width_of next → Copies row i column next new
+          → IsSparseLowered by unit row new
       lowered_all column new wide width copied = record {
         width = width ∙ l.width;
         numbers = λ j b. (copied (past columns k) less
@@ -361,7 +362,7 @@ module _ (row : SparseRow) (by : Rational) where
       here_is =
           number_at_place (row_columns row) (row_values row) row.sparse k at_place b refl ∙ sym is
 
-      pub divided_above : IsBelow at_place (row_columns next)
+      pub divided_above : AreColumnsBelow at_place (row_columns next)
       divided_above =
           below_less (past (row_columns row) k) at_place (row_columns next) d.held.below
           (past_least (row_columns row) (row_values row) row.sparse k b)
@@ -374,7 +375,8 @@ module _ (row : SparseRow) (by : Rational) where
           (λ f. subst (λ x. Fits (x /ℚ by)) here_is ((fits_Decides (quotient at_place)).0 f)) n)
 
       pub divided_more : (value : Rational) (new : SparseRow) → Fits (item /ℚ by)
-          → value ≡ item /ℚ by → Adds at_place value next new → IsDividedTo row by new (k + 1)
+          → value ≡ item /ℚ by → AppendsNumber at_place value next new
+          → IsDividedTo row by new (k + 1)
       divided_more value new f e adds = record {
         width = adds.width ∙ d.width;
         held = subst (λ c. HoldsBelow c quotient new) (sym (past_more (row_columns row) k))
@@ -421,7 +423,7 @@ module _ (row : SparseRow) (by : Rational) where
       past_few zero b = omega arith
       past_few (suc n) b = omega (arith, row.within n (omega (arith, b)))
 
-      pub divided_all : IsDivided by row next
+      pub divided_all : IsSparseDivided by row next
       divided_all = record {
         width = d.width;
         numbers = (held_past (past (row_columns row) k) (width_of row) quotient next d.held

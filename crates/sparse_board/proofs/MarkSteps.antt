@@ -9,7 +9,7 @@ use Rattle.std.proofs.lemmas.Nat.Bits.{bit_at-zero}
 use Rattle.simplex_laws.specs.BoundedSumLaws.{same_or_other}
 use Rattle.sparse_board.specs.declared.marks.Marks.{Marks}
 use Rattle.sparse_board.specs.Words.{AreJoined, bit_of}
-use Rattle.sparse_board.specs.Marks.{AreUnmarked, IsJoined, IsPut, IsWord, IsWordPut, SameSizes, has}
+use Rattle.sparse_board.specs.Marks.{AreRowsUnmarked, IsJoined, IsPut, IsWord, IsWordPut, SameSizes, has}
 use Rattle.sparse_board.proofs.WordSteps.{joined_bit}
 
 -- ---- a mark is a bit
@@ -267,10 +267,10 @@ module _ (old new : Marks) (from to : ℕ) (sizes : SameSizes old new)
 -- ---- rows that are passed over
 
 pub unmarked_more : (marks : Marks) (j k from low_bit bit to : ℕ)
-    → AreUnmarked marks j from (k * 64 + low_bit)
+    → AreRowsUnmarked marks j from (k * 64 + low_bit)
     → ((n : ℕ) → low_bit ≤ n → n < bit → bit_at (slice_index marks.words.items
     (j * marks.stride + k)) n ≡ 0)
-    → to ≤ k * 64 + bit → to ≤ (k + 1) * 64 → AreUnmarked marks j from to
+    → to ≤ k * 64 + bit → to ≤ (k + 1) * 64 → AreRowsUnmarked marks j from to
 unmarked_more marks j k from low_bit bit to h unset near within i f t =
     by_place (cases_lt i (k * 64 + low_bit))
   where

@@ -18,11 +18,11 @@ use Rattle.sparse_board.specs.Mixed as mixed
 use Rattle.whole_rows.specs.Rows as whole
 use Rattle.whole_rows.specs.declared.step.NarrowStep.{NarrowStep}
 use Rattle.sparse_board.specs.Numbers.{number_of, row_columns, row_values, width_of}
-use Rattle.sparse_board.specs.Rows.{AreLowered, AreWide, now_at, now_of, number_in_row, numbers}
+use Rattle.sparse_board.specs.Rows.{AreSparseRowsLowered, AreSparseRowsWide, now_at, now_of, number_in_row, numbers}
 use Rattle.sparse_board.specs.Marks.{IsJoined, IsPut, IsWord, IsWordPut, SameSizes, has}
-use Rattle.sparse_board.specs.Marking.{AreMarked, KeepMarks, MarksNumbers, MarksRow, MarksUnits}
+use Rattle.sparse_board.specs.Marking.{AreNumbersMarked, KeepMarks, MarksNumbers, MarksRow, MarksUnits}
 use Rattle.sparse_board.specs.Words.{Clears}
-use Rattle.tableau_core.specs.Numbers.{quotient_at}
+use Rattle.tableau_core.specs.BoardNumbers.{quotient_at}
 use Rattle.sparse_board.proofs.NumberLemmas.{number_missing, sought}
 use Rattle.sparse_board.proofs.WordSteps.{bit_none, bit_one}
 use Rattle.tableau_core.specs.ItemLaws.{written_at, written_off}
@@ -75,7 +75,7 @@ join_keeps from to old new join = record {
 -- each number is marked still, or 0
 pub record KeepsMarked (rows : List Row) (old now : Marks) : Type 0 where
   pub sizes : SameSizes old now
-  pub marked : (w : ℕ) → AreMarked w old rows → AreMarked w now rows
+  pub marked : (w : ℕ) → AreNumbersMarked w old rows → AreNumbersMarked w now rows
 
 pub unmarked_none : (rows : List Row) (marks : Marks) → KeepsMarked rows marks marks
 unmarked_none rows marks = record { sizes = sizes_none marks; marked = λ w h. h }
@@ -85,7 +85,7 @@ module _ (rows : List Row) (old now new : Marks) (q k word kept : ℕ)
     (h : KeepsMarked rows old now) (long : now.rows ≡ length rows) (read : IsWord q k word now)
     (put : IsWordPut q k kept now new)
     (clears : Clears (λ i. number_in_row rows i q ≡ zero_ℚ) (length rows) (k * 64) word kept) where
-  left_zero : (w i : ℕ) → AreMarked w old rows → i < length rows → q < w → i / 64 ≡ k
+  left_zero : (w i : ℕ) → AreNumbersMarked w old rows → i < length rows → q < w → i / 64 ≡ k
       → has new q i ≡ false → number_in_row rows i q ≡ zero_ℚ
   left_zero w i marked b c g e = by_test (has now q i) refl
     where
@@ -225,8 +225,8 @@ step_marked_all step w q old marks k all h i p j c e = by_place (sought (row_col
 module _ (w r q : ℕ) (before middle : List Row) (units : ℕ → Rational) (new : Row)
     (old marks : Marks) (count : length middle ≡ length before) (row : r < length before)
     (is : (j : ℕ) → j < w → mixed.number_of new.now j ≡ units j)
-    (wide : AreWide w before) (column : q < w)
-    (marked : AreMarked w old before) (keep : KeepMarks old marks)
+    (wide : AreSparseRowsWide w before) (column : q < w)
+    (marked : AreNumbersMarked w old before) (keep : KeepMarks old marks)
     (made : MarksUnits w q units old marks) where
   no_product : (i : ℕ) → i < length before → (j : ℕ) → j < w → has marks j i ≡ false
       → number_in_row before i q *ℚ units j ≡ zero_ℚ
@@ -237,7 +237,8 @@ module _ (w r q : ℕ) (before middle : List Row) (units : ℕ → Rational) (ne
       by_test false f = zero-step (number_in_row before i q) (units j) (marked i b q column f)
 
   pub marked_after : ((j : ℕ) → j < w → units j ≡ quotient_at (number_in_row before) r q j)
-      → AreLowered r q units before middle → AreMarked w marks (slice_set middle r new)
+      → AreSparseRowsLowered r q units before middle
+      → AreNumbersMarked w marks (slice_set middle r new)
   marked_after divided low i b j c e =
       let here : i < length before = subst (λ n. i < n) (length-set middle r new ∙ count) b in
       let was : has old j i ≡ false = was_not old marks keep j i e in

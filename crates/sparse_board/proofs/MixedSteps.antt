@@ -5,7 +5,7 @@ use Rattle.ratio_core.specs.Rational.{Fits, Rational, fits, zero_ℚ, ◌*ℚ◌
 use Rattle.simplex_form.specs.Fit.{lowered_fits}
 use Rattle.simplex_laws.specs.SearchLaws.{all_below_all, all_below_same}
 use Rattle.tableau_core.specs.LoweringLaws.{lowered-zero, lowered_fits-zero, zero-step}
-use Rattle.tableau_core.specs.Numbers.{differences_fit, quotients_fit}
+use Rattle.tableau_core.specs.BoardNumbers.{differences_fit, quotients_fit}
 use Rattle.whole_rows.proofs.DivisionSteps.{numerator_small}
 use Rattle.whole_rows.proofs.OnceSteps.{lowered_none}
 use Rattle.whole_rows.specs.declared.narrow_row.NarrowRow.{NarrowRow}
@@ -16,8 +16,8 @@ use Rattle.whole_rows.specs.Rows as whole
 use Rattle.sparse_board.specs.declared.mixed_row.MixedRow.{MixedRow}
 use Rattle.sparse_board.specs.declared.row.Row.{Row}
 use Rattle.sparse_board.specs.declared.step.Step.{Step}
-use Rattle.sparse_board.specs.Lowering.{HasRoom, IsFinished, IsLoweredBeside, IsPrepared, IsReady}
-use Rattle.sparse_board.specs.Mixed.{IsLeft, IsLowered, number_left, number_of, units_of, width_of}
+use Rattle.sparse_board.specs.Lowering.{HasRoomForFractions, IsFinished, IsMixedLoweredBeside, IsMixedPrepared, IsMixedReady}
+use Rattle.sparse_board.specs.Mixed.{IsLeft, IsMixedLowered, number_left, number_of, units_of, width_of}
 use Rattle.sparse_board.specs.Numbers as sparse
 use Rattle.sparse_board.proofs.NumberLemmas.{number_fits}
 
@@ -69,7 +69,7 @@ zero_mixed_fits row w by units z =
     (mixed_fits row j))
 
 pub zero_mixed_stays : (row : MixedRow) (by : Rational) (units : ℕ → Rational) → by ≡ zero_ℚ
-    → IsLowered by units row row
+    → IsMixedLowered by units row row
 zero_mixed_stays row by units z = record {
   width = refl;
   numbers = λ j b. sym (lowered-zero (number_of row j) by (units j)
@@ -112,62 +112,62 @@ place_fits q row step e within =
 -- ---- a row that is worked out
 
 pub prepared_in_place : (q : ℕ) (step : Step) (row : Row) → in_place row.now step ≡ true
-    → HasRoom q step row → IsPrepared q step row
+    → HasRoomForFractions q step row → IsMixedPrepared q step row
 prepared_in_place q step row e h =
-    subst (λ b. MatchBool b (HasRoom q step row) (MatchBool row.changes
-    (IsLoweredBeside (number_of row.now q) (units_of step) row.now row.next)
+    subst (λ b. MatchBool b (HasRoomForFractions q step row) (MatchBool row.changes
+    (IsMixedLoweredBeside (number_of row.now q) (units_of step) row.now row.next)
     (number_of row.now q ≡ zero_ℚ))) (sym e) h
 
 pub in_place_prepared : (q : ℕ) (step : Step) (row : Row) → in_place row.now step ≡ true
-    → IsPrepared q step row → HasRoom q step row
+    → IsMixedPrepared q step row → HasRoomForFractions q step row
 in_place_prepared q step row e h =
-    subst (λ b. MatchBool b (HasRoom q step row) (MatchBool row.changes
-    (IsLoweredBeside (number_of row.now q) (units_of step) row.now row.next)
+    subst (λ b. MatchBool b (HasRoomForFractions q step row) (MatchBool row.changes
+    (IsMixedLoweredBeside (number_of row.now q) (units_of step) row.now row.next)
     (number_of row.now q ≡ zero_ℚ))) e h
 
 pub prepared_beside : (q : ℕ) (step : Step) (row : Row) → in_place row.now step ≡ false
     → MatchBool row.changes
-    (IsLoweredBeside (number_of row.now q) (units_of step) row.now row.next)
+    (IsMixedLoweredBeside (number_of row.now q) (units_of step) row.now row.next)
     (number_of row.now q ≡ zero_ℚ)
-    → IsPrepared q step row
+    → IsMixedPrepared q step row
 prepared_beside q step row e h =
-    subst (λ b. MatchBool b (HasRoom q step row) (MatchBool row.changes
-    (IsLoweredBeside (number_of row.now q) (units_of step) row.now row.next)
+    subst (λ b. MatchBool b (HasRoomForFractions q step row) (MatchBool row.changes
+    (IsMixedLoweredBeside (number_of row.now q) (units_of step) row.now row.next)
     (number_of row.now q ≡ zero_ℚ))) (sym e) h
 
 pub beside_prepared : (q : ℕ) (step : Step) (row : Row) → in_place row.now step ≡ false
-    → IsPrepared q step row
+    → IsMixedPrepared q step row
     → MatchBool row.changes
-    (IsLoweredBeside (number_of row.now q) (units_of step) row.now row.next)
+    (IsMixedLoweredBeside (number_of row.now q) (units_of step) row.now row.next)
     (number_of row.now q ≡ zero_ℚ)
 beside_prepared q step row e h =
-    subst (λ b. MatchBool b (HasRoom q step row) (MatchBool row.changes
-    (IsLoweredBeside (number_of row.now q) (units_of step) row.now row.next)
+    subst (λ b. MatchBool b (HasRoomForFractions q step row) (MatchBool row.changes
+    (IsMixedLoweredBeside (number_of row.now q) (units_of step) row.now row.next)
     (number_of row.now q ≡ zero_ℚ))) e h
 
 -- ---- a row that is put in place
 
 pub settled_beside : (q : ℕ) (step : Step) (row : Row) (new : MixedRow)
-    → in_place row.now step ≡ false → row.changes ≡ true → IsPrepared q step row
+    → in_place row.now step ≡ false → row.changes ≡ true → IsMixedPrepared q step row
     → width_of new ≡ width_of row.now
     → ((j : ℕ) → j < width_of row.now → number_of new j ≡ sparse.number_of row.next j)
-    → IsLowered (number_of row.now q) (units_of step) row.now new
+    → IsMixedLowered (number_of row.now q) (units_of step) row.now new
 settled_beside q step row new e f prepared wide taken = record {
   width = wide;
   numbers = λ j b. taken j b ∙ beside.numbers j b;
 }
   where
-    beside : IsLoweredBeside (number_of row.now q) (units_of step) row.now row.next
+    beside : IsMixedLoweredBeside (number_of row.now q) (units_of step) row.now row.next
     beside =
-        subst (λ b. MatchBool b (IsLoweredBeside (number_of row.now q) (units_of step) row.now
+        subst (λ b. MatchBool b (IsMixedLoweredBeside (number_of row.now q) (units_of step) row.now
         row.next) (number_of row.now q ≡ zero_ℚ)) f (beside_prepared q step row e prepared)
 
 pub settled_still : (q : ℕ) (step : Step) (row : Row) → in_place row.now step ≡ false
-    → row.changes ≡ false → IsPrepared q step row
-    → IsLowered (number_of row.now q) (units_of step) row.now row.now
+    → row.changes ≡ false → IsMixedPrepared q step row
+    → IsMixedLowered (number_of row.now q) (units_of step) row.now row.now
 settled_still q step row e f prepared =
     zero_mixed_stays row.now (number_of row.now q) (units_of step)
-    (subst (λ b. MatchBool b (IsLoweredBeside (number_of row.now q) (units_of step) row.now
+    (subst (λ b. MatchBool b (IsMixedLoweredBeside (number_of row.now q) (units_of step) row.now
     row.next) (number_of row.now q ≡ zero_ℚ)) f (beside_prepared q step row e prepared))
 
 -- ---- a row that is put in place in two steps
@@ -189,7 +189,8 @@ left_none step row by e j = by_kind row.is_wide
     by_kind false = lowered_none step row.narrow by e j
 
 pub ready_numbers : (q : ℕ) (step : NarrowRow) (row next : MixedRow) (by : ℤ)
-    → row.is_wide ≡ false → next.is_wide ≡ false → whole.IsReady q step row.narrow next.narrow by
+    → row.is_wide ≡ false → next.is_wide ≡ false
+    → whole.IsNarrowReady q step row.narrow next.narrow by
     → (j : ℕ) → j < width_of row → number_left step next by j
     ≡ number_of row j -ℚ number_of row q *ℚ whole.number_of step j
 ready_numbers q step row next by e f ready j b =
@@ -204,7 +205,7 @@ pub ready_in_place : (q : ℕ) (step : Step) (row next : Row) → in_place row.n
     → width_of next.now ≡ width_of row.now → IsLeft step.narrow.row next.now next.left
     → ((j : ℕ) → j < width_of row.now → number_left step.narrow.row next.now next.left j
     ≡ number_of row.now j -ℚ number_of row.now q *ℚ whole.number_of step.narrow.row j)
-    → IsReady q step row next
+    → IsMixedReady q step row next
 ready_in_place q step row next e wide left low = record {
   width = wide;
   left = left;
@@ -213,7 +214,8 @@ ready_in_place q step row next e wide left low = record {
 }
 
 pub ready_beside : (q : ℕ) (step : Step) (row next : Row) → next.left ≡ pos 0
-    → IsLowered (number_of row.now q) (units_of step) row.now next.now → IsReady q step row next
+    → IsMixedLowered (number_of row.now q) (units_of step) row.now next.now
+    → IsMixedReady q step row next
 ready_beside q step row next e low = record {
   width = low.width;
   left = λ n. absurd (n e);
@@ -236,9 +238,10 @@ finished_by step row next e wide low = record {
   numbers = λ j b. low j ∙ sym (left_narrow step.narrow.row row.now row.left e j);
 }
 
-pub finished_lowered : (q : ℕ) (step : Step) (row middle next : Row) → IsReady q step row middle
+pub finished_lowered : (q : ℕ) (step : Step) (row middle next : Row)
+    → IsMixedReady q step row middle
     → IsFinished step middle next
-    → IsLowered (number_of row.now q) (units_of step) row.now next.now
+    → IsMixedLowered (number_of row.now q) (units_of step) row.now next.now
 finished_lowered q step row middle next ready finished = record {
   width = finished.width ∙ ready.width;
   numbers = λ j b. finished.numbers j (subst (λ n. j < n) (sym ready.width) b)

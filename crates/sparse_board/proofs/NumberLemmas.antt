@@ -8,7 +8,7 @@ use Rattle.ratio_core.specs.Rational.{Fits, Rational, zero_ℚ}
 use Rattle.rational_laws.specs.Fitting.{Fits_zero}
 use Rattle.simplex_laws.specs.BoundedSumLaws.{same_or_other}
 use Rattle.tableau_core.specs.Row.{AllFit, cell}
-use Rattle.sparse_board.specs.Sparse.{IsBelow, IsSparse, IsSplit, number_at, number_in}
+use Rattle.sparse_board.specs.Sparse.{AreColumnsBelow, AreColumnsSplit, IsSparse, number_at, number_in}
 
 module _ (columns : List ℕ) (values : List Rational) where
   number_here : (n j : ℕ) → slice_index columns n ≡ j → number_at columns values (suc n) j
@@ -68,7 +68,7 @@ module _ (columns : List ℕ) (values : List Rational) where
   number_fits h j = fits_at h (length columns) j
 
   -- no number stands beside a column from b on and before the next
-  pub number_between : IsSparse columns values → (b i j : ℕ) → IsSplit b i columns → b ≤ j
+  pub number_between : IsSparse columns values → (b i j : ℕ) → AreColumnsSplit b i columns → b ≤ j
       → (i < length columns → j < slice_index columns i) → number_in columns values j ≡ zero_ℚ
   number_between h b i j split low high = number_missing j (λ k c e. by_side k c e (cases_lt k i))
     where
@@ -91,7 +91,8 @@ module _ (columns : List ℕ) (values : List Rational) where
           past_lem j x y p q r = absurd (omega (arith, p, q, r))
 
   -- nor beside one past all
-  pub number_past : (b j : ℕ) → IsBelow b columns → b ≤ j → number_in columns values j ≡ zero_ℚ
+  pub number_past : (b j : ℕ) → AreColumnsBelow b columns → b ≤ j
+      → number_in columns values j ≡ zero_ℚ
   number_past b j below c =
       number_missing j (λ k d e. past_lem (slice_index columns k) b j (below k d) c e)
     where
@@ -113,7 +114,7 @@ places_rise columns h (suc k) b =
 
 pub few_below : (columns : List ℕ) (b : ℕ)
     → ((i k : ℕ) → i < k → k < length columns → slice_index columns i < slice_index columns k)
-    → IsBelow b columns → length columns ≤ b
+    → AreColumnsBelow b columns → length columns ≤ b
 few_below columns b h below = by_length (length columns) refl
   where
     last_lem : (n x b : ℕ) → n ≤ x → x < b → suc n ≤ b
@@ -184,19 +185,20 @@ module _ (columns : List ℕ) (values : List Rational) (c : ℕ) (v : Rational)
       same_or_other (P k) k (length columns) (λ e. subst P (sym e) new)
       (λ m. old k (omega (arith, m, subst (λ n. k < n) one_more b)))
 
-  pub below_added : IsBelow c columns → IsBelow (c + 1) (columns ++ c ∷ [])
+  pub below_added : AreColumnsBelow c columns → AreColumnsBelow (c + 1) (columns ++ c ∷ [])
   below_added below =
       at_end (λ k. slice_index (columns ++ c ∷ []) k < c + 1)
       (λ k b. subst (λ x. x < c + 1) (sym (old_column k b)) (omega (arith, below k b)))
       (subst (λ x. x < c + 1) (sym new_column) (omega arith))
 
-  pub within_added : (w : ℕ) → IsBelow w columns → c < w → IsBelow w (columns ++ c ∷ [])
+  pub within_added : (w : ℕ) → AreColumnsBelow w columns → c < w
+      → AreColumnsBelow w (columns ++ c ∷ [])
   within_added w below d =
       at_end (λ k. slice_index (columns ++ c ∷ []) k < w)
       (λ k b. subst (λ x. x < w) (sym (old_column k b)) (below k b))
       (subst (λ x. x < w) (sym new_column) d)
 
-  pub sparse_added : IsSparse columns values → IsBelow c columns → ¬ (v ≡ zero_ℚ) → Fits v
+  pub sparse_added : IsSparse columns values → AreColumnsBelow c columns → ¬ (v ≡ zero_ℚ) → Fits v
       → IsSparse (columns ++ c ∷ []) (values ++ v ∷ [])
   sparse_added h below other fits = record {
     long = length-append values (v ∷ []) ∙ ap (λ n. n + 1) long
@@ -253,7 +255,7 @@ all_fit_take (suc i) (x ∷ xs) h zero = h zero
 all_fit_take (suc i) (x ∷ xs) h (suc k) = all_fit_take i xs (λ l. h (suc l)) k
 
 module _ (columns : List ℕ) (values : List Rational) (sparse : IsSparse columns values) (w i : ℕ)
-    (split : IsSplit w i columns) where
+    (split : AreColumnsSplit w i columns) where
   min_lem : (a b : ℕ) → a ≤ b → min a b ≡ a
   min_lem a b c = omega (arith, c)
 
@@ -269,7 +271,7 @@ module _ (columns : List ℕ) (values : List Rational) (sparse : IsSparse column
   less : (k : ℕ) → k < length (take i columns) → k < i
   less k b = subst (λ n. k < n) taken_long b
 
-  pub below_taken : IsBelow w (take i columns)
+  pub below_taken : AreColumnsBelow w (take i columns)
   below_taken k b = subst (λ x. x < w) (sym (taken_column k (less k b))) (split.before k (less k b))
 
   pub sparse_taken : IsSparse (take i columns) (take i values)

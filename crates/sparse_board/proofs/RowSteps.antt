@@ -15,9 +15,9 @@ use Rattle.tableau_core.specs.LoweringLaws.{lowered_fits-zero, zero-step}
 use Rattle.tableau_core.specs.Row.{cell}
 use Rattle.sparse_board.specs.declared.sparse_row.SparseRow.{SparseRow}
 use Rattle.sparse_board.specs.declared.entry.Entry.{Entry}
-use Rattle.sparse_board.specs.Sparse.{AreUnits, IsBelow, IsSparse, IsSplit, columns_in, number_among, number_in, values_in}
-use Rattle.sparse_board.specs.Numbers.{Adds, number_of, row_columns, row_values, width_of}
-use Rattle.tableau_core.specs.Numbers.{differences_fit}
+use Rattle.sparse_board.specs.Sparse.{AreColumnsBelow, AreColumnsSplit, AreUnits, IsSparse, columns_in, number_among, number_in, values_in}
+use Rattle.sparse_board.specs.Numbers.{AppendsNumber, number_of, row_columns, row_values, width_of}
+use Rattle.tableau_core.specs.BoardNumbers.{differences_fit}
 use Rattle.sparse_board.proofs.NumberLemmas.{below_added, below_taken, number_added, number_at_place, number_fits, number_kept, number_missing, number_past, number_taken, sparse_added, sparse_taken, within_added}
 use Rattle.sparse_board.proofs.HeldLemmas.{below_less}
 
@@ -33,7 +33,7 @@ sparse_none columns values e f = record {
 pub columns_long : (row : SparseRow) → length (row_columns row) ≡ length row.entries.items
 columns_long row = length-map row.entries.items (λ (x : Entry). x.column)
 
-pub below_none : (w : ℕ) (columns : List ℕ) → columns ≡ [] → IsBelow w columns
+pub below_none : (w : ℕ) (columns : List ℕ) → columns ≡ [] → AreColumnsBelow w columns
 below_none w columns e k b = absurd (omega (arith, subst (λ l. k < length l) e b))
 
 pub column_of : (entries : List Entry) (k : ℕ) (item : Entry) → k < length entries
@@ -140,7 +140,7 @@ module _ (row : SparseRow) where
               by_end (inr c) = q c
 
   pub split_found : (k column : ℕ) → k < length columns → slice_index columns k ≡ column
-      → IsSplit column k columns
+      → AreColumnsSplit column k columns
   split_found k column b at = record {
     within = omega (arith, b);
     before = λ i c. subst (λ x. slice_index columns i < x) at (row.sparse.rising i k c b);
@@ -150,7 +150,7 @@ module _ (row : SparseRow) where
   pub split_not_found : (k column : ℕ) → k ≤ length columns
       → ((i : ℕ) → i < k → slice_index columns i < column)
       → ((i : ℕ) → k ≤ i → i < length columns → column < slice_index columns i)
-      → IsSplit column k columns
+      → AreColumnsSplit column k columns
   split_not_found k column b before after = record {
     within = b;
     before = before;
@@ -158,7 +158,7 @@ module _ (row : SparseRow) where
   }
 
   -- the first n entries, where the n-th column is the first from w on
-  module _ (w n : ℕ) (split : IsSplit w n columns) (entries : List Entry)
+  module _ (w n : ℕ) (split : AreColumnsSplit w n columns) (entries : List Entry)
       (e : entries ≡ row.entries.items) where
     taken_columns : columns_in (take n entries) ≡ take n columns
     taken_columns =
@@ -173,7 +173,7 @@ module _ (row : SparseRow) where
       sparse = subst (λ l. IsSparse l (values_in (take n entries))) (sym taken_columns)
           (subst (IsSparse (take n columns)) (sym taken_values)
           (sparse_taken columns (row_values row) row.sparse w n split));
-      within = subst (IsBelow w) (sym taken_columns)
+      within = subst (AreColumnsBelow w) (sym taken_columns)
           (below_taken columns (row_values row) row.sparse w n split);
     }
 
@@ -187,7 +187,7 @@ pub row_units : (row : SparseRow) (w : ℕ) (entries : List Entry) → entries �
 row_units row w entries e wide =
     subst (AreUnits w) (sym e) (record {
       sparse = row.sparse;
-      within = subst (λ n. IsBelow n (row_columns row)) wide row.within;
+      within = subst (λ n. AreColumnsBelow n (row_columns row)) wide row.within;
     })
 
 -- ---- a number more
@@ -203,7 +203,7 @@ pushed_values entries new entry e =
     ap values_in e ∙ map-append (λ (x : Entry). x.value) entries (entry ∷ [])
 
 module _ (old : SparseRow) (column : ℕ) (value : Rational)
-    (above : IsBelow column (row_columns old)) where
+    (above : AreColumnsBelow column (row_columns old)) where
   pub pushed_sparse : (columns : List ℕ) (values : List Rational)
       → columns ≡ row_columns old ++ column ∷ [] → values ≡ row_values old ++ value ∷ []
       → ¬ (value ≡ zero_ℚ) → Fits value → IsSparse columns values
@@ -213,17 +213,17 @@ module _ (old : SparseRow) (column : ℕ) (value : Rational)
       old.sparse above other fits))
 
   pub pushed_within : (columns : List ℕ) (w : ℕ) → columns ≡ row_columns old ++ column ∷ []
-      → width_of old ≡ w → column < w → IsBelow w columns
+      → width_of old ≡ w → column < w → AreColumnsBelow w columns
   pushed_within columns w c e b =
-      subst (IsBelow w) (sym c) (within_added (row_columns old) (row_values old) column value
-      old.sparse.long w (subst (λ n. IsBelow n (row_columns old)) e old.within) b)
+      subst (AreColumnsBelow w) (sym c) (within_added (row_columns old) (row_values old) column value
+      old.sparse.long w (subst (λ n. AreColumnsBelow n (row_columns old)) e old.within) b)
 
   pub pushed_adds : (new : SparseRow) → row_columns new ≡ row_columns old ++ column ∷ []
       → row_values new ≡ row_values old ++ value ∷ [] → width_of new ≡ width_of old
-      → Adds column value old new
+      → AppendsNumber column value old new
   pushed_adds new c v w = record {
     width = w;
-    below = subst (IsBelow (column + 1)) (sym c) (below_added (row_columns old) (row_values old)
+    below = subst (AreColumnsBelow (column + 1)) (sym c) (below_added (row_columns old) (row_values old)
         column value old.sparse.long above);
     here = numbers_are column ∙ number_added (row_columns old) (row_values old) column value
         old.sparse.long;
@@ -235,7 +235,7 @@ module _ (old : SparseRow) (column : ℕ) (value : Rational)
           (row_values old ++ value ∷ []) j
       numbers_are j = λ i. number_in (c i) (v i) j
 
-  pub zero_adds : value ≡ zero_ℚ → Adds column value old old
+  pub zero_adds : value ≡ zero_ℚ → AppendsNumber column value old old
   zero_adds e = record {
     width = refl;
     below = below_less column (column + 1) (row_columns old) above (omega arith);

@@ -16,11 +16,11 @@ use Rattle.sparse_board.specs.declared.row.Row.{Row}
 use Rattle.sparse_board.specs.declared.mixed_row.MixedRow.{MixedRow}
 use Rattle.sparse_board.specs.declared.step.Step.{Step}
 use Rattle.sparse_board.specs.Mixed.{IsLeft, number_of, units_of, width_of}
-use Rattle.tableau_core.specs.Numbers.{differences_fit}
-use Rattle.sparse_board.specs.Lowering.{IsFinished, IsPrepared, IsReady}
-use Rattle.sparse_board.specs.Rows.{AreLowered, AreWide, IsLeftAt, IsPreparedAt, OnRows, now_at, now_of, number_in_row, numbers, rows_fit, width_at}
-use Rattle.sparse_board.specs.Marks.{AreUnmarked, has}
-use Rattle.sparse_board.specs.Marking.{AreChanged, AreLeft, AreMarked, ArePrepared}
+use Rattle.tableau_core.specs.BoardNumbers.{differences_fit}
+use Rattle.sparse_board.specs.Lowering.{IsFinished, IsMixedPrepared, IsMixedReady}
+use Rattle.sparse_board.specs.Rows.{AreSparseRowsLowered, AreSparseRowsWide, IsPreparedAt, IsStepLeftAt, OnRows, now_at, now_of, number_in_row, numbers, rows_fit, width_at}
+use Rattle.sparse_board.specs.Marks.{AreRowsUnmarked, has}
+use Rattle.sparse_board.specs.Marking.{AreChanged, AreLeft, AreMarkedPrepared, AreNumbersMarked}
 use Rattle.sparse_board.proofs.MixedSteps.{mixed_fits}
 
 -- the rows below i are worked out, and all stand
@@ -57,7 +57,8 @@ pub row_is : (rows : List Row) (i : ℕ) (d : Row) → i < length rows
     → now_at rows i ≡ Some (slice_index_or rows i d).now
 row_is rows i d b = ap now_of (read_at rows i d b)
 
-pub row_wide : (w : ℕ) (rows : List Row) (i : ℕ) (d : Row) → AreWide w rows → i < length rows
+pub row_wide : (w : ℕ) (rows : List Row) (i : ℕ) (d : Row) → AreSparseRowsWide w rows
+    → i < length rows
     → width_of (slice_index_or rows i d).now ≡ w
 row_wide w rows i d wide b = sym (ap width_at (row_is rows i d b)) ∙ wide i b
 
@@ -112,12 +113,13 @@ module _ (w r q : ℕ) (step : Step) (marks : Marks) (before rows : List Row) (i
       → Some (slice_index_or rows i d).now ≡ now_at before i
   row_stands d h b = sym (row_is rows i d (subst (λ n. i < n) (sym h.long) b)) ∙ h.stays i
 
-  pub prepared_wide : (d : Row) → ArePreparedTo w r q step marks before rows i → AreWide w before
+  pub prepared_wide : (d : Row) → ArePreparedTo w r q step marks before rows i
+      → AreSparseRowsWide w before
       → i < length before → width_of (slice_index_or rows i d).now ≡ w
   prepared_wide d h wide b = ap width_at (row_stands d h b) ∙ wide i b
 
   fits_here : (d : Row) (t : Bool) → ArePreparedTo w r q step marks before rows i
-      → AreWide w before → i < length before
+      → AreSparseRowsWide w before → i < length before
       → t ≡ differences_fit (width_of (slice_index_or rows i d).now)
       (number_of (slice_index_or rows i d).now) (number_of (slice_index_or rows i d).now q) (units_of step)
       → differences_fit w (number_in_row before i) (number_in_row before i q) (units_of step) ≡ t
@@ -134,10 +136,10 @@ module _ (w r q : ℕ) (step : Step) (marks : Marks) (before rows : List Row) (i
       (λ n. h.fit k (omega (arith, b, n)))
 
   pub prepared-more : (d new : Row) → ArePreparedTo w r q step marks before rows i
-      → AreWide w before → i < length before → new.now ≡ (slice_index_or rows i d).now
+      → AreSparseRowsWide w before → i < length before → new.now ≡ (slice_index_or rows i d).now
       → true ≡ differences_fit (width_of (slice_index_or rows i d).now)
       (number_of (slice_index_or rows i d).now) (number_of (slice_index_or rows i d).now q) (units_of step)
-      → IsPrepared q step new → ArePreparedTo w r q step marks before (slice_set rows i new)
+      → IsMixedPrepared q step new → ArePreparedTo w r q step marks before (slice_set rows i new)
       (i + 1)
   prepared-more d new h wide b same fits made =
       let at : i < length rows = subst (λ n. i < n) (sym h.long) b in
@@ -170,7 +172,7 @@ module _ (w r q : ℕ) (step : Step) (marks : Marks) (before rows : List Row) (i
 
   -- rows that aren't marked are passed over
   pub prepared-past : (to : ℕ) → ArePreparedTo w r q step marks before rows i → to ≤ length before
-      → q < w → AreMarked w marks before → AreUnmarked marks q i to
+      → q < w → AreNumbersMarked w marks before → AreRowsUnmarked marks q i to
       → ArePreparedTo w r q step marks before rows to
   prepared-past to h within column marked unmarked = record {
     within = within;
@@ -196,7 +198,8 @@ module _ (w r q : ℕ) (step : Step) (marks : Marks) (before rows : List Row) (i
       prepared_at k c n m (inr l) = absurd (true≢false (sym m ∙ unmarked k l c))
 
   -- a row that is refused
-  pub rows-refused : (d : Row) → ArePreparedTo w r q step marks before rows i → AreWide w before
+  pub rows-refused : (d : Row) → ArePreparedTo w r q step marks before rows i
+      → AreSparseRowsWide w before
       → i < length before → ¬ (i ≡ r)
       → false ≡ differences_fit (width_of (slice_index_or rows i d).now)
       (number_of (slice_index_or rows i d).now) (number_of (slice_index_or rows i d).now q) (units_of step)
@@ -257,7 +260,7 @@ module _ (P : Row → Row → Type 0) (r q : ℕ) (marks : Marks) (before rows :
 
   -- rows that aren't marked are passed over
   pub changed-past : (to : ℕ) → AreChangedTo P r q marks before rows i → i ≤ to
-      → to ≤ length before → AreUnmarked marks q i to → AreChangedTo P r q marks before rows to
+      → to ≤ length before → AreRowsUnmarked marks q i to → AreChangedTo P r q marks before rows to
   changed-past to h past within unmarked = record {
     within = within;
     long = h.long;
@@ -303,8 +306,8 @@ module _ (P : Row → Row → Type 0) (r q : ℕ) (marks : Marks) (before rows :
 -- the row that is read was worked out
 pub prepared_read : (P : Row → Row → Type 0) (r q : ℕ) (step : Step) (marks : Marks)
     (before rows : List Row) (i : ℕ) (d : Row) → AreChangedTo P r q marks before rows i
-    → i < length before → ¬ (i ≡ r) → has marks q i ≡ true → ArePrepared r q step marks before
-    → IsPrepared q step (slice_index_or rows i d)
+    → i < length before → ¬ (i ≡ r) → has marks q i ≡ true → AreMarkedPrepared r q step marks before
+    → IsMixedPrepared q step (slice_index_or rows i d)
 prepared_read P r q step marks before rows i d h b other here p =
     subst (IsPreparedAt q step) (sym (row_before P r q marks before rows i d h b)) (p i b other here)
 
@@ -314,24 +317,24 @@ pub left_read : (P : Row → Row → Type 0) (r q : ℕ) (step : Step) (marks : 
     → i < length before → ¬ (i ≡ r) → has marks q i ≡ true → AreLeft r q step marks before
     → IsLeft step.narrow.row (slice_index_or rows i d).now (slice_index_or rows i d).left
 left_read P r q step marks before rows i d h b other here p =
-    subst (IsLeftAt step) (sym (row_before P r q marks before rows i d h b)) (p i b other here)
+    subst (IsStepLeftAt step) (sym (row_before P r q marks before rows i d h b)) (p i b other here)
 
 -- ---- both passes
 
-ready_left : (q : ℕ) (step : Step) (o p : Option Row) → OnRows (IsReady q step) o p
-    → IsLeftAt step p
+ready_left : (q : ℕ) (step : Step) (o p : Option Row) → OnRows (IsMixedReady q step) o p
+    → IsStepLeftAt step p
 ready_left q step None p h = absurd h
 ready_left q step (Some row) None h = absurd h
 ready_left q step (Some row) (Some next) h = h.left
 
-both_wide : (q : ℕ) (step : Step) (o m p : Option Row) → OnRows (IsReady q step) o m
+both_wide : (q : ℕ) (step : Step) (o m p : Option Row) → OnRows (IsMixedReady q step) o m
     → OnRows (IsFinished step) m p → width_at (now_of p) ≡ width_at (now_of o)
 both_wide q step None m p h k = absurd h
 both_wide q step (Some row) None p h k = absurd h
 both_wide q step (Some row) (Some middle) None h k = absurd k
 both_wide q step (Some row) (Some middle) (Some next) h k = k.width ∙ h.width
 
-both_lowered : (q : ℕ) (step : Step) (o m p : Option Row) → OnRows (IsReady q step) o m
+both_lowered : (q : ℕ) (step : Step) (o m p : Option Row) → OnRows (IsMixedReady q step) o m
     → OnRows (IsFinished step) m p → IsLoweredNow q (units_of step) (now_of o) (now_of p)
 both_lowered q step None m p h k = absurd h
 both_lowered q step (Some row) None p h k = absurd h
@@ -341,7 +344,7 @@ both_lowered q step (Some row) (Some middle) (Some next) h k = λ j b.
 
 module _ (w r q : ℕ) (step : Step) (marks : Marks) (before middle : List Row)
     (long : length middle ≡ length before)
-    (first : AreChanged (IsReady q step) r q marks before middle) where
+    (first : AreChanged (IsMixedReady q step) r q marks before middle) where
   pub ready-left : AreLeft r q step marks middle
   ready-left i b n t =
       ready_left q step (slice_get before i) (slice_get middle i)
@@ -374,7 +377,7 @@ module _ (w r q : ℕ) (step : Step) (marks : Marks) (before middle : List Row)
             ap (λ o. width_at (now_of o))
             (second.later i (subst (λ m. m ≤ i) (sym long) b) ∙ first.later i b)
 
-    pub both-lowered : q < w → AreMarked w marks before → AreLowered r q (units_of step) before after
+    pub both-lowered : q < w → AreNumbersMarked w marks before → AreSparseRowsLowered r q (units_of step) before after
     both-lowered column marked i b n = by_mark (has marks q i) refl
       where
         by_mark : (t : Bool) → has marks q i ≡ t

@@ -10,17 +10,17 @@ use Rattle.simplex_form.specs.Board.{entry}
 use Rattle.simplex_form.specs.Form.{Form}
 use Rattle.tableau_core.specs.Row.{cell}
 use Rattle.tableau_core.specs.Start.{IsListOf}
-use Rattle.tableau_core.specs.TermSteps.{AreLeft, all_left, column_past, column_within, left_after, number_there, place_past, zero_at_end, zero_before}
+use Rattle.tableau_core.specs.TermSteps.{AreTermsLeft, all_left, column_past, column_within, left_after, number_there, place_past, zero_at_end, zero_before}
 use Rattle.tableau_core.specs.StartLaws.{real-entry, unit-entry, zero-entry}
 use Rattle.sparse_board.specs.declared.board.Board.TheInside.{Inside}
 use Rattle.sparse_board.specs.declared.mixed_row.MixedRow.{MixedRow}
 use Rattle.sparse_board.specs.declared.sparse_row.SparseRow.{SparseRow}
 use Rattle.sparse_board.specs.Mixed as mixed
-use Rattle.sparse_board.specs.Numbers.{Adds, HoldsBelow, number_of, row_columns}
-use Rattle.sparse_board.specs.Sparse.{IsBelow, columns_in}
-use Rattle.sparse_board.specs.Rows.{AreWide}
-use Rattle.sparse_board.specs.Marking.{AreMarked}
-use Rattle.sparse_board.specs.Kept.{IsKept, columns_of}
+use Rattle.sparse_board.specs.Numbers.{AppendsNumber, HoldsBelow, number_of, row_columns}
+use Rattle.sparse_board.specs.Sparse.{AreColumnsBelow, columns_in}
+use Rattle.sparse_board.specs.Rows.{AreSparseRowsWide}
+use Rattle.sparse_board.specs.Marking.{AreNumbersMarked}
+use Rattle.sparse_board.specs.Kept.{IsSparseBoardKept, columns_of}
 use Rattle.sparse_board.proofs.HeldLemmas.{below_less, held_next, held_past, held_same}
 
 -- a cost row has the numbers that it is made of
@@ -57,7 +57,7 @@ module _ (F : Form) (i : ℕ) (row : i < F.rows) where
       (λ j b. real-entry F j i (numbers j) row b (same j b))
 
   pub unit_added : (x : Rational) (old new : SparseRow) → x ≡ one_ℚ → HoldsBelow F.reals entries old
-      → Adds (F.reals + i) x old new → HoldsBelow (F.reals + F.rows) entries new
+      → AppendsNumber (F.reals + i) x old new → HoldsBelow (F.reals + F.rows) entries new
   unit_added x old new is held adds =
       held_past (F.reals + i + 1) (F.reals + F.rows) entries new
       (held_next F.reals (F.reals + i) entries x old new held (omega arith)
@@ -65,17 +65,19 @@ module _ (F : Form) (i : ℕ) (row : i < F.rows) where
       (omega (arith, row)) (λ j b c. other_zero j (omega (arith, b)) (λ e. omega (arith, b, e)))
 
   pub side_entries : (x : Rational) (old new : SparseRow)
-      → HoldsBelow (F.reals + F.rows) entries old → Adds (F.reals + F.rows) x old new → (j : ℕ)
+      → HoldsBelow (F.reals + F.rows) entries old → AppendsNumber (F.reals + F.rows) x old new
+      → (j : ℕ)
       → j < F.reals + F.rows → number_of new j ≡ entries j
   side_entries x old new held adds j b =
       adds.elsewhere j (λ e. omega (arith, b, e)) ∙ held.numbers j b
 
 pub start-kept : (a : Inside) (m : ℕ) → length a.rows.items ≡ m → a.reals + m + 1 < 2 ^ 32
-    → AreWide (a.reals + m + 1) a.rows.items → mixed.width_of a.costs.first.now ≡ a.reals + m
+    → AreSparseRowsWide (a.reals + m + 1) a.rows.items
+    → mixed.width_of a.costs.first.now ≡ a.reals + m
     → mixed.width_of a.costs.second.now ≡ a.reals + m → a.step.width ≡ a.reals + m + 1
     → length a.basis.items ≡ m → a.marks.columns ≡ a.reals + m + 1
-    → a.marks.rows ≡ length a.rows.items → AreMarked (a.reals + m + 1) a.marks a.rows.items
-    → IsKept a
+    → a.marks.rows ≡ length a.rows.items → AreNumbersMarked (a.reals + m + 1) a.marks a.rows.items
+    → IsSparseBoardKept a
 start-kept a m count few wide first second step basis columns rows marked = record {
   few = subst (λ n. n + 1 < 2 ^ 32) same_width few;
   wide = λ i b. wide i b ∙ ap (λ n. n + 1) same_width;
@@ -85,7 +87,7 @@ start-kept a m count few wide first second step basis columns rows marked = reco
   basis = basis ∙ sym count;
   mark_columns = columns ∙ ap (λ n. n + 1) same_width;
   mark_rows = rows;
-  marked = subst (λ n. AreMarked (n + 1) a.marks a.rows.items) same_width marked;
+  marked = subst (λ n. AreNumbersMarked (n + 1) a.marks a.rows.items) same_width marked;
 }
   where
     same_width : a.reals + m ≡ columns_of a
@@ -96,7 +98,7 @@ start-kept a m count few wide first second step basis columns rows marked = reco
 -- the columns before those that are left are held
 pub record IsHeldTo (from c : ℕ) (all left : List (ℕ × Rational)) (row : SparseRow) : Type 0 where
   pub next : ℕ
-  pub rest : AreLeft from c next all left
+  pub rest : AreTermsLeft from c next all left
   pub held : HoldsBelow next (λ j. number_at all (from + j)) row
 
 module _ (from c : ℕ) (all : List (ℕ × Rational)) where
@@ -133,12 +135,12 @@ module _ (from c : ℕ) (all : List (ℕ × Rational)) where
       pub held_place : from ≤ t.0
       held_place = place_past from c d.next all t left d.rest
 
-      pub held_above : IsBelow (t.0 - from) (row_columns row)
+      pub held_above : AreColumnsBelow (t.0 - from) (row_columns row)
       held_above =
           below_less d.next (t.0 - from) (row_columns row) d.held.below
           (column_past from c d.next all t left d.rest)
 
-      pub held_term : (new : SparseRow) → Adds (t.0 - from) t.1 row new → IsHeldTo from c all left new
+      pub held_term : (new : SparseRow) → AppendsNumber (t.0 - from) t.1 row new → IsHeldTo from c all left new
       held_term new adds = record {
         next = t.0 - from + 1;
         rest = left_after from c d.next all t left d.rest;

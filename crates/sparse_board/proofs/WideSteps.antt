@@ -4,20 +4,20 @@ use Rattle.std.proofs.Common.{sym, ◌∙◌, ap, arith, subst}
 use Rattle.ratio_core.specs.Rational.{Rational, ◌*ℚ◌, ◌-ℚ◌}
 use Rattle.simplex_form.specs.Fit.{lowered_fits}
 use Rattle.simplex_laws.specs.SearchLaws.{all_below_same}
-use Rattle.tableau_core.specs.Numbers.{differences_fit}
+use Rattle.tableau_core.specs.BoardNumbers.{differences_fit}
 use Rattle.sparse_board.specs.declared.entry.Entry.{Entry}
 use Rattle.sparse_board.specs.declared.mixed_row.MixedRow.{MixedRow}
 use Rattle.sparse_board.specs.declared.sparse_row.SparseRow.{SparseRow}
 use Rattle.sparse_board.specs.declared.step.Step.{Step}
-use Rattle.sparse_board.specs.Lowering.{IsLowered, IsLoweredBeside}
+use Rattle.sparse_board.specs.Lowering.{IsMixedLoweredBeside, IsSparseLowered}
 use Rattle.sparse_board.specs.Mixed.{IsBoth, number_of, units_of, width_of}
 use Rattle.sparse_board.specs.Numbers as sparse
-use Rattle.sparse_board.specs.Sparse.{AreUnits, IsSplit, number_among}
+use Rattle.sparse_board.specs.Sparse.{AreColumnsSplit, AreUnits, number_among}
 use Rattle.sparse_board.proofs.MixedSteps.{number_wide}
 use Rattle.sparse_board.proofs.RowSteps.{taken_numbers, taken_units}
 
 module _ (row : MixedRow) (step : Step) (n : ℕ) (entries : List Entry)
-    (split : IsSplit row.width n (sparse.row_columns step.wide))
+    (split : AreColumnsSplit row.width n (sparse.row_columns step.wide))
     (e : entries ≡ step.wide.entries.items) (wide : row.is_wide ≡ true) where
   pub wide_units : AreUnits (sparse.width_of row.wide) (take n entries)
   wide_units =
@@ -46,8 +46,8 @@ module _ (row : MixedRow) (step : Step) (n : ℕ) (entries : List Entry)
           (λ j b i. lowered_fits (sym (number_wide row wide j) i) by (unit_is j b i))
 
       pub wide_lowered : (next : SparseRow)
-          → IsLowered by (number_among (take n entries)) row.wide next
-          → IsLoweredBeside by (units_of step) row next
+          → IsSparseLowered by (number_among (take n entries)) row.wide next
+          → IsMixedLoweredBeside by (units_of step) row next
       wide_lowered next low = record {
         width = low.width ∙ row.full wide;
         numbers = λ j b. low.numbers j (subst (λ w. j < w) (sym (row.full wide)) b)

@@ -17,7 +17,7 @@ leaves_before rows basis side q i k =
     (nat_lt (slice_index_or basis i 0) (slice_index_or basis k 0))
 
 -- row k may leave
-pub record IsCandidate (rows : List Row) (q k : ℕ) : Type 0 where
+pub record IsSparseCandidate (rows : List Row) (q k : ℕ) : Type 0 where
   pub within : k < length rows
   pub above : zero_ℚ ‹ℚ number_in_row rows k q
 
@@ -26,4 +26,4 @@ pub record IsBestTo (rows : List Row) (basis : List ℕ) (side q i : ℕ) (best 
     Type 0 where
   pub within : i ≤ length rows
   pub value : best ≡ best_below i (may_leave rows q) (leaves_before rows basis side q)
-  pub candidate : IfSome best (λ k. IsCandidate rows q k)
+  pub candidate : IfSome best (λ k. IsSparseCandidate rows q k)

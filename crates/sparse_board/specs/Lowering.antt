@@ -10,39 +10,39 @@ use Rattle.sparse_board.specs.Mixed as mixed
 use Rattle.whole_rows.specs.Rows.{can_stay}
 
 -- each number is divided
-pub record IsDivided (by : Rational) (row next : SparseRow) : Type 0 where
+pub record IsSparseDivided (by : Rational) (row next : SparseRow) : Type 0 where
   pub width : width_of next ≡ width_of row
   pub numbers : (j : ℕ) → j < width_of row → number_of next j ≡ number_of row j /ℚ by
 
 -- each number is lowered by a multiple of the units
-pub record IsLowered (by : Rational) (units : ℕ → Rational) (row next : SparseRow) : Type 0 where
+pub record IsSparseLowered (by : Rational) (units : ℕ → Rational) (row next : SparseRow) : Type 0 where
   pub width : width_of next ≡ width_of row
   pub numbers : (j : ℕ) → j < width_of row → number_of next j ≡ number_of row j -ℚ by *ℚ units j
 
 -- each number is lowered by a multiple of the units, in fractions beside the row
-pub record IsLoweredBeside (by : Rational) (units : ℕ → Rational) (row : MixedRow)
+pub record IsMixedLoweredBeside (by : Rational) (units : ℕ → Rational) (row : MixedRow)
     (next : SparseRow) : Type 0 where
   pub width : width_of next ≡ mixed.width_of row
   pub numbers : (j : ℕ) → j < mixed.width_of row →
       number_of next j ≡ mixed.number_of row j -ℚ by *ℚ units j
 
 -- there is room for the fractions of a row of whole numbers that may not stay one
-abbrev pub HasRoom : ℕ → Step → Row → Type 0
-HasRoom q step row =
+abbrev pub HasRoomForFractions : ℕ → Step → Row → Type 0
+HasRoomForFractions q step row =
     can_stay q step.narrow.row row.now.narrow ≡ false → width_of row.next ≡ mixed.width_of row.now
 
 -- the next row is worked out, or the row's entry of column q is 0, so that it stays; a row of whole
 -- numbers is lowered in place where the step is one
-abbrev pub IsPrepared : ℕ → Step → Row → Type 0
-IsPrepared q step row =
+abbrev pub IsMixedPrepared : ℕ → Step → Row → Type 0
+IsMixedPrepared q step row =
     MatchBool (not row.now.is_wide && step.is_narrow)
-    (HasRoom q step row)
+    (HasRoomForFractions q step row)
     (MatchBool row.changes
-    (IsLoweredBeside (mixed.number_of row.now q) (mixed.units_of step) row.now row.next)
+    (IsMixedLoweredBeside (mixed.number_of row.now q) (mixed.units_of step) row.now row.next)
     (mixed.number_of row.now q ≡ zero_ℚ))
 
 -- the row is lowered by its number of column q times the step, but for a multiple of the step
-pub record IsReady (q : ℕ) (step : Step) (row next : Row) : Type 0 where
+pub record IsMixedReady (q : ℕ) (step : Step) (row next : Row) : Type 0 where
   pub width : mixed.width_of next.now ≡ mixed.width_of row.now
   pub left : mixed.IsLeft step.narrow.row next.now next.left
   pub numbers : (j : ℕ) → j < mixed.width_of row.now →

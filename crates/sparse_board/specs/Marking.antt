@@ -7,7 +7,7 @@ use Rattle.sparse_board.specs.declared.mixed_row.MixedRow.{MixedRow}
 use Rattle.sparse_board.specs.declared.step.Step.{Step}
 use Rattle.sparse_board.specs.Marks.{SameSizes, has}
 use Rattle.sparse_board.specs.Mixed.{number_of, width_of}
-use Rattle.sparse_board.specs.Rows.{IsLeftAt, IsPreparedAt, OnRows, number_in_row}
+use Rattle.sparse_board.specs.Rows.{IsPreparedAt, IsStepLeftAt, OnRows, number_in_row}
 
 -- each of the w numbers of row i is marked or 0
 abbrev pub MarksNumbers : ℕ → (ℕ → Rational) → ℕ → Marks → Type 0
@@ -17,8 +17,8 @@ abbrev pub MarksRow : MixedRow → ℕ → Marks → Type 0
 MarksRow row i marks = MarksNumbers (width_of row) (number_of row) i marks
 
 -- each number of the rows, in w columns, is marked or 0
-abbrev pub AreMarked : ℕ → Marks → List Row → Type 0
-AreMarked w marks rows =
+abbrev pub AreNumbersMarked : ℕ → Marks → List Row → Type 0
+AreNumbersMarked w marks rows =
     (i : ℕ) → i < length rows → (j : ℕ) → j < w → has marks j i ≡ false
     → number_in_row rows i j ≡ zero_ℚ
 
@@ -28,8 +28,8 @@ pub record KeepMarks (old new : Marks) : Type 0 where
   pub kept : (j i : ℕ) → has old j i ≡ true → has new j i ≡ true
 
 -- the rows other than r that are marked in column q are worked out
-abbrev pub ArePrepared : ℕ → ℕ → Step → Marks → List Row → Type 0
-ArePrepared r q step marks rows =
+abbrev pub AreMarkedPrepared : ℕ → ℕ → Step → Marks → List Row → Type 0
+AreMarkedPrepared r q step marks rows =
     (i : ℕ) → i < length rows → ¬ (i ≡ r) → has marks q i ≡ true
     → IsPreparedAt q step (slice_get rows i)
 
@@ -46,7 +46,7 @@ pub record AreChanged (P : Row → Row → Type 0) (r q : ℕ) (marks : Marks) (
 abbrev pub AreLeft : ℕ → ℕ → Step → Marks → List Row → Type 0
 AreLeft r q step marks rows =
     (i : ℕ) → i < length rows → ¬ (i ≡ r) → has marks q i ≡ true
-    → IsLeftAt step (slice_get rows i)
+    → IsStepLeftAt step (slice_get rows i)
 
 -- in a row that was marked in column q each of the w units is marked or 0
 abbrev pub MarksUnits : ℕ → ℕ → (ℕ → Rational) → Marks → Marks → Type 0

@@ -26,8 +26,8 @@ pub record IsJoined (from to : ℕ) (old new : Marks) : Type 0 where
   pub others : (j i : ℕ) → ¬ (j ≡ to) → has new j i ≡ has old j i
 
 -- no row from `from` on below `to` is marked in column j
-abbrev pub AreUnmarked : Marks → ℕ → ℕ → ℕ → Type 0
-AreUnmarked marks j from to = (i : ℕ) → from ≤ i → i < to → has marks j i ≡ false
+abbrev pub AreRowsUnmarked : Marks → ℕ → ℕ → ℕ → Type 0
+AreRowsUnmarked marks j from to = (i : ℕ) → from ≤ i → i < to → has marks j i ≡ false
 
 -- the rows of the k-th word of column j are marked as its bits are set
 abbrev pub IsWord : ℕ → ℕ → ℕ → Marks → Type 0

@@ -24,7 +24,7 @@ pub record IsSame (row next : MixedRow) : Type 0 where
   pub numbers : (j : ℕ) → j < width_of row → number_of next j ≡ number_of row j
 
 -- each number is lowered by a multiple of the units
-pub record IsLowered (by : Rational) (units : ℕ → Rational) (row next : MixedRow) : Type 0 where
+pub record IsMixedLowered (by : Rational) (units : ℕ → Rational) (row next : MixedRow) : Type 0 where
   pub width : width_of next ≡ width_of row
   pub numbers : (j : ℕ) → j < width_of row → number_of next j ≡ number_of row j -ℚ by *ℚ units j
 

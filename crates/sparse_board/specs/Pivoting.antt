@@ -1,14 +1,14 @@
 -- A pivot worked out beside what stands.
 use Rattle.std.specs.Prelude.{◌≡◌, ℕ, ◌<◌, IsTrue, List}
-use Rattle.tableau_core.specs.Numbers.{quotient_at}
+use Rattle.tableau_core.specs.BoardNumbers.{quotient_at}
 use Rattle.sparse_board.specs.declared.cost_rows.CostRows.{CostRows}
 use Rattle.sparse_board.specs.declared.marks.Marks.{Marks}
 use Rattle.sparse_board.specs.declared.row.Row.{Row}
 use Rattle.sparse_board.specs.declared.step.Step.{Step}
 use Rattle.sparse_board.specs.Mixed.{IsBoth, units_of}
-use Rattle.sparse_board.specs.Lowering.{IsPrepared}
+use Rattle.sparse_board.specs.Lowering.{IsMixedPrepared}
 use Rattle.sparse_board.specs.Rows.{number_in_row}
-use Rattle.sparse_board.specs.Marking.{ArePrepared}
+use Rattle.sparse_board.specs.Marking.{AreMarkedPrepared}
 
 -- the pivot's new row stands in the room for it, and each other row that changes is worked out
 pub record IsBoardReady (rows : List Row) (r q : ℕ) (marks : Marks) (costs : CostRows)
@@ -16,6 +16,6 @@ pub record IsBoardReady (rows : List Row) (r q : ℕ) (marks : Marks) (costs : C
   pub both : IsBoth step
   pub divided : (j : ℕ) → j < step.width →
       units_of step j ≡ quotient_at (number_in_row rows) r q j
-  pub others : ArePrepared r q step marks rows
-  pub first_ready : IsTrue costs.in_first → IsPrepared q step costs.first
-  pub second_ready : IsPrepared q step costs.second
+  pub others : AreMarkedPrepared r q step marks rows
+  pub first_ready : IsTrue costs.in_first → IsMixedPrepared q step costs.first
+  pub second_ready : IsMixedPrepared q step costs.second

@@ -6,8 +6,8 @@ use Rattle.sparse_board.specs.declared.row.Row.{Row}
 use Rattle.sparse_board.specs.declared.mixed_row.MixedRow.{MixedRow}
 use Rattle.sparse_board.specs.declared.step.Step.{Step}
 use Rattle.sparse_board.specs.Mixed.{IsLeft, number_of, width_of}
-use Rattle.tableau_core.specs.Numbers.{Numbers, differences_fit}
-use Rattle.sparse_board.specs.Lowering.{IsPrepared}
+use Rattle.tableau_core.specs.BoardNumbers.{BoardNumbers, differences_fit}
+use Rattle.sparse_board.specs.Lowering.{IsMixedPrepared}
 
 abbrev pub now_of : Option Row → Option MixedRow
 now_of None = None
@@ -30,7 +30,7 @@ abbrev pub number_in_row : List Row → ℕ → ℕ → Rational
 number_in_row rows i j = numbers (now_at rows i) j
 
 -- the numbers of the rows, each of which ends with its right side, and of the two cost rows
-abbrev pub numbers_in : List Row → MixedRow → MixedRow → Numbers
+abbrev pub numbers_in : List Row → MixedRow → MixedRow → BoardNumbers
 numbers_in rows first second = record {
   rows = length rows;
   number = number_in_row rows;
@@ -39,8 +39,8 @@ numbers_in rows first second = record {
 }
 
 -- each row has w columns
-abbrev pub AreWide : ℕ → List Row → Type 0
-AreWide w rows = (i : ℕ) → i < length rows → width_at (now_at rows i) ≡ w
+abbrev pub AreSparseRowsWide : ℕ → List Row → Type 0
+AreSparseRowsWide w rows = (i : ℕ) → i < length rows → width_at (now_at rows i) ≡ w
 
 abbrev pub SameNow : List Row → List Row → Type 0
 SameNow old new = (i : ℕ) → now_at new i ≡ now_at old i
@@ -53,11 +53,11 @@ rows_fit w r q units rows =
 
 abbrev pub IsPreparedAt : ℕ → Step → Option Row → Type 0
 IsPreparedAt q step None = Unit {0}
-IsPreparedAt q step (Some row) = IsPrepared q step row
+IsPreparedAt q step (Some row) = IsMixedPrepared q step row
 
 -- the rows other than r are lowered
-abbrev pub AreLowered : ℕ → ℕ → (ℕ → Rational) → List Row → List Row → Type 0
-AreLowered r q units before after =
+abbrev pub AreSparseRowsLowered : ℕ → ℕ → (ℕ → Rational) → List Row → List Row → Type 0
+AreSparseRowsLowered r q units before after =
     (i : ℕ) → i < length before → ¬ (i ≡ r) → (j : ℕ) → j < width_at (now_at before i) →
     number_in_row after i j ≡ number_in_row before i j -ℚ number_in_row before i q *ℚ units j
 
@@ -70,6 +70,6 @@ OnRows P None next = ⊥
 OnRows P (Some row) None = ⊥
 OnRows P (Some row) (Some next) = P row next
 
-abbrev pub IsLeftAt : Step → Option Row → Type 0
-IsLeftAt step None = Unit {0}
-IsLeftAt step (Some row) = IsLeft step.narrow.row row.now row.left
+abbrev pub IsStepLeftAt : Step → Option Row → Type 0
+IsStepLeftAt step None = Unit {0}
+IsStepLeftAt step (Some row) = IsLeft step.narrow.row row.now row.left

@@ -29,11 +29,11 @@ pub record IsSparse (columns : List ℕ) (values : List Rational) : Type 0 where
   pub fit : AllFit values
 
 -- each column is below b
-abbrev pub IsBelow : ℕ → List ℕ → Type 0
-IsBelow b columns = (k : ℕ) → k < length columns → slice_index columns k < b
+abbrev pub AreColumnsBelow : ℕ → List ℕ → Type 0
+AreColumnsBelow b columns = (k : ℕ) → k < length columns → slice_index columns k < b
 
 -- the first i columns are those below b
-pub record IsSplit (b i : ℕ) (columns : List ℕ) : Type 0 where
+pub record AreColumnsSplit (b i : ℕ) (columns : List ℕ) : Type 0 where
   pub within : i ≤ length columns
   pub before : (k : ℕ) → k < i → slice_index columns k < b
   pub after : (k : ℕ) → i ≤ k → k < length columns → b ≤ slice_index columns k
@@ -45,4 +45,4 @@ number_among entries = number_in (columns_in entries) (values_in entries)
 -- numbers by column, in w columns
 pub record AreUnits (w : ℕ) (units : List Entry) : Type 0 where
   pub sparse : IsSparse (columns_in units) (values_in units)
-  pub within : IsBelow w (columns_in units)
+  pub within : AreColumnsBelow w (columns_in units)

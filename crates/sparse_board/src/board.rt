@@ -29,15 +29,15 @@ pub struct Board {
 }
 
 impl Model for Board {
-    ghost use Rattle.tableau_core.specs.Contents.{Contents};
+    ghost use Rattle.tableau_core.specs.BoardContents.{BoardContents};
 
-    ghost Value = { Contents };
+    ghost Value = { BoardContents };
 
-    ghost use Rattle.sparse_board.specs.Kept.{IsKept, contents_of};
+    ghost use Rattle.sparse_board.specs.Kept.{IsSparseBoardKept, contents_of};
 
     ghost view = { contents_of };
 
-    ghost invariant = { IsKept };
+    ghost invariant = { IsSparseBoardKept };
 }
 
 impl Tableau for Board {

@@ -1,8 +1,8 @@
 //! The two cost rows.
 ghost use Rattle.std.specs.Prelude.{◌≡◌, ◌<◌, ◌≤◌, ◌||◌, ℕ, IsTrue, not, OnOk};
-ghost use Rattle.sparse_board.specs.Mixed.{IsBoth, IsLowered, number_of, units_of, width_of};
-ghost use Rattle.tableau_core.specs.Numbers.{costs_fit, differences_fit};
-ghost use Rattle.sparse_board.specs.Lowering.{IsPrepared};
+ghost use Rattle.sparse_board.specs.Mixed.{IsBoth, IsMixedLowered, number_of, units_of, width_of};
+ghost use Rattle.tableau_core.specs.BoardNumbers.{costs_fit, differences_fit};
+ghost use Rattle.sparse_board.specs.Lowering.{IsMixedPrepared};
 ghost use Rattle.sparse_board.specs.Testing.{IsTest};
 
 use crate::row::Row;
@@ -32,8 +32,8 @@ impl CostRows {
             (number_of self.old.first.now) (number_of self.old.second.now)
             (units_of step.now)) result }
         ensures first_ready { OnOk result
-            (IsTrue self.old.in_first → IsPrepared q step.now self.new.first) }
-        ensures second_ready { OnOk result (IsPrepared q step.now self.new.second) }
+            (IsTrue self.old.in_first → IsMixedPrepared q step.now self.new.first) }
+        ensures second_ready { OnOk result (IsMixedPrepared q step.now self.new.second) }
     {
         prepare_if(self.in_first, &mut self.first, q, step)?;
         self.second.prepare(q, step)
@@ -41,14 +41,15 @@ impl CostRows {
 
     // Puts in place what was worked out.
     pub(crate) fn settle(&mut self, q: u32, step: &Step)
-        requires first { IsTrue self.old.in_first → IsPrepared q step.now self.old.first }
-        requires second { IsPrepared q step.now self.old.second }
+        requires first { IsTrue self.old.in_first → IsMixedPrepared q step.now self.old.first }
+        requires second { IsMixedPrepared q step.now self.old.second }
         ensures use_stays { self.new.in_first ≡ self.old.in_first }
         ensures first_wide { width_of self.new.first.now ≡ width_of self.old.first.now }
         ensures first_lowered { IsTrue self.old.in_first
-            → IsLowered (number_of self.old.first.now q) (units_of step.now)
+            → IsMixedLowered (number_of self.old.first.now q) (units_of step.now)
             self.old.first.now self.new.first.now }
-        ensures second_lowered { IsLowered (number_of self.old.second.now q) (units_of step.now)
+        ensures second_lowered { IsMixedLowered (number_of self.old.second.now q)
+            (units_of step.now)
             self.old.second.now self.new.second.now }
     {
         settle_if(self.in_first, &mut self.first, q, step);
@@ -65,17 +66,17 @@ fn prepare_if(used: bool, row: &mut Row, q: u32, step: &Step) -> Result<(), Numb
     ensures stays { row.new.now ≡ row.old.now }
     ensures fits { IsTest (not used || differences_fit (width_of row.old.now)
         (number_of row.old.now) (number_of row.old.now q) (units_of step.now)) result }
-    ensures ok { OnOk result (IsTrue used → IsPrepared q step.now row.new) }
+    ensures ok { OnOk result (IsTrue used → IsMixedPrepared q step.now row.new) }
 {
     if used { row.prepare(q, step) } else { Ok(()) }
 }
 
 #[inline(never)]
 fn settle_if(used: bool, row: &mut Row, q: u32, step: &Step)
-    requires { IsTrue used → IsPrepared q step.now row.old }
+    requires { IsTrue used → IsMixedPrepared q step.now row.old }
     ensures width { width_of row.new.now ≡ width_of row.old.now }
     ensures lowered { IsTrue used
-        → IsLowered (number_of row.old.now q) (units_of step.now) row.old.now row.new.now }
+        → IsMixedLowered (number_of row.old.now q) (units_of step.now) row.old.now row.new.now }
 {
     if used {
         row.settle(q, step);

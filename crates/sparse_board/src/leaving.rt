@@ -4,10 +4,10 @@ ghost use Rattle.ratio_core.specs.Rational.{zero_ℚ, ◌/ℚ◌, ◌‹ℚ◌};
 ghost use Rattle.simplex_form.specs.Search.{best_below, better_of};
 ghost use Rattle.simplex_form.specs.Turns.{is_below};
 ghost use Rattle.tableau_core.specs.Leaving.{comes_before};
-ghost use Rattle.sparse_board.specs.Leaving.{IsBestTo, IsCandidate, leaves_before, may_leave};
+ghost use Rattle.sparse_board.specs.Leaving.{IsBestTo, IsSparseCandidate, leaves_before, may_leave};
 ghost use Rattle.sparse_board.specs.Mixed.{number_of, width_of};
-ghost use Rattle.sparse_board.specs.Marking.{AreMarked};
-ghost use Rattle.sparse_board.specs.Rows.{AreWide};
+ghost use Rattle.sparse_board.specs.Marking.{AreNumbersMarked};
+ghost use Rattle.sparse_board.specs.Rows.{AreSparseRowsWide};
 ghost use Rattle.sparse_board.specs.Words.{Clears};
 ghost use Rattle.std.specs.Int.{bit_at};
 ghost use Rattle.whole_rows.specs.Rows as whole;
@@ -31,15 +31,15 @@ pub(crate) fn leaving(
     side: usize,
     q: usize,
 ) -> Option<usize>
-    requires wide { AreWide (side + 1) rows.now }
+    requires wide { AreSparseRowsWide (side + 1) rows.now }
     requires column { q < side }
     requires basis { length basis.now ≡ length rows.now }
     requires columns { marks.now.columns ≡ side + 1 }
     requires count { marks.now.rows ≡ length rows.now }
-    requires marked { AreMarked (side + 1) marks.now rows.now }
+    requires marked { AreNumbersMarked (side + 1) marks.now rows.now }
     ensures value { result ≡ best_below (length rows.now) (may_leave rows.now q)
         (leaves_before rows.now basis.now side q) }
-    ensures candidate { IfSome result (λ r. IsCandidate rows.now q r) }
+    ensures candidate { IfSome result (λ r. IsSparseCandidate rows.now q r) }
 {
     let mut best = None;
     for k in 0..marks.stride() {
@@ -53,7 +53,7 @@ pub(crate) fn leaving(
 // `start`. The entries lie far apart: none is waited for before the next is asked for.
 #[inline]
 fn positive_bits(rows: &[Row], side: usize, q: usize, start: usize, word: u64) -> u64
-    requires wide { AreWide (side + 1) rows.now }
+    requires wide { AreSparseRowsWide (side + 1) rows.now }
     requires column { q < side }
     requires start { start ≤ length rows.now }
     ensures { Clears (λ i. may_leave rows.now q i ≡ false) (length rows.now) start word result }
@@ -81,7 +81,7 @@ fn leaving_in(
     word: u64,
     first: Option<usize>,
 ) -> Option<usize>
-    requires wide { AreWide (side + 1) rows.now }
+    requires wide { AreSparseRowsWide (side + 1) rows.now }
     requires column { q < side }
     requires basis { length basis.now ≡ length rows.now }
     requires start { start ≤ length rows.now }
@@ -112,14 +112,14 @@ fn leaves_first(
     i: usize,
     best: Option<usize>,
 ) -> bool
-    requires wide { AreWide (side + 1) rows.now }
+    requires wide { AreSparseRowsWide (side + 1) rows.now }
     requires column { q < side }
     requires basis { length basis.now ≡ length rows.now }
     requires row { i < length rows.now }
-    requires best { IfSome best (λ k. IsCandidate rows.now q k) }
+    requires best { IfSome best (λ k. IsSparseCandidate rows.now q k) }
     ensures value { better_of (may_leave rows.now q) (leaves_before rows.now basis.now side q) best i
         ≡ (if result then Some i else best) }
-    ensures candidate { IsTrue result → IsCandidate rows.now q i }
+    ensures candidate { IsTrue result → IsSparseCandidate rows.now q i }
 {
     let row = &rows[i];
     if !is_entry_positive(&row.now, q) {

@@ -2,10 +2,10 @@
 ghost use Rattle.std.specs.Prelude.{◌≡◌, ◌≢◌, ◌+◌, ◌<◌, ◌≤◌, ◌^◌, ◌↔◌, ℕ, IsTrue, length, slice_index, is_ok, IfOk, OnOk};
 ghost use Rattle.ratio_core.specs.Rational.{zero_ℚ, ◌*ℚ◌, ◌-ℚ◌};
 ghost use Rattle.simplex_form.specs.Fit.{lowered_fits};
-ghost use Rattle.sparse_board.specs.Sparse.{AreUnits, IsBelow, IsSplit, number_among};
+ghost use Rattle.sparse_board.specs.Sparse.{AreColumnsBelow, AreColumnsSplit, AreUnits, number_among};
 ghost use Rattle.sparse_board.specs.Numbers.{Copies, CopiesTo, IsReadyAt, number_of, row_columns, width_of};
-ghost use Rattle.tableau_core.specs.Numbers.{differences_fit, quotients_fit};
-ghost use Rattle.sparse_board.specs.Lowering.{IsDivided, IsLowered, IsLoweredBeside};
+ghost use Rattle.tableau_core.specs.BoardNumbers.{differences_fit, quotients_fit};
+ghost use Rattle.sparse_board.specs.Lowering.{IsMixedLoweredBeside, IsSparseDivided, IsSparseLowered};
 ghost use Rattle.sparse_board.specs.Mixed as mixed;
 
 use crate::entry::Entry;
@@ -21,7 +21,7 @@ pub(crate) fn divide(row: &SparseRow, by: &Ratio, next: &mut SparseRow) -> Resul
     requires width { width_of next.old ≡ width_of row.now }
     ensures width { width_of next.new ≡ width_of next.old }
     ensures fits { is_ok result ≡ quotients_fit (width_of row.now) (number_of row.now) by.now }
-    ensures ok { OnOk result (IsDivided by.now row.now next.new) }
+    ensures ok { OnOk result (IsSparseDivided by.now row.now next.new) }
 {
     next.clear();
     for k in 0..row.entries.len() {
@@ -45,7 +45,8 @@ pub(crate) fn lower_mixed(
     ensures width { width_of next.new ≡ width_of next.old }
     ensures fits { is_ok result ≡ differences_fit (mixed.width_of row.now)
         (mixed.number_of row.now) by.now (mixed.units_of step.now) }
-    ensures ok { OnOk result (IsLoweredBeside by.now (mixed.units_of step.now) row.now next.new) }
+    ensures ok { OnOk result
+        (IsMixedLoweredBeside by.now (mixed.units_of step.now) row.now next.new) }
 {
     let width = row.width;
     if row.is_wide && step.is_spread {
@@ -92,7 +93,7 @@ pub(crate) fn lower(
     ensures width { width_of next.new ≡ width_of next.old }
     ensures fits { is_ok result ≡ differences_fit (width_of row.now) (number_of row.now) by.now
         (number_among units.now) }
-    ensures ok { OnOk result (IsLowered by.now (number_among units.now) row.now next.new) }
+    ensures ok { OnOk result (IsSparseLowered by.now (number_among units.now) row.now next.new) }
 {
     next.clear();
     let mut i = 0;
@@ -119,7 +120,7 @@ fn lower_at(
     requires width { width_of next.old ≡ width_of row.now }
     ensures width { width_of next.new ≡ width_of next.old }
     ensures fits { is_ok result ≡ lowered_fits (number_of row.now column) by.now unit.now }
-    ensures split { IfOk result (λ end. IsSplit (column + 1) end (row_columns row.now)) }
+    ensures split { IfOk result (λ end. AreColumnsSplit (column + 1) end (row_columns row.now)) }
     ensures copied { OnOk result (CopiesTo row.now i column
         (number_of row.now column -ℚ by.now *ℚ unit.now) next.old next.new) }
 {
@@ -140,8 +141,8 @@ fn copy_below(row: &SparseRow, i: usize, column: u32, next: &mut SparseRow) -> u
     requires ready { IsReadyAt column row.now i next.old }
     requires width { width_of next.old ≡ width_of row.now }
     ensures width { width_of next.new ≡ width_of next.old }
-    ensures split { IsSplit column result (row_columns row.now) }
-    ensures below { IsBelow column (row_columns next.new) }
+    ensures split { AreColumnsSplit column result (row_columns row.now) }
+    ensures below { AreColumnsBelow column (row_columns next.new) }
     ensures copied { Copies row.now i column next.old next.new }
 {
     for end in i..row.entries.len() {

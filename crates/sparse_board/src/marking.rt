@@ -3,10 +3,10 @@ ghost use Rattle.std.specs.Prelude.{◌≡◌, ◌+◌, ◌<◌, ◌≤◌, ◌^
 ghost use Rattle.ratio_core.specs.Rational.{zero_ℚ};
 ghost use Rattle.sparse_board.specs.Mixed as mixed;
 ghost use Rattle.sparse_board.specs.Numbers.{number_of, width_of};
-ghost use Rattle.sparse_board.specs.Rows.{AreWide, number_in_row};
+ghost use Rattle.sparse_board.specs.Rows.{AreSparseRowsWide, number_in_row};
 ghost use Rattle.sparse_board.specs.Words.{Clears};
 ghost use Rattle.sparse_board.specs.Marks.{SameSizes, has};
-ghost use Rattle.sparse_board.specs.Marking.{AreMarked, KeepMarks, MarksNumbers, MarksRow, MarksUnits};
+ghost use Rattle.sparse_board.specs.Marking.{AreNumbersMarked, KeepMarks, MarksNumbers, MarksRow, MarksUnits};
 ghost use Rattle.whole_rows.specs.Rows as whole;
 
 use crate::marks::Marks;
@@ -20,12 +20,12 @@ use whole_rows::{NarrowRow, NarrowStep, is_nonzero_at};
 
 // The marks of the numbers of rows with this number of columns.
 pub(crate) fn marks_of(alloc: Global, rows: &[Row], width: usize) -> Result<Marks, AllocError>
-    requires wide { AreWide width rows.now }
+    requires wide { AreSparseRowsWide width rows.now }
     requires few { width < 2 ^ 32 }
     requires few_rows { length rows.now < 2 ^ 32 }
     ensures columns { IfOk result (λ marks. marks.columns ≡ width) }
     ensures rows { IfOk result (λ marks. marks.rows ≡ length rows.now) }
-    ensures marked { IfOk result (λ marks. AreMarked width marks rows.now) }
+    ensures marked { IfOk result (λ marks. AreNumbersMarked width marks rows.now) }
 {
     let mut marks = Marks::none(alloc, width, rows.len())?;
     for i in 0..rows.len() {
@@ -94,7 +94,8 @@ pub(crate) fn unmark_zeros(rows: &[Row], q: u32, marks: &mut Marks) -> bool
     requires column { q < marks.old.columns }
     requires rows { marks.old.rows ≡ length rows.now }
     ensures sizes { SameSizes marks.old marks.new }
-    ensures marked { (w : ℕ) → AreMarked w marks.old rows.now → AreMarked w marks.new rows.now }
+    ensures marked { (w : ℕ) → AreNumbersMarked w marks.old rows.now
+        → AreNumbersMarked w marks.new rows.now }
 {
     let mut has_wide = false;
     for k in 0..marks.stride() {

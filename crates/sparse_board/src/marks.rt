@@ -20,7 +20,7 @@ pub(crate) struct Marks {
 
 impl Marks {
     ghost use Rattle.std.specs.Prelude.{◌≤◌, ℕ, true, false, IfOk};
-    ghost use Rattle.sparse_board.specs.Marks.{AreUnmarked, IsJoined, IsPut, IsWord, IsWordPut, has};
+    ghost use Rattle.sparse_board.specs.Marks.{AreRowsUnmarked, IsJoined, IsPut, IsWord, IsWordPut, has};
 
     // No marks, in this number of columns of this number of rows.
     pub(crate) fn none(alloc: Global, columns: usize, rows: usize) -> Result<Marks, AllocError>
@@ -112,7 +112,7 @@ impl Marks {
         requires from { from ≤ self.now.rows }
         ensures from { from ≤ result }
         ensures within { result ≤ self.now.rows }
-        ensures passed { AreUnmarked self.now column from result }
+        ensures passed { AreRowsUnmarked self.now column from result }
         ensures marked { result < self.now.rows → has self.now column result ≡ true }
     {
         let place = column * self.stride + from / 64;
@@ -131,7 +131,7 @@ impl Marks {
         requires from { from ≤ self.now.rows }
         ensures from { from ≤ result }
         ensures within { result ≤ self.now.rows }
-        ensures passed { AreUnmarked self.now column from result }
+        ensures passed { AreRowsUnmarked self.now column from result }
         ensures marked { result < self.now.rows → has self.now column result ≡ true }
     {
         let mut low = from % 64;

@@ -1,11 +1,11 @@
 //! A pivot worked out beside what stands.
 ghost use Rattle.std.specs.Prelude.{◌≡◌, ◌≢◌, ◌+◌, ◌<◌, ℕ, length, OnOk};
 ghost use Rattle.ratio_core.specs.Rational.{zero_ℚ};
-ghost use Rattle.tableau_core.specs.Numbers.{IsSettled, numbers_fit, quotient_at, quotients_fit};
+ghost use Rattle.tableau_core.specs.BoardNumbers.{IsSettled, numbers_fit, quotient_at, quotients_fit};
 ghost use Rattle.sparse_board.specs.Mixed.{IsBoth, units_of, width_of};
-ghost use Rattle.sparse_board.specs.Rows.{AreWide, SameNow, number_in_row, numbers_in};
+ghost use Rattle.sparse_board.specs.Rows.{AreSparseRowsWide, SameNow, number_in_row, numbers_in};
 ghost use Rattle.sparse_board.specs.Marks.{SameSizes};
-ghost use Rattle.sparse_board.specs.Marking.{AreMarked};
+ghost use Rattle.sparse_board.specs.Marking.{AreNumbersMarked};
 ghost use Rattle.sparse_board.specs.Pivoting.{IsBoardReady};
 ghost use Rattle.sparse_board.specs.Testing.{IsTest};
 
@@ -29,10 +29,10 @@ pub(crate) fn prepare_pivot(
 ) -> Result<(), NumberFault>
     requires row { r < length rows.old }
     requires column { q + 1 < step.old.width }
-    requires wide { AreWide step.old.width rows.old }
+    requires wide { AreSparseRowsWide step.old.width rows.old }
     requires columns { marks.old.columns ≡ step.old.width }
     requires count { marks.old.rows ≡ length rows.old }
-    requires marked { AreMarked step.old.width marks.old rows.old }
+    requires marked { AreNumbersMarked step.old.width marks.old rows.old }
     requires step_wide { step.old.width ≡ width_of costs.old.second.now + 1 }
     requires first_wide { width_of costs.old.first.now ≡ width_of costs.old.second.now }
     requires nonzero { number_in_row rows.old r q ≢ zero_ℚ }
@@ -42,7 +42,7 @@ pub(crate) fn prepare_pivot(
     ensures second_stays { costs.new.second.now ≡ costs.old.second.now }
     ensures step_wide { step.new.width ≡ step.old.width }
     ensures sizes { SameSizes marks.old marks.new }
-    ensures marked { AreMarked step.old.width marks.new rows.old }
+    ensures marked { AreNumbersMarked step.old.width marks.new rows.old }
     ensures fits { IsTest (numbers_fit (width_of costs.old.second.now) r q costs.old.in_first
         (numbers_in rows.old costs.old.first.now costs.old.second.now)) result }
     ensures ok { OnOk result (IsBoardReady rows.new r q marks.new costs.new step.new) }
@@ -64,7 +64,7 @@ fn divide_row(
 ) -> Result<(), NumberFault>
     requires row { r < length rows.now }
     requires column { q + 1 < step.old.width }
-    requires wide { AreWide step.old.width rows.now }
+    requires wide { AreSparseRowsWide step.old.width rows.now }
     requires nonzero { number_in_row rows.now r q ≢ zero_ℚ }
     ensures width { step.new.width ≡ step.old.width }
     ensures fits { IsTest (quotients_fit step.old.width
@@ -88,12 +88,12 @@ pub(crate) fn settle_pivot(
 )
     requires row { r < length rows.old }
     requires column { q + 1 < step.old.width }
-    requires wide { AreWide step.old.width rows.old }
+    requires wide { AreSparseRowsWide step.old.width rows.old }
     requires columns { marks.old.columns ≡ step.old.width }
     requires count { marks.old.rows ≡ length rows.old }
-    requires marked { AreMarked step.old.width marks.old rows.old }
+    requires marked { AreNumbersMarked step.old.width marks.old rows.old }
     requires ready { IsBoardReady rows.old r q marks.old costs.old step.old }
-    ensures wide { AreWide step.old.width rows.new }
+    ensures wide { AreSparseRowsWide step.old.width rows.new }
     ensures step_wide { step.new.width ≡ step.old.width }
     ensures use_stays { costs.new.in_first ≡ costs.old.in_first }
     ensures first_wide { width_of costs.new.first.now ≡ width_of costs.old.first.now }
@@ -104,7 +104,7 @@ pub(crate) fn settle_pivot(
         (numbers_in rows.old costs.old.first.now costs.old.second.now)
         (numbers_in rows.new costs.new.first.now costs.new.second.now) }
     ensures sizes { SameSizes marks.old marks.new }
-    ensures marked { AreMarked step.old.width marks.new rows.new }
+    ensures marked { AreNumbersMarked step.old.width marks.new rows.new }
 {
     settle_rows(rows, r, q, step, marks);
     mark_step(step, q, marks);

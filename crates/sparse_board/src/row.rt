@@ -23,9 +23,9 @@ pub(crate) struct Row {
 }
 
 impl Row {
-    ghost use Rattle.tableau_core.specs.Numbers.{differences_fit};
-    ghost use Rattle.sparse_board.specs.Mixed.{IsLeft, IsLowered};
-    ghost use Rattle.sparse_board.specs.Lowering.{HasRoom, IsFinished, IsPrepared, IsReady};
+    ghost use Rattle.tableau_core.specs.BoardNumbers.{differences_fit};
+    ghost use Rattle.sparse_board.specs.Mixed.{IsLeft, IsMixedLowered};
+    ghost use Rattle.sparse_board.specs.Lowering.{HasRoomForFractions, IsFinished, IsMixedPrepared, IsMixedReady};
     ghost use Rattle.sparse_board.specs.Testing.{IsTest};
 
     // A row of these fractions, with whole numbers for this number of columns.
@@ -63,7 +63,7 @@ impl Row {
         ensures stays { self.new.now ≡ self.old.now }
         ensures fits { IsTest (differences_fit (width_of self.old.now)
             (number_of self.old.now) (number_of self.old.now q) (units_of step.now)) result }
-        ensures ok { OnOk result (IsPrepared q step.now self.new) }
+        ensures ok { OnOk result (IsMixedPrepared q step.now self.new) }
     {
         if is_in_place(&self.now, step) {
             return Ok(self.make_room(q, step)?);
@@ -81,7 +81,7 @@ impl Row {
         ensures stays { self.new.now ≡ self.old.now }
         ensures fits { IsTest (differences_fit (width_of self.old.now)
             (number_of self.old.now) (number_of self.old.now q) (units_of step.now)) result }
-        ensures ok { OnOk result (IsPrepared q step.now self.new) }
+        ensures ok { OnOk result (IsMixedPrepared q step.now self.new) }
     {
         let by = self.now.number(q);
         if by.is_zero() {
@@ -97,7 +97,7 @@ impl Row {
     #[inline(always)]
     fn make_room(&mut self, q: u32, step: &Step) -> Result<(), AllocError>
         ensures stays { self.new.now ≡ self.old.now }
-        ensures room { OnOk result (HasRoom q step.now self.new) }
+        ensures room { OnOk result (HasRoomForFractions q step.now self.new) }
     {
         if !self.now.narrow.may_pass(&step.narrow, q as usize) {
             return Ok(());
@@ -107,8 +107,8 @@ impl Row {
 
     // Puts in place what was worked out.
     pub(crate) fn settle(&mut self, q: u32, step: &Step)
-        requires { IsPrepared q step.now self.old }
-        ensures { IsLowered (number_of self.old.now q) (units_of step.now) self.old.now self.new.now }
+        requires { IsMixedPrepared q step.now self.old }
+        ensures { IsMixedLowered (number_of self.old.now q) (units_of step.now) self.old.now self.new.now }
     {
         self.ready(q, step);
         self.finish(step);
@@ -117,8 +117,8 @@ impl Row {
     // The same, but for a multiple of the step by which a row of whole numbers is to be lowered then.
     #[inline(always)]
     pub(crate) fn ready(&mut self, q: u32, step: &Step)
-        requires { IsPrepared q step.now self.old }
-        ensures { IsReady q step.now self.old self.new }
+        requires { IsMixedPrepared q step.now self.old }
+        ensures { IsMixedReady q step.now self.old self.new }
     {
         if is_in_place(&self.now, step) {
             self.left = self.now.ready(&step.narrow, q as usize, &mut self.next);

@@ -1,9 +1,9 @@
 //! The rows other than the pivot's.
 ghost use Rattle.std.specs.Prelude.{◌≡◌, ◌<◌, length, OnOk};
 ghost use Rattle.sparse_board.specs.Mixed.{IsBoth, units_of};
-ghost use Rattle.sparse_board.specs.Rows.{AreLowered, AreWide, SameNow, SameWidths, now_at, rows_fit};
-ghost use Rattle.sparse_board.specs.Marking.{AreChanged, AreLeft, AreMarked, ArePrepared};
-ghost use Rattle.sparse_board.specs.Lowering.{IsFinished, IsReady};
+ghost use Rattle.sparse_board.specs.Rows.{AreSparseRowsLowered, AreSparseRowsWide, SameNow, SameWidths, now_at, rows_fit};
+ghost use Rattle.sparse_board.specs.Marking.{AreChanged, AreLeft, AreMarkedPrepared, AreNumbersMarked};
+ghost use Rattle.sparse_board.specs.Lowering.{IsFinished, IsMixedReady};
 ghost use Rattle.sparse_board.specs.Testing.{IsTest};
 
 use crate::marks::Marks;
@@ -21,15 +21,15 @@ pub(crate) fn prepare_rows(
     step: &Step,
     marks: &Marks,
 ) -> Result<(), NumberFault>
-    requires wide { AreWide step.now.width rows.old }
+    requires wide { AreSparseRowsWide step.now.width rows.old }
     requires column { q < step.now.width }
     requires columns { marks.now.columns ≡ step.now.width }
     requires count { marks.now.rows ≡ length rows.old }
-    requires marked { AreMarked step.now.width marks.now rows.old }
+    requires marked { AreNumbersMarked step.now.width marks.now rows.old }
     requires both { IsBoth step.now }
     ensures stays { SameNow rows.old rows.new }
     ensures fits { IsTest (rows_fit step.now.width r q (units_of step.now) rows.old) result }
-    ensures ok { OnOk result (ArePrepared r q step.now marks.now rows.new) }
+    ensures ok { OnOk result (AreMarkedPrepared r q step.now marks.now rows.new) }
 {
     let mut i = marks.next_row(q as usize, 0);
     while i < rows.len() {
@@ -46,15 +46,15 @@ pub(crate) fn prepare_rows(
 // those of the next. While they are lowered nothing is asked of a row that comes later.
 #[inline(never)]
 pub(crate) fn settle_rows(rows: &mut [Row], r: usize, q: u32, step: &Step, marks: &Marks)
-    requires wide { AreWide step.now.width rows.old }
+    requires wide { AreSparseRowsWide step.now.width rows.old }
     requires column { q < step.now.width }
     requires columns { marks.now.columns ≡ step.now.width }
     requires count { marks.now.rows ≡ length rows.old }
-    requires marked { AreMarked step.now.width marks.now rows.old }
-    requires ready { ArePrepared r q step.now marks.now rows.old }
+    requires marked { AreNumbersMarked step.now.width marks.now rows.old }
+    requires ready { AreMarkedPrepared r q step.now marks.now rows.old }
     ensures widths { SameWidths rows.old rows.new }
     ensures stays { now_at rows.new r ≡ now_at rows.old r }
-    ensures lowered { AreLowered r q (units_of step.now) rows.old rows.new }
+    ensures lowered { AreSparseRowsLowered r q (units_of step.now) rows.old rows.new }
 {
     ready_rows(rows, r, q, step, marks);
     finish_rows(rows, r, q, step, marks);
@@ -64,8 +64,8 @@ pub(crate) fn settle_rows(rows: &mut [Row], r: usize, q: u32, step: &Step, marks
 fn ready_rows(rows: &mut [Row], r: usize, q: u32, step: &Step, marks: &Marks)
     requires column { q < marks.now.columns }
     requires count { marks.now.rows ≡ length rows.old }
-    requires ready { ArePrepared r q step.now marks.now rows.old }
-    ensures { AreChanged (IsReady q step.now) r q marks.now rows.old rows.new }
+    requires ready { AreMarkedPrepared r q step.now marks.now rows.old }
+    ensures { AreChanged (IsMixedReady q step.now) r q marks.now rows.old rows.new }
 {
     let mut i = marks.next_row(q as usize, 0);
     while i < rows.len() {

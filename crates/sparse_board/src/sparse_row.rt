@@ -3,7 +3,7 @@ ghost use Rattle.std.specs.Prelude.{◌≡◌, ◌≢◌, ◌<◌, ◌≤◌, []
 ghost use Rattle.std.specs.List.Sorted.{IsBinarySearchResult, IsSearchInRange};
 ghost use Rattle.std.specs.Ordering.{nat_cmp};
 ghost use Rattle.ratio_core.specs.Rational.{Fits, zero_ℚ};
-ghost use Rattle.sparse_board.specs.Sparse.{IsBelow, IsSparse, IsSplit, columns_in, values_in};
+ghost use Rattle.sparse_board.specs.Sparse.{AreColumnsBelow, AreColumnsSplit, IsSparse, columns_in, values_in};
 
 use crate::entry::Entry;
 use ratio_core::Ratio;
@@ -15,11 +15,11 @@ use std::alloc::{AllocError, Global};
 pub(crate) struct SparseRow {
     pub(crate) entries: Vec<Entry>,
     ghost sparse: { IsSparse (columns_in entries.items) (values_in entries.items) },
-    ghost within: { IsBelow (vec_capacity entries) (columns_in entries.items) },
+    ghost within: { AreColumnsBelow (vec_capacity entries) (columns_in entries.items) },
 }
 
 impl SparseRow {
-    ghost use Rattle.sparse_board.specs.Numbers.{Adds, number_of, row_columns, width_of};
+    ghost use Rattle.sparse_board.specs.Numbers.{AppendsNumber, number_of, row_columns, width_of};
 
     // Zeros in this number of columns.
     pub(crate) fn zeros(alloc: Global, width: usize) -> Result<SparseRow, AllocError>
@@ -73,7 +73,7 @@ impl SparseRow {
     // How many of the numbers that aren't 0 are of columns below this one.
     pub(crate) fn count_below(&self, column: u32) -> usize
         ensures within { result ≤ length self.now.entries.items }
-        ensures split { IsSplit column result (row_columns self.now) }
+        ensures split { AreColumnsSplit column result (row_columns self.now) }
     {
         match self.place_of(column) {
             Ok(place) => place,
@@ -84,11 +84,11 @@ impl SparseRow {
     // A number that isn't 0, of a column past those of the others.
     #[inline]
     pub(crate) fn push(&mut self, column: u32, value: Ratio)
-        requires above { IsBelow column (row_columns self.old) }
+        requires above { AreColumnsBelow column (row_columns self.old) }
         requires within { column < width_of self.old }
         requires other { value ≢ zero_ℚ }
         requires fits { Fits value }
-        ensures { Adds column value self.old self.new }
+        ensures { AppendsNumber column value self.old self.new }
     {
         self.entries.push_reserved(Entry { column, value });
     }
@@ -96,10 +96,10 @@ impl SparseRow {
     // The same of any number.
     #[inline]
     pub(crate) fn push_any(&mut self, column: u32, value: Ratio)
-        requires above { IsBelow column (row_columns self.old) }
+        requires above { AreColumnsBelow column (row_columns self.old) }
         requires within { column < width_of self.old }
         requires fits { Fits value }
-        ensures { Adds column value self.old self.new }
+        ensures { AppendsNumber column value self.old self.new }
     {
         if !value.is_zero() {
             self.push(column, value);

@@ -7,7 +7,7 @@ ghost use Rattle.tableau_core.specs.Start.{AtEachStart};
 ghost use Rattle.sparse_board.specs.Mixed.{number_of, width_of};
 ghost use Rattle.sparse_board.specs.Numbers as sparse;
 ghost use Rattle.sparse_board.specs.Numbers.{HoldsBelow};
-ghost use Rattle.sparse_board.specs.Rows.{AreWide, number_in_row};
+ghost use Rattle.sparse_board.specs.Rows.{AreSparseRowsWide, number_in_row};
 
 use crate::row::Row;
 use crate::sparse_row::SparseRow;
@@ -28,7 +28,7 @@ pub(crate) fn start_rows(
     requires right { length right.now ≡ m }
     requires few { c + m + 1 < 2 ^ 32 }
     ensures count { IfOk result (λ rows. length rows.items ≡ m) }
-    ensures wide { IfOk result (λ rows. AreWide (c + m + 1) rows.items) }
+    ensures wide { IfOk result (λ rows. AreSparseRowsWide (c + m + 1) rows.items) }
     ensures entries { IfOk result (λ rows. AtEachStart m c matrix.now (λ F s.
         (i j : ℕ) → i < m → j < c + m → number_in_row rows.items i j ≡ entry F s j i)) }
     ensures sides { IfOk result (λ rows.

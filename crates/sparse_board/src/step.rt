@@ -29,7 +29,7 @@ pub(crate) struct Step {
 impl Step {
     ghost use Rattle.std.specs.Prelude.{◌≢◌, ℕ, true, IfOk, OnOk};
     ghost use Rattle.ratio_core.specs.Rational.{zero_ℚ, ◌/ℚ◌};
-    ghost use Rattle.tableau_core.specs.Numbers.{quotients_fit};
+    ghost use Rattle.tableau_core.specs.BoardNumbers.{quotients_fit};
     ghost use Rattle.sparse_board.specs.Numbers as sparse;
     ghost use Rattle.sparse_board.specs.Mixed as mixed;
     ghost use Rattle.sparse_board.specs.Testing.{IsTest};

@@ -12,8 +12,8 @@ abbrev pub padded : ℕ → List Rational → List Rational
 padded n list = list ++ replicate (n - length list) zero_ℚ
 
 -- the places rise
-abbrev pub Rise : List (ℕ × Rational) → Type 0
-Rise terms = (to : ℕ) × AreTerms 0 to terms
+abbrev pub PlacesRise : List (ℕ × Rational) → Type 0
+PlacesRise terms = (to : ℕ) × AreTerms 0 to terms
 
 -- `all` is the list with zeros behind it
 abbrev pub IsStartOf : List Rational → List Rational → Type 0

@@ -8,7 +8,7 @@ use Rattle.ratio_core.specs.Rational.{Rational, neg_ℚ, zero_ℚ}
 use Rattle.rational_laws.specs.Field.{neg_ℚ-zero}
 use Rattle.sparse_ratios.specs.Terms.{AreTerms, number_at}
 use Rattle.sparse_ratios.specs.TermLaws.{number_before, number_here, number_later}
-use Rattle.sparse_lists.specs.Across.{ArePutAcross, IsPutIn, IsStartOf, Rise, list_at, padded}
+use Rattle.sparse_lists.specs.Across.{ArePutAcross, IsPutIn, IsStartOf, PlacesRise, list_at, padded}
 
 -- ---- starts
 
@@ -72,7 +72,7 @@ pub record IsAcrossTo (place : ℕ) (number : ℕ → Rational) (all left : List
   pub low : (b : ℕ) → length (list_at after b) ≤ place + 1
 
 pub across_none : (place : ℕ) (number : ℕ → Rational) (all : List (ℕ × Rational))
-    (lists : List (List Rational)) → Rise all → ((b : ℕ) → length (list_at lists b) ≤ place)
+    (lists : List (List Rational)) → PlacesRise all → ((b : ℕ) → length (list_at lists b) ≤ place)
     → IsAcrossTo place number all all lists lists
 across_none place number all lists h low = record {
   next = 0;

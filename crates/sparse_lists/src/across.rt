@@ -2,7 +2,7 @@
 ghost use Rattle.std.specs.Prelude.{◌≡◌, ◌≢◌, ◌+◌, ◌<◌, ◌≤◌, ℕ, [], cond, length, IfOk, OnOk};
 ghost use Rattle.ratio_core.specs.Rational.{neg_ℚ};
 ghost use Rattle.sparse_ratios.specs.Terms.{number_at};
-ghost use Rattle.sparse_lists.specs.Across.{ArePutAcross, IsPutIn, Rise, list_at};
+ghost use Rattle.sparse_lists.specs.Across.{ArePutAcross, IsPutIn, PlacesRise, list_at};
 
 use lists::Memory;
 use ratio_core::Ratio;
@@ -30,7 +30,7 @@ pub fn put_across(
     negated: bool,
     terms: &[(usize, Ratio)],
 ) -> Result<(), Memory>
-    requires rise { Rise terms.now }
+    requires rise { PlacesRise terms.now }
     requires low { (b : ℕ) → length (list_at lists.old b) ≤ place }
     ensures { OnOk result (ArePutAcross place
         (λ b. cond negated (neg_ℚ (number_at terms.now b)) (number_at terms.now b))

@@ -5,7 +5,7 @@ use Rattle.std.proofs.lemmas.Bool.{cases_lt}
 use Rattle.std.proofs.lemmas.List.{get_or_past}
 use Rattle.ratio_core.specs.Rational.{Rational, zero_ℚ}
 use Rattle.sparse_ratios.specs.declared.ratios.SparseRatios.TheInside.{Inside}
-use Rattle.sparse_ratios.specs.Kept.{IsKept, numbers_in}
+use Rattle.sparse_ratios.specs.Kept.{AreTermsKept, numbers_in}
 use Rattle.sparse_ratios.specs.Terms.{AreTerms, Puts, number_at, numbers_of}
 use Rattle.sparse_ratios.specs.TermLaws.{cell-numbers_of, length-numbers_of, number_past, numbers_put, numbers_zeros}
 
@@ -16,7 +16,8 @@ module _ (a : Inside) (list : List Rational) (view : numbers_in a ≡ list) wher
   pub kept_below : (n : ℕ) → length list ≤ n → a.len ≤ n
   kept_below n b = subst (λ k. k ≤ n) (sym kept_long) b
 
-  pub kept_number : IsKept a → (k : ℕ) → number_at a.terms.items k ≡ slice_index_or list k zero_ℚ
+  pub kept_number : AreTermsKept a → (k : ℕ)
+      → number_at a.terms.items k ≡ slice_index_or list k zero_ℚ
   kept_number h k = by_end (cases_lt k a.len)
     where
       by_end : (k < a.len) ⊎ (a.len ≤ k)
@@ -28,7 +29,7 @@ module _ (a : Inside) (list : List Rational) (view : numbers_in a ≡ list) wher
           number_past 0 a.len a.terms.items k h.terms b
           ∙ sym (get_or_past list k zero_ℚ (subst (λ n. n ≤ k) kept_long b))
 
-  pub kept_padded : (n : ℕ) → IsKept a → length list ≤ n
+  pub kept_padded : (n : ℕ) → AreTermsKept a → length list ≤ n
       → numbers_of n a.terms.items ≡ list ++ replicate (n - length list) zero_ℚ
   kept_padded n h b =
       ap (λ k. numbers_of k a.terms.items) (back_lem (length list) n b ∙ ap (λ k. k + (n - length list)) (sym kept_long))
@@ -38,7 +39,8 @@ module _ (a : Inside) (list : List Rational) (view : numbers_in a ≡ list) wher
       back_lem : (l n : ℕ) → l ≤ n → n ≡ l + (n - l)
       back_lem l n b = omega (arith, b)
 
-  pub kept_put : (p : ℕ) (x : Rational) (next : List (ℕ × Rational)) → IsKept a → length list ≤ p
+  pub kept_put : (p : ℕ) (x : Rational) (next : List (ℕ × Rational)) → AreTermsKept a
+      → length list ≤ p
       → Puts p x a.terms.items next
       → numbers_of (p + 1) next ≡ (list ++ replicate (p - length list) zero_ℚ) ++ x ∷ []
   kept_put p x next h b put =

@@ -7,6 +7,6 @@ use Rattle.sparse_ratios.specs.Terms.{AreTerms, HaveNoZeros, numbers_of}
 abbrev pub numbers_in : Inside → List Rational
 numbers_in a = numbers_of a.len a.terms.items
 
-pub record IsKept (a : Inside) : Type 0 where
+pub record AreTermsKept (a : Inside) : Type 0 where
   pub terms : AreTerms 0 a.len a.terms.items
   pub nonzero : HaveNoZeros a.terms.items

@@ -6,7 +6,7 @@ use Rattle.std.proofs.lemmas.Bool.{cond-true, eq-eqb, eqb-true}
 use Rattle.std.proofs.lemmas.List.{append-nil, append_assoc, length-drop, replicate-append-replicate, same_lists, take_all}
 use Rattle.std.proofs.lemmas.List.FromFn.{get_or-map-range_with_len, length-map-range_with_len, map-range_with_len_more}
 use Rattle.ratio_core.specs.Rational.{Rational, zero_ℚ}
-use Rattle.sparse_ratios.specs.Terms.{AreTerms, HaveNoZeros, IsSplit, Puts, number_at, numbers_of}
+use Rattle.sparse_ratios.specs.Terms.{AreTerms, AreTermsSplit, HaveNoZeros, Puts, number_at, numbers_of}
 
 -- ---- the number at a place
 

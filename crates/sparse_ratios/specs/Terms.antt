@@ -23,7 +23,7 @@ HaveNoZeros [] = Unit {0}
 HaveNoZeros (t ∷ ts) = ¬ (t.1 ≡ zero_ℚ) × HaveNoZeros ts
 
 -- the first n terms are those at places below b
-pub record IsSplit (b n : ℕ) (ts : List (ℕ × Rational)) : Type 0 where
+pub record AreTermsSplit (b n : ℕ) (ts : List (ℕ × Rational)) : Type 0 where
   pub before : (k : ℕ) (d : ℕ × Rational) → k < n → (slice_index_or ts k d).0 < b
   pub after : (k : ℕ) (d : ℕ × Rational) → n ≤ k → k < length ts → b ≤ (slice_index_or ts k d).0
 

@@ -1,7 +1,7 @@
 //! A list of numbers, of which those that aren't 0 are kept.
 ghost use Rattle.std.specs.Prelude.{◌≡◌, ◌+◌, ◌-◌, ◌<◌, ◌≤◌, ℕ, [], ◌∷◌, ◌++◌, IfOk, OnErr, OnOk, length, replicate, slice_index_or};
 ghost use Rattle.ratio_core.specs.Rational.{zero_ℚ};
-ghost use Rattle.sparse_ratios.specs.Terms.{AreTerms, HaveNoZeros, IsSplit, Puts, number_at};
+ghost use Rattle.sparse_ratios.specs.Terms.{AreTerms, AreTermsSplit, HaveNoZeros, Puts, number_at};
 
 use lists::Memory;
 use ratio_core::Ratio;
@@ -22,11 +22,11 @@ impl Model for SparseRatios {
 
     ghost Value = { List Rational };
 
-    ghost use Rattle.sparse_ratios.specs.Kept.{IsKept, numbers_in};
+    ghost use Rattle.sparse_ratios.specs.Kept.{AreTermsKept, numbers_in};
 
     ghost view = { numbers_in };
 
-    ghost invariant = { IsKept };
+    ghost invariant = { AreTermsKept };
 }
 
 impl SparseRatios {
@@ -145,7 +145,8 @@ fn past(terms: &[(usize, Ratio)], place: usize) -> &[(usize, Ratio)]
 // How many terms are at places below this one.
 fn count_below(terms: &[(usize, Ratio)], place: usize) -> usize
     ensures within { result ≤ length terms.now }
-    ensures split { (from to : ℕ) → AreTerms from to terms.now → IsSplit place result terms.now }
+    ensures split { (from to : ℕ) → AreTerms from to terms.now
+        → AreTermsSplit place result terms.now }
 {
     terms.partition_point(|(at, _)| *at < place)
 }

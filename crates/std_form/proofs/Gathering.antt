@@ -11,7 +11,7 @@ use Rattle.std.proofs.lemmas.List.{get_or-map, get_or_default, length-append, le
 use Rattle.ratio_core.specs.Rational.{Rational, neg_ℚ, one_ℚ, zero_ℚ}
 use Rattle.sparse_ratios.specs.Terms.{AreTerms, number_at}
 use Rattle.sparse_ratios.specs.TermLaws.{number_here, number_later}
-use Rattle.sparse_lists.specs.Across.{ArePutAcross, GrowBy, IsStartOf, Rise, list_at, padded}
+use Rattle.sparse_lists.specs.Across.{ArePutAcross, GrowBy, IsStartOf, PlacesRise, list_at, padded}
 use Rattle.sparse_lists.specs.AcrossLaws.{start_cell, start_none, start_padded}
 use Rattle.sparse_lists.specs.GrowthLaws.{grow_none, grow_one, grow_same, grow_then, put_same}
 use Rattle.sparse_lists.specs.JoinedLaws.{flat_map_more}
@@ -63,13 +63,13 @@ rise_past x (t ∷ ts) h s =
     let low : x < t.0 = below_lt x t.0 first.0 in
     (rest.0, omega (arith, low, rest.1), (omega (arith, low), rest.1, rest.2))
 
-pub terms_rise : (ts : List (ℕ × Rational)) → RiseBy nat_cmp ts → Rise ts
+pub terms_rise : (ts : List (ℕ × Rational)) → RiseBy nat_cmp ts → PlacesRise ts
 terms_rise [] h = (0, tt)
 terms_rise (t ∷ ts) h =
     let parts = both (below_all nat_cmp t.0 ts) (is_sorted nat_cmp ts) h.rising in
     let rest = rise_past t.0 ts parts.0 parts.1 in (rest.0, (omega arith, rest.1, rest.2))
 
-pub one_rises : (v : ℕ) (x : Rational) → Rise ((v, x) ∷ [])
+pub one_rises : (v : ℕ) (x : Rational) → PlacesRise ((v, x) ∷ [])
 one_rises v x = (v + 1, (omega arith, omega arith, tt))
 
 number_is : (ts : List (ℕ × Rational)) (v : ℕ) → number_at ts v ≡ coefficient_in nat_cmp ts v

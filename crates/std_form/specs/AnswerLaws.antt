@@ -13,11 +13,11 @@ use Rattle.std.proofs.lemmas.Option.{none-some, same_Some}
 use Rattle.std.proofs.lemmas.Simd.{map-map}
 use Rattle.ratio_core.specs.Rational.{Rational, zero_ℚ}
 use Rattle.address_map.specs.AddressMap.{AddressMap}
-use Rattle.address_map.specs.Places.{Indices, IsOneToOne}
+use Rattle.address_map.specs.Places.{AreIndicesOneToOne, Indices}
 use Rattle.aff_core.specs.Address.{Address, address_eq, address_eq-Decides}
 use Rattle.aff_core.specs.KeyOrder.{key_eq-Decides}
 use Rattle.equality_form.specs.Equations.{is_flipped}
-use Rattle.equality_form.specs.ReadBack.{AnswerFits, PointFits, ValueFits, ValuesFit, after, duals_in, in_parts, listed_at, point_in, read_back, unflipped, value_in, values_in, optimal, infeasible, unbounded}
+use Rattle.equality_form.specs.ReadBack.{AnswerFits, LeafPointFits, LeafValueFits, ValuesFit, after, duals_in, in_parts, listed_at, point_in, read_back, unflipped, value_in, values_in, optimal, infeasible, unbounded}
 use Rattle.equality_form.specs.Right.{IsRight}
 use Rattle.equality_form.specs.RightLaws.{right_read_back}
 use Rattle.item_core.specs.declared.item.Body.{Body}
@@ -41,7 +41,7 @@ use Rattle.std_form.specs.ThroughLaws.{HasItsIndex, each_index, entries_through,
 
 -- ---- values under indices, and at the addresses of these
 
-module _ (indices : Indices) (one : IsOneToOne indices) {V X : Type 0} (none : X) where
+module _ (indices : Indices) (one : AreIndicesOneToOne indices) {V X : Type 0} (none : X) where
   abbrev HasIndexOf : Address × (ℕ × V) → Type 0
   HasIndexOf l = finite.get indices l.0 ≡ Some l.1.0
 
@@ -118,7 +118,7 @@ values_same (l ∷ L) x = ap (λ vs. value_in l.1.1 x ∷ vs) (values_same L (af
 fit_same : (L : List (Address × (ℕ × LeafVar))) (x : List Rational)
     → ValuesFit (prelude.map (λ l. l.1) L) x ≡ ValuesFit (prelude.map (λ l. (l.0, l.1.1)) L) x
 fit_same [] x = refl
-fit_same (l ∷ L) x = ap (λ P. ValueFits l.1.1 x × P) (fit_same L (after l.1.1 x))
+fit_same (l ∷ L) x = ap (λ P. LeafValueFits l.1.1 x × P) (fit_same L (after l.1.1 x))
 
 components_same : (indices : Indices) (r : LeafRow)
     → length (equations_in r) ≡ length (functions_of (read_row indices r))
@@ -135,8 +135,8 @@ lengths_same indices (l ∷ L) = ap₂ ◌∷◌ (components_same indices l.1.1)
 
 -- ---- answers
 
-module _ (map : AddressMap) (leaves : Leaves) (one_var : IsOneToOne map.vars.indices)
-    (one_row : IsOneToOne map.rows.indices) (at : Address) where
+module _ (map : AddressMap) (leaves : Leaves) (one_var : AreIndicesOneToOne map.vars.indices)
+    (one_row : AreIndicesOneToOne map.rows.indices) (at : Address) where
   vars_with : List (Address × (ℕ × LeafVar))
   vars_with = leaves_with leaves.vars (finite.entries map.vars.indices)
 
@@ -206,7 +206,7 @@ module _ (map : AddressMap) (leaves : Leaves) (one_var : IsOneToOne map.vars.ind
       λ i. unbounded (λ v. point_same x v i) (λ v. point_same d v i)
 
   point_fits : (x : List Rational)
-      → ValuesFit (variables_of map leaves) x ≡ PointFits (read_through map leaves at) x
+      → ValuesFit (variables_of map leaves) x ≡ LeafPointFits (read_through map leaves at) x
   unfolding vars_with
   point_fits x =
       ap (λ vars. ValuesFit vars x) (leaves_at_is leaves.vars map.vars.indices)

@@ -8,7 +8,7 @@ use Rattle.ratio_core.specs.Rational.{Rational, zero_ℚ}
 use Rattle.address_map.specs.AddressMap.{AddressMap}
 use Rattle.address_map.specs.Places.{Indices}
 use Rattle.aff_core.specs.Address.{Address}
-use Rattle.equality_form.specs.ReadBack.{Answer, ValuesFit, in_parts, infeasible, optimal, unbounded, unflipped, values_in}
+use Rattle.equality_form.specs.ReadBack.{AnswerByAddress, ValuesFit, in_parts, infeasible, optimal, unbounded, unflipped, values_in}
 use Rattle.simplex_core.specs.declared.answer.SolverAnswer.{SolverAnswer}
 use Rattle.simplex_core.specs.declared.answer.SolverAnswer.TheVariants as solver
 use Rattle.solver_store.specs.SolverModel.{Leaves}
@@ -23,7 +23,7 @@ abbrev pub at_address : {X : Type 0} → X → Indices → FinMap nat_cmp X → 
 at_address none indices m at =
     option_map_or (λ i. unwrap_or (finite.get m i) none) (finite.get indices at) none
 
-abbrev pub answer_of : AddressMap → LeafAnswer → Answer
+abbrev pub answer_of : AddressMap → LeafAnswer → AnswerByAddress
 answer_of map (leaf.Optimal x y) =
     optimal (at_address zero_ℚ map.vars.indices x) (at_address [] map.rows.indices y)
 answer_of map (leaf.Infeasible y) = infeasible (at_address [] map.rows.indices y)

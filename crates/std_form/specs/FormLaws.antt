@@ -12,7 +12,7 @@ use Rattle.std.proofs.lemmas.List.Elements.{All-append, All-head, All-nil, All-t
 use Rattle.std.proofs.lemmas.Simd.{map-map}
 use Rattle.ratio_core.specs.Rational.{Rational, neg_ℚ, rational_cmp, zero_ℚ, ◌-ℚ◌}
 use Rattle.address_map.specs.AddressMap.{AddressMap}
-use Rattle.address_map.specs.Places.{Indices, IsOneToOne}
+use Rattle.address_map.specs.Places.{AreIndicesOneToOne, Indices}
 use Rattle.aff_core.specs.Address.{Address, address_cmp, address_total}
 use Rattle.aff_core.specs.Function.{Function, coefficient, negated, terms_of, variable}
 use Rattle.aff_core.specs.FunctionLaws.{coefficient-constant_function, coefficient-negated}
@@ -33,7 +33,7 @@ use Rattle.solver_store.specs.declared.leaf.LeafRow.TheVariants as row
 use Rattle.solver_store.specs.declared.leaf.LeafVar.{LeafVar}
 use Rattle.solver_store.specs.declared.leaf.LeafVar.TheVariants.{Free, Nonneg}
 use Rattle.std_form.specs.Indexed.{SolverEquation, cost_in, equations_in, equations_of, form_of, objective_in}
-use Rattle.std_form.specs.NameLaws.{IsNamedTerm, NamesNamed, coefficient_named, constant_named, index_order, variable_named}
+use Rattle.std_form.specs.NameLaws.{IsTermIndexNamed, NamesNamed, coefficient_named, constant_named, index_order, variable_named}
 use Rattle.std_form.specs.Readable.{IsReadable, NamesUsed}
 use Rattle.std_form.specs.ThroughLaws.{HasItsIndex, each_index, entries_through, leaves_at_is, leaves_with}
 
@@ -109,7 +109,7 @@ module _ (indices : Indices) where
   flips_named [] = refl
   flips_named (e ∷ es) = ap₂ ◌∷◌ (flip_named e) (flips_named es)
 
-  module _ (one : IsOneToOne indices) (L : Variables)
+  module _ (one : AreIndicesOneToOne indices) (L : Variables)
       (found : All (λ l. finite.get indices l.0 ≡ Some l.1.0) L) where
     coefficients_same : (f : SolverFunction) → NamesNamed indices f
         → All (λ l. coefficient (named indices f) l.0 ≡ coefficient f l.1.0) L
@@ -208,7 +208,7 @@ module _ (map : AddressMap) (leaves : Leaves) where
   pub names_named : IsReadable map leaves → (f : SolverFunction) → NamesUsed map leaves f
       → IsNamedFunction f
   names_named readable f h =
-      All-weaker (λ t. IsSome (finite.get leaves.vars t.0)) (IsNamedTerm map.vars.indices)
+      All-weaker (λ t. IsSome (finite.get leaves.vars t.0)) (IsTermIndexNamed map.vars.indices)
       (λ t k. readable.vars.named t.0 k) (terms_of f) h
 
   -- what is so of each row's equations
@@ -269,7 +269,7 @@ module _ (map : AddressMap) (leaves : Leaves) where
   vars_with = leaves_with leaves.vars (finite.entries map.vars.indices)
 
   -- the form by index is that of the leaf model
-  pub form_is : IsOneToOne map.vars.indices → IsReadable map leaves → (at : Address)
+  pub form_is : AreIndicesOneToOne map.vars.indices → IsReadable map leaves → (at : Address)
       → form_of map leaves ≡ form_of_leaves (read_through map leaves at)
   unfolding vars_with
   form_is one readable at =

@@ -1,5 +1,5 @@
 pub mod Indexed
-pub mod Listed
+pub mod ListedLeaves
 pub mod Borrowed
 pub mod Readable
 pub mod Answers

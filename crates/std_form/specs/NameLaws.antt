@@ -13,7 +13,7 @@ use Rattle.std.proofs.lemmas.Bool.{eq-eqb, eqb-true}
 use Rattle.std.proofs.lemmas.List.Elements.{All-cons, All-head, All-nil, All-tail, All-weaker}
 use Rattle.std.proofs.lemmas.Option.{none-some, same_Some}
 use Rattle.ratio_core.specs.Rational.{Rational, one_ℚ, zero_ℚ}
-use Rattle.address_map.specs.Places.{Indices, IsOneToOne}
+use Rattle.address_map.specs.Places.{AreIndicesOneToOne, Indices}
 use Rattle.aff_core.specs.Address.{Address, address_cmp, address_eq, address_eq-Decides, root_address}
 use Rattle.aff_core.specs.declared.root.Root.TheVariants.{Variable}
 use Rattle.aff_core.specs.Function.{coefficient, gathered, terms_of, variable}
@@ -100,7 +100,8 @@ module _ (indices : Indices) where
       (all_found (finite.entries indices) (finite.entries_sorted indices))
 
   -- the address of an index
-  pub address_in_is : IsOneToOne indices → (at : Address) (i : ℕ) → finite.get indices at ≡ Some i
+  pub address_in_is : AreIndicesOneToOne indices → (at : Address) (i : ℕ)
+      → finite.get indices at ≡ Some i
       → address_in indices i ≡ at
   address_in_is one at i h = by_found (list.find (λ e. e.1 == i) (finite.entries indices)) refl
     where
@@ -117,19 +118,19 @@ module _ (indices : Indices) where
           ∙ none_passes (λ e. e.1 == i) (finite.entries indices) place.0 (at, i) is place.1))
 
   -- some address has the index
-  abbrev pub IsNamed : ℕ → Type 0
-  IsNamed i = (at : Address) × (finite.get indices at ≡ Some i)
+  abbrev pub IsIndexNamed : ℕ → Type 0
+  IsIndexNamed i = (at : Address) × (finite.get indices at ≡ Some i)
 
-  abbrev pub IsNamedTerm : ℕ × Rational → Type 0
-  IsNamedTerm t = IsNamed t.0
+  abbrev pub IsTermIndexNamed : ℕ × Rational → Type 0
+  IsTermIndexNamed t = IsIndexNamed t.0
 
   abbrev pub NamesNamed : SolverFunction → Type 0
-  NamesNamed f = All IsNamedTerm (terms_of f)
+  NamesNamed f = All IsTermIndexNamed (terms_of f)
 
   -- ---- functions
 
-  module _ (one : IsOneToOne indices) where
-    same_test : (at : Address) (i j : ℕ) → finite.get indices at ≡ Some i → IsNamed j
+  module _ (one : AreIndicesOneToOne indices) where
+    same_test : (at : Address) (i j : ℕ) → finite.get indices at ≡ Some i → IsIndexNamed j
         → address_eq at (address_in indices j) ≡ eq_by_cmp nat_cmp i j
     same_test at i j h n =
         by_test (eq_by_cmp nat_cmp i j) (address_eq at (address_in indices j)) refl refl
@@ -149,12 +150,12 @@ module _ (indices : Indices) where
             ∙ address_in_is one n.0 j n.1) ∙ n.1))) ∙ e))
 
     named_find : (at : Address) (i : ℕ) → finite.get indices at ≡ Some i
-        → (ts : List (ℕ × Rational)) → All IsNamedTerm ts
+        → (ts : List (ℕ × Rational)) → All IsTermIndexNamed ts
         → find address_cmp at (map (λ t. (address_in indices t.0, t.1)) ts) ≡ find nat_cmp i ts
     named_find at i h [] n = refl
     named_find at i h (t ∷ ts) n =
-        ap₂ (λ b o. cond b (Some t.1) o) (same_test at i t.0 h (All-head IsNamedTerm t ts n))
-        (named_find at i h ts (All-tail IsNamedTerm t ts n))
+        ap₂ (λ b o. cond b (Some t.1) o) (same_test at i t.0 h (All-head IsTermIndexNamed t ts n))
+        (named_find at i h ts (All-tail IsTermIndexNamed t ts n))
 
     pub coefficient_named : (f : SolverFunction) (at : Address) (i : ℕ)
         → finite.get indices at ≡ Some i → NamesNamed f

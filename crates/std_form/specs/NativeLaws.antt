@@ -13,7 +13,7 @@ use Rattle.std.proofs.lemmas.Option.{none-some}
 use Rattle.ratio_core.specs.Rational.{Rational, rational_eq, zero_ℚ}
 use Rattle.ratio_core.specs.RationalLaws.{eq_rational_eq}
 use Rattle.address_map.specs.AddressMap.{AddressMap}
-use Rattle.address_map.specs.Places.{Indices, IsOneToOne}
+use Rattle.address_map.specs.Places.{AreIndicesOneToOne, Indices}
 use Rattle.aff_core.specs.Address.{Address, address_cmp}
 use Rattle.aff_core.specs.Function.{terms_of, variable}
 use Rattle.aff_core.specs.FunctionLaws.{coefficient-gathered, coefficient_in-terms_of}
@@ -33,7 +33,7 @@ use Rattle.solver_store.specs.declared.leaf.LeafObjective.TheVariants as objecti
 use Rattle.solver_store.specs.declared.leaf.LeafVar.{LeafVar}
 use Rattle.std_form.specs.FormLaws.{IsNamedFunction, equations_named, equations_through, names_named, named_equation, objective_through}
 use Rattle.std_form.specs.Indexed.{equations_of, objective_in}
-use Rattle.std_form.specs.NameLaws.{IsNamedTerm, address_in_is, all_found, at_place, found_place, variable_named}
+use Rattle.std_form.specs.NameLaws.{IsTermIndexNamed, address_in_is, all_found, at_place, found_place, variable_named}
 use Rattle.std_form.specs.Readable.{IsReadable, NamesExactly}
 use Rattle.std_form.specs.ThroughLaws.{HasItsIndex, each_index, entries_through, get_through, leaves_with}
 
@@ -64,7 +64,7 @@ nonzero (t ∷ ts) h = by_test (not (rational_eq t.1 zero_ℚ)) refl (λ k. nonz
         (λ k. true≢false (sym e ∙ ap not (eq_rational_eq t.1 zero_ℚ k))) (rest h)
     by_test false e rest h = absurd (true≢false (sym h))
 
-module _ (map : AddressMap) (leaves : Leaves) (one : IsOneToOne map.vars.indices)
+module _ (map : AddressMap) (leaves : Leaves) (one : AreIndicesOneToOne map.vars.indices)
     (readable : IsReadable map leaves) where
   -- the address has an index
   abbrev HasIndex : Address → Type 0
@@ -73,11 +73,11 @@ module _ (map : AddressMap) (leaves : Leaves) (one : IsOneToOne map.vars.indices
   abbrev renamed : List (ℕ × Rational) → List (Address × Rational)
   renamed ts = named_terms map.vars.indices ts
 
-  renamed_have : (ts : List (ℕ × Rational)) → All (IsNamedTerm map.vars.indices) ts
+  renamed_have : (ts : List (ℕ × Rational)) → All (IsTermIndexNamed map.vars.indices) ts
       → All (λ t. HasIndex t.0) (renamed ts)
   renamed_have ts h =
       All-map (λ t. HasIndex t.0) (λ t. (address_in map.vars.indices t.0, t.1)) ts
-      (All-weaker (IsNamedTerm map.vars.indices) (λ t. HasIndex (address_in map.vars.indices t.0))
+      (All-weaker (IsTermIndexNamed map.vars.indices) (λ t. HasIndex (address_in map.vars.indices t.0))
       (λ t n. (
         t.0,
         ap (finite.get map.vars.indices)

@@ -20,18 +20,19 @@ use Rattle.std_form.specs.Answers.{answer_of}
 
 -- the form, its number of cells where they are more than the limit, or else that some right side
 -- exceeds 128 bits; running out of memory says nothing
-abbrev pub Tells : {K : Type 0} {R : K → K → Ordering} → List (K × LeafVar) → List (EquationOver R)
+abbrev pub TellsBuilt : {K : Type 0} {R : K → K → Ordering} → List (K × LeafVar)
+    → List (EquationOver R)
     → FunctionOver R → Result StdForm FormFault → Type 0
-Tells vars es cost (Ok form) =
+TellsBuilt vars es cost (Ok form) =
     (form ≡ form_from vars es cost) × (cells_of vars es ≤ 16777216) × All RightFits es
-Tells vars es cost (Err (TooLarge cells)) =
+TellsBuilt vars es cost (Err (TooLarge cells)) =
     (16777216 < cells_of vars es) × (cells ≡ min (cells_of vars es) (2 ^ 64 - 1))
-Tells vars es cost (Err Overflow) = (cells_of vars es ≤ 16777216) × ¬ All RightFits es
-Tells vars es cost (Err Memory) = Unit {0}
+TellsBuilt vars es cost (Err Overflow) = (cells_of vars es ≤ 16777216) × ¬ All RightFits es
+TellsBuilt vars es cost (Err Memory) = Unit {0}
 
 abbrev pub TellsForm : LeafModel → Result StdForm FormFault → Type 0
 TellsForm leaves result =
-    Tells (finite.entries leaves.variables) (equations leaves) (cost leaves) result
+    TellsBuilt (finite.entries leaves.variables) (equations leaves) (cost leaves) result
 
 -- the answer, or that a difference of a free variable's columns doesn't fit
 abbrev pub TellsAnswer : AddressMap → LeafModel → SolverAnswer → Result LeafAnswer NumberFault

@@ -7,7 +7,7 @@ use Rattle.ratio_core.specs.Rational.{SumFits, neg_ℚ}
 use Rattle.ratio_core.specs.declared.fault.NumberFault.{NumberFault}
 use Rattle.ratio_core.specs.declared.fault.NumberFault.TheVariants as number
 use Rattle.address_map.specs.AddressMap.{AddressMap}
-use Rattle.address_map.specs.Places.{Indices, IsOneToOne}
+use Rattle.address_map.specs.Places.{AreIndicesOneToOne, Indices}
 use Rattle.aff_core.specs.Address.{Address}
 use Rattle.equality_form.specs.EqualityForm.{cell_count, cells_of}
 use Rattle.equality_form.specs.Equations.{RightFits, equations, number_of}
@@ -31,7 +31,7 @@ use Rattle.std_form.specs.FormLaws.{equations_through, form_is, named_equation}
 use Rattle.std_form.specs.Indexed.{SolverEquation, cost_in, equations_in, equations_of, form_of, rows_of, variables_of}
 use Rattle.std_form.specs.NameLaws.{constant_named}
 use Rattle.std_form.specs.Readable.{IsReadable}
-use Rattle.std_form.specs.Told.{Tells, TellsAnswer, TellsForm}
+use Rattle.std_form.specs.Told.{TellsAnswer, TellsBuilt, TellsForm}
 
 fits_named : (indices : Indices) (e : SolverEquation)
     → RightFits e ≡ RightFits (named_equation indices e)
@@ -44,7 +44,7 @@ all_map P Q f h [] k = All-nil Q
 all_map P Q f h (x ∷ xs) k = All-cons Q x xs (h x (All-head P (f x) (prelude.map f xs) k))
     (all_map P Q f h xs (All-tail P (f x) (prelude.map f xs) k))
 
-module _ (map : AddressMap) (leaves : Leaves) (one : IsOneToOne map.vars.indices)
+module _ (map : AddressMap) (leaves : Leaves) (one : AreIndicesOneToOne map.vars.indices)
     (readable : IsReadable map leaves) (at : Address) where
   cells_through : cells_of (variables_of map leaves) (equations_of map leaves)
       ≡ cell_count (read_through map leaves at)
@@ -66,7 +66,7 @@ module _ (map : AddressMap) (leaves : Leaves) (one : IsOneToOne map.vars.indices
       (subst (All RightFits) (equations_through map leaves at) h)
 
   pub tells_through : (r : Result StdForm FormFault)
-      → Tells (variables_of map leaves) (equations_of map leaves) (cost_in leaves.objective) r
+      → TellsBuilt (variables_of map leaves) (equations_of map leaves) (cost_in leaves.objective) r
       → TellsForm (read_through map leaves at) r
   tells_through (Ok form) h = (
     h.0 ∙ form_is map leaves one readable at,
@@ -102,14 +102,14 @@ module _ (map : AddressMap) (leaves : Leaves) (vars : List (ℕ × LeafVar))
     (their_rows : rows ≡ rows_of map leaves) where
   pub tells_listed : (objective : Option LeafObjective) → objective ≡ leaves.objective
       → (r : Result StdForm FormFault)
-      → Tells vars (flat_map (λ row. equations_in row.1) rows) (cost_in objective) r
-      → Tells (variables_of map leaves) (equations_of map leaves) (cost_in leaves.objective) r
+      → TellsBuilt vars (flat_map (λ row. equations_in row.1) rows) (cost_in objective) r
+      → TellsBuilt (variables_of map leaves) (equations_of map leaves) (cost_in leaves.objective) r
   tells_listed objective its r h =
-      subst (λ (vs : List (ℕ × LeafVar)). Tells vs (equations_of map leaves)
+      subst (λ (vs : List (ℕ × LeafVar)). TellsBuilt vs (equations_of map leaves)
       (cost_in leaves.objective) r) their_vars
-      (subst (λ (rs : List (ℕ × LeafRow)). Tells vars (flat_map (λ row. equations_in row.1) rs)
+      (subst (λ (rs : List (ℕ × LeafRow)). TellsBuilt vars (flat_map (λ row. equations_in row.1) rs)
       (cost_in leaves.objective) r) their_rows
-      (subst (λ (o : Option LeafObjective). Tells vars (flat_map (λ row. equations_in row.1) rows)
+      (subst (λ (o : Option LeafObjective). TellsBuilt vars (flat_map (λ row. equations_in row.1) rows)
       (cost_in o) r) its h))
 
   pub answer_listed : (form : StdForm) (a : SolverAnswer) (r : Result LeafAnswer NumberFault)
@@ -121,13 +121,13 @@ module _ (map : AddressMap) (leaves : Leaves) (vars : List (ℕ × LeafVar))
 module _ (map : AddressMap) (leaves : Leaves) where
   -- a form that is given is that of the model, and well shaped
   pub built_is : (r : Result StdForm FormFault)
-      → Tells (variables_of map leaves) (equations_of map leaves) (cost_in leaves.objective) r
+      → TellsBuilt (variables_of map leaves) (equations_of map leaves) (cost_in leaves.objective) r
       → IfOk r (λ form. form ≡ form_of map leaves)
   built_is (Ok form) h = h.0
   built_is (Err e) h = tt
 
   pub built_well : (r : Result StdForm FormFault)
-      → Tells (variables_of map leaves) (equations_of map leaves) (cost_in leaves.objective) r
+      → TellsBuilt (variables_of map leaves) (equations_of map leaves) (cost_in leaves.objective) r
       → IfOk r IsWellShaped
   built_well (Ok form) h =
       subst IsWellShaped (sym h.0)
@@ -135,7 +135,7 @@ module _ (map : AddressMap) (leaves : Leaves) where
   built_well (Err e) h = tt
 
   -- what is read back, where the form is the one that was built
-  module _ (one_var : IsOneToOne map.vars.indices) (one_row : IsOneToOne map.rows.indices)
+  module _ (one_var : AreIndicesOneToOne map.vars.indices) (one_row : AreIndicesOneToOne map.rows.indices)
       (form : StdForm) (built : form ≡ form_of map leaves) (a : SolverAnswer) where
     abbrev flips_are : form.flips ≡ (form_of map leaves).flips
     flips_are = ap (λ form. form.flips) built

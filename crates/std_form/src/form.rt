@@ -3,7 +3,7 @@ ghost use Rattle.std.specs.Prelude.{flat_map, map};
 ghost use Rattle.std.specs.Option.{option_copied};
 ghost use Rattle.std_form.specs.Borrowed.{row_in};
 ghost use Rattle.std_form.specs.Indexed.{cost_in, equations_in};
-ghost use Rattle.std_form.specs.Told.{Tells};
+ghost use Rattle.std_form.specs.Told.{TellsBuilt};
 
 use crate::cells::{cell_count, costs, slacks};
 use crate::fault::FormFault;
@@ -26,7 +26,7 @@ pub(crate) fn form_by_index(
     rows: &[Row],
     objective: Option<&LeafObjective>,
 ) -> Result<StdForm, FormFault>
-    ensures { Tells variables.now (flat_map (λ row. equations_in row.1) (map row_in rows.now))
+    ensures { TellsBuilt variables.now (flat_map (λ row. equations_in row.1) (map row_in rows.now))
         (cost_in (option_copied objective.entry)) result }
 {
     let equations = equations(alloc, rows)?;

@@ -16,5 +16,3 @@ pub use address_map::AddressMap;
 pub use fault::FormFault;
 pub use form::CELL_LIMIT;
 pub use listing::{Listing, build, read_back};
-pub use simplex_core::{SolverAnswer, StdForm};
-pub use solver_store::{LeafAnswer, SolverModel};

@@ -7,7 +7,7 @@ ghost use Rattle.simplex_core.specs.Answer.{IsRightAnswer};
 ghost use Rattle.simplex_core.specs.StdForm.{IsWellShaped, equality_form};
 ghost use Rattle.std_form.specs.Answers.{answer_of, read_by_index};
 ghost use Rattle.std_form.specs.Indexed.{form_of};
-ghost use Rattle.std_form.specs.Listed.{listed};
+ghost use Rattle.std_form.specs.ListedLeaves.{listed};
 ghost use Rattle.std_form.specs.Readable.{IsReadable};
 ghost use Rattle.std_form.specs.Told.{TellsAnswer, TellsForm};
 
@@ -38,9 +38,9 @@ impl<'a> Model for Listing<'a> {
     ghost use Rattle.std.specs.Prelude.{◌≡◌, map};
     ghost use Rattle.std_form.specs.Borrowed.{row_in};
     ghost use Rattle.std_form.specs.Indexed.{rows_of, variables_of};
-    ghost use Rattle.std_form.specs.Listed.{Listed, listed, listed_code};
+    ghost use Rattle.std_form.specs.ListedLeaves.{ListedLeaves, listed, listed_code};
 
-    ghost Value = { Listed };
+    ghost Value = { ListedLeaves };
 
     ghost coded = { listed_code };
 

@@ -1,7 +1,7 @@
 //! Answers of the equality form as answers of the solver's model.
 ghost use Rattle.std.specs.Prelude.{◌≡◌, IfOk, IsErrOf, OkIff, OnOk, drop, map};
 ghost use Rattle.std.specs.FinMap as finite;
-ghost use Rattle.equality_form.specs.ReadBack.{ValueFits, ValuesFit, after, unflipped, value_in};
+ghost use Rattle.equality_form.specs.ReadBack.{LeafValueFits, ValuesFit, after, unflipped, value_in};
 ghost use Rattle.tableau_core.specs.Row.{cell};
 ghost use Rattle.std_form.specs.Answers.{dual_lists, points};
 ghost use Rattle.std_form.specs.Borrowed.{row_in};
@@ -57,7 +57,7 @@ fn first(numbers: &[Ratio]) -> (Ratio, &[Ratio])
 
 // The value of a variable whose columns are the first ones.
 fn value(var: LeafVar, x: &[Ratio]) -> Result<Ratio, RatioFault>
-    ensures { OkIff result (ValueFits var x.now) (value_in var x.now) }
+    ensures { OkIff result (LeafValueFits var x.now) (value_in var x.now) }
 {
     let (plus, others) = first(x);
     match var {

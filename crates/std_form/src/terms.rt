@@ -3,7 +3,7 @@
 //! nothing is sorted or looked up.
 ghost use Rattle.std.specs.Prelude.{◌≡◌, ◌+◌, ◌<◌, ◌≤◌, ℕ, Bool, [], IfOk, OnOk, flat_map, length, map, slice_index_or};
 ghost use Rattle.sparse_ratios.specs.Terms.{number_at};
-ghost use Rattle.sparse_lists.specs.Across.{ArePutAcross, GrowBy, Rise, list_at, padded};
+ghost use Rattle.sparse_lists.specs.Across.{ArePutAcross, GrowBy, PlacesRise, list_at, padded};
 ghost use Rattle.aff_core.specs.Function.{coefficient};
 ghost use Rattle.equality_form.specs.Columns.{parts_among, signs, slack_at, slacks_from};
 ghost use Rattle.equality_form.specs.EqualityForm.{cells_from, unit_at};
@@ -159,7 +159,7 @@ fn put_variable(
     var: LeafVar,
     terms: &[(usize, Ratio)],
 ) -> Result<usize, Memory>
-    requires rise { Rise terms.now }
+    requires rise { PlacesRise terms.now }
     requires low { (b : ℕ) → length (list_at rows.old b) ≤ place }
     ensures { IfOk result (λ next. GrowBy place next
         (λ b. map (λ negated. flipped negated (number_at terms.now b)) (signs var))

@@ -6,7 +6,7 @@ use Rattle.std.proofs.Common.{arith, ap, ap₂, sym, ◌∙◌, true≢false}
 use Rattle.std.proofs.lemmas.Bool.Decides.{Decides-eqb}
 use Rattle.std.proofs.lemmas.List.Elements.{All-append, All-cons, All-contains, All-head, All-nil, All-tail, All-weaker}
 use Rattle.bridge_face.specs.ImageOf.{image_of}
-use Rattle.bridge_face.specs.Law.{LeadsTo, children}
+use Rattle.bridge_face.specs.Law.{LeadsToKind, children}
 use Rattle.bridge_graph.specs.Hypergraph.{IsCostly}
 use Rattle.bridge_graph.specs.declared.Choice.{Choice}
 use Rattle.bridge_graph.specs.declared.Choice.TheVariants.{By, Missing, Native}
@@ -227,7 +227,7 @@ module _ (setting : Setting) (costly : IsCostly (graph_of setting)) (choice : �
       (occurs edge here.entry here.is_entry.here
       (same_entry setting costly choice chosen lawful item can edge c) item here.source can.valid
       (All-weaker (λ x. IsChild setting costly choice chosen lawful item can edge c x)
-      (λ x. LeadsTo (edge_at edge) x.body) (λ x h. h.leads) items
+      (λ x. LeadsToKind (edge_at edge) x.body) (λ x h. h.leads) items
       (are_children setting costly choice chosen lawful item can edge c))))
 
   -- of an item as its kind before expressions were put in

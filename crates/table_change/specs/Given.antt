@@ -12,7 +12,7 @@ use Rattle.item_core.specs.declared.item.Item.{Item}
 use Rattle.item_core.specs.declared.kind.Kind.{Kind}
 use Rattle.model_bridging.specs.Kinds.{kind_by}
 use Rattle.touched_items.specs.Differences.{groups_in, rows_in}
-use Rattle.touched_items.specs.declared.differing.Contents.{Contents}
+use Rattle.touched_items.specs.declared.differing.ModelItems.{ModelItems}
 use Rattle.user_model.specs.Model.{ModelValue}
 
 -- of a table of kinds by their numbers
@@ -23,7 +23,7 @@ module _ (changed : Kind → Bool) (kept : Address → Bool) where
   abbrev pub is_given : Item → Bool
   is_given item = changed (kind_by kept item.body)
 
-  pub record AreGiven (model : ModelValue) (c : Contents) : Type 0 where
+  pub record AreGiven (model : ModelValue) (c : ModelItems) : Type 0 where
     pub groups : groups_in c ≡ filter (λ g. is_given (group_item g)) model.groups
     pub rows : rows_in c ≡ filter (λ r. is_given (row_item r)) model.rows
     pub objective :

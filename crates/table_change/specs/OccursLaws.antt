@@ -10,7 +10,7 @@ use Rattle.aff_core.specs.declared.sense.Sense.TheVariants.{Min, Max}
 use Rattle.bridge_face.specs.ImageOf.{begins_free, beyond, free_at, group_at, image_by, image_of, inner, inner_functions, sense_of}
 use Rattle.bridge_face.specs.BackOf.{size}
 use Rattle.bridge_face.specs.Images.{affine, children_from, component_of, each_component, first_in, lower_part, plain, rest_of, upper_part, with_set}
-use Rattle.bridge_face.specs.Law.{LeadsTo, children}
+use Rattle.bridge_face.specs.Law.{LeadsToKind, children}
 use Rattle.fresh_bridging.specs.TableLaws.{and_first, and_second, equal_kind, is_group_kind}
 use Rattle.fresh_bridging.specs.TheRules.{edge_at}
 use Rattle.item_core.specs.Edge.{children_of, edge_entry, kinds_in}
@@ -489,7 +489,7 @@ occurs_by _ edge item source _ told is valid leads = absurd (true≢false (sym t
 pub occurs : (n : ℕ) (entry : EdgeEntry) → slice_get EDGES n ≡ Some entry
     → edge_entry (edge_at n) ≡ entry → (item : Item) → kind_of_body item.body ≡ entry.source
     → IsValidItem item
-    → All (λ c. LeadsTo (edge_at n) c.body) (children (image_of (edge_at n) item))
+    → All (λ c. LeadsToKind (edge_at n) c.body) (children (image_of (edge_at n) item))
     → All (Occurs (children (image_of (edge_at n) item))) (children_of (edge_at n))
 occurs n entry here same item is valid leads =
     let this = edge_entry (edge_at n) in

@@ -13,7 +13,7 @@ use item_core::{KIND_COUNT, Kind, group_kind};
 use lists::Memory;
 use model_store::UserModel;
 use std::alloc::Global;
-use touched_items::{Contents, Differing};
+use touched_items::{Differing, ModelItems};
 use user_model::{Group, Groups, Objective, Row, Rows};
 
 /// The items of a bridged model whose kinds, as they are bridged, are changed: on both sides the same.
@@ -39,10 +39,10 @@ fn find_contents<'a>(
     map: &AddressMap,
     model: &'a UserModel,
     changed: &[bool; KIND_COUNT],
-) -> Result<Contents<'a>, Memory>
+) -> Result<ModelItems<'a>, Memory>
     ensures { IfOk result (AreGiven (passes changed.now) (is_marked map.now) model.now.model) }
 {
-    Ok(Contents {
+    Ok(ModelItems {
         groups: find_groups(alloc, map, model.groups(), changed)?,
         rows: find_rows(alloc, map, model.rows(), changed)?,
         objective: find_objective(map, model.objective(), changed),

@@ -8,10 +8,10 @@ use Rattle.tableau_core.specs.declared.kept.Row.{Row}
 use Rattle.tableau_core.specs.Row.{AllFit, cell}
 use Rattle.tableau_core.specs.Rows.{AreWide, now_at, numbers, numbers_in}
 use Rattle.tableau_core.specs.ItemLaws.{read_at}
-use Rattle.tableau_core.specs.Contents.{IsPivoted, Contents, readings_of, width}
-use Rattle.tableau_core.specs.Kept.{IsKept, contents_of, width_of}
+use Rattle.tableau_core.specs.BoardContents.{IsPivoted, BoardContents, readings_of, width}
+use Rattle.tableau_core.specs.Kept.{IsDenseBoardKept, contents_of, width_of}
 use Rattle.tableau_core.specs.KeptLaws.{column_kept, pivoted_read, row_kept, tests_read}
-use Rattle.tableau_core.specs.Numbers.{IsSettled, Numbers, kept_readings, numbers_fit}
+use Rattle.tableau_core.specs.BoardNumbers.{BoardNumbers, IsSettled, kept_readings, numbers_fit}
 use Rattle.simplex_form.specs.Fit.{pivot_fits}
 use Rattle.simplex_form.specs.Readings.{Agrees}
 use Rattle.simplex_form.specs.Search.{best_below, least_below}
@@ -20,7 +20,7 @@ use Rattle.simplex_form.specs.Turns as bland
 use Rattle.simplex_laws.specs.SearchLaws.{best_below_same, least_below_same}
 use Rattle.tableau_core.specs.Leaving.{IsCandidate, comes_before, leaves_before, may_leave}
 
-abbrev pub numbers_of : Inside → Numbers
+abbrev pub numbers_of : Inside → BoardNumbers
 numbers_of a = numbers_in a.rows.items a.costs.first.now.items a.costs.second.now.items
 
 -- ---- the board's value
@@ -61,7 +61,7 @@ value_agrees in_first a = record {
 }
 
 -- the least column of a row's numbers that aren't 0 is that of its entries
-pub swept_is : (a : Inside) (r : ℕ) (row : Row) (items : List Rational) (t : Contents)
+pub swept_is : (a : Inside) (r : ℕ) (row : Row) (items : List Rational) (t : BoardContents)
     → contents_of a ≡ t → r < length a.rows.items → row ≡ slice_index_or a.rows.items r row
     → items ≡ row.now.items → least_below a.reals (λ j. not (rational_eq (cell items j) zero_ℚ))
     ≡ swept_column (readings_of t) r
@@ -75,7 +75,7 @@ swept_is a r row items t view b is e =
     ∙ ap (λ t. swept_column (readings_of t) r) view
 
 -- the row that leaves is that of what is read
-pub leaving_is : (a : Inside) (q : ℕ) (t : Contents) → contents_of a ≡ t → q < width_of a
+pub leaving_is : (a : Inside) (q : ℕ) (t : BoardContents) → contents_of a ≡ t → q < width_of a
     → best_below (length a.rows.items) (may_leave a.rows.items q)
     (leaves_before a.rows.items a.basis.items (width_of a) q) ≡ bland.leaving (readings_of t) q
 leaving_is a q t view b =
@@ -93,7 +93,7 @@ leaving_is a q t view b =
     ∙ ap (λ n. best_below n (bland.may_leave R q) (bland.leaves_before R q)) (sym (count_is w rows))
     ∙ ap (λ t. bland.leaving (readings_of t) q) view
 
-pub leaving_row : (a : Inside) (q : ℕ) (t : Contents) (rows : List Row) (o : Option ℕ)
+pub leaving_row : (a : Inside) (q : ℕ) (t : BoardContents) (rows : List Row) (o : Option ℕ)
     → contents_of a ≡ t → rows ≡ a.rows.items → q < width_of a
     → IfSome o (λ r. IsCandidate rows q r)
     → IfSome o (λ r. (r < length t.rows) × (zero_ℚ ‹ℚ (readings_of t).entry q r))
@@ -106,7 +106,7 @@ leaving_row a q t rows (Some r) view is b h =
     )
 
 -- a row and a column of the value are within what is kept
-module _ (a : Inside) (t : Contents) where
+module _ (a : Inside) (t : BoardContents) where
   pub row_within : (r : ℕ) → contents_of a ≡ t → r < length t.rows → r < length a.rows.items
   row_within r view =
       row_kept a.reals a.basis.items (numbers_of a) (contents_of a) t view
@@ -182,12 +182,12 @@ module _ (a b : Inside) (reals : b.reals ≡ a.reals)
   same_width : width_of b ≡ width_of a
   same_width = ap₂ ◌+◌ reals count
 
-  pub kept_after : IsKept a → AreWide (width_of a + 1) b.rows.items
+  pub kept_after : IsDenseBoardKept a → AreWide (width_of a + 1) b.rows.items
       → length b.costs.first.now.items ≡ length a.costs.first.now.items
       → length b.costs.second.now.items ≡ length a.costs.second.now.items
       → length b.step.items ≡ width_of a + 1
       → AllFit b.step.items → length b.places.items ≡ length a.places.items
-      → length b.basis.items ≡ length a.basis.items → IsKept b
+      → length b.basis.items ≡ length a.basis.items → IsDenseBoardKept b
   kept_after h wide first second step fit places basis = record {
     places = places ∙ h.places ∙ ap (λ n. n + 1) (sym same_width);
     wide = λ i c. wide i c ∙ ap (λ n. n + 1) (sym same_width);
@@ -199,9 +199,10 @@ module _ (a b : Inside) (reals : b.reals ≡ a.reals)
   }
 
   -- `middle` are the rows as they stood, beside which the pivot was worked out
-  pub pivoted_all : (r q : ℕ) (t : Contents) → contents_of a ≡ t → r < length t.rows → q < width t
+  pub pivoted_all : (r q : ℕ) (t : BoardContents) → contents_of a ≡ t → r < length t.rows
+      → q < width t
       → b.costs.in_first ≡ a.costs.in_first → b.basis.items ≡ slice_set a.basis.items r q
-      → (middle : Numbers) → middle ≡ numbers_of a → (w : ℕ) → w ≡ width_of a
+      → (middle : BoardNumbers) → middle ≡ numbers_of a → (w : ℕ) → w ≡ width_of a
       → IsSettled w r q a.costs.in_first middle (numbers_of b) → IsPivoted r q t (contents_of b)
   pivoted_all r q t view row column in_first basis middle same w wide s =
       pivoted_read a.reals a.basis.items (numbers_of a) (contents_of a) t view
@@ -217,7 +218,7 @@ pub start-kept : (a : Inside) (m : ℕ) → length a.rows.items ≡ m
     → AreWide (a.reals + m + 1) a.rows.items → length a.costs.first.now.items ≡ a.reals + m
     → length a.costs.second.now.items ≡ a.reals + m → length a.step.items ≡ a.reals + m + 1
     → AllFit a.step.items → length a.places.items ≡ a.reals + m + 1
-    → length a.basis.items ≡ m → IsKept a
+    → length a.basis.items ≡ m → IsDenseBoardKept a
 start-kept a m count wide first second step fit places basis = record {
   places = places ∙ ap (λ n. n + 1) same_width;
   wide = λ i b. wide i b ∙ ap (λ n. n + 1) same_width;

@@ -3,7 +3,7 @@ use Rattle.std.specs.Prelude.{◌≡◌, ℕ, ◌+◌, ◌<◌, Bool, true, fals
 use Rattle.std.proofs.Common.{sym, ◌∙◌, ap, subst}
 use Rattle.ratio_core.specs.Rational.{Rational}
 use Rattle.tableau_core.specs.declared.kept.Row.{Row}
-use Rattle.tableau_core.specs.Numbers.{Numbers, costs_fit, differences_fit, numbers_fit, others_fit, quotient_at, quotients_fit}
+use Rattle.tableau_core.specs.BoardNumbers.{BoardNumbers, costs_fit, differences_fit, numbers_fit, others_fit, quotient_at, quotients_fit}
 use Rattle.tableau_core.specs.Row.{IsDivided, cell, lowering_fits}
 use Rattle.tableau_core.specs.Rows.{AreWide, now_at, numbers_in, rows_fit}
 use Rattle.tableau_core.specs.TestLaws as tests
@@ -13,7 +13,7 @@ use Rattle.simplex_laws.specs.SearchLaws.{all_below_same}
 module _ (w : ℕ) (rows : List Row) (r q : ℕ) (in_first : Bool) (first second step : List Rational)
     (row : r < length rows) (wide : AreWide (w + 1) rows)
     (divided : IsDivided (cell (now_at rows r) q) (now_at rows r) step) where
-  abbrev K : Numbers
+  abbrev K : BoardNumbers
   K = numbers_in rows first second
 
   divided_is : (j : ℕ) → j < w + 1 → cell step j ≡ quotient_at K.number r q j

@@ -4,10 +4,10 @@ use Rattle.std.proofs.Common.{sym, ◌∙◌, ap, arith, subst, inl, inr}
 use Rattle.std.proofs.lemmas.List.{get_or-set_other, get_or-set_same, length-set, get_or-take, length-take}
 use Rattle.ratio_core.specs.Rational.{Fits, Rational, fits, zero_ℚ, ◌*ℚ◌, ◌-ℚ◌, ◌/ℚ◌}
 use Rattle.ratio_core.specs.RationalLaws.{fits_Decides}
-use Rattle.tableau_core.specs.Numbers.{differences_fit, quotients_fit}
+use Rattle.tableau_core.specs.BoardNumbers.{differences_fit, quotients_fit}
 use Rattle.tableau_core.specs.Row.{AllFit, IsLowered, IsLoweredBeside, IsPutAt, cell}
 use Rattle.tableau_core.specs.ItemLaws.{item_is}
-use Rattle.tableau_core.specs.Places.{Covers}
+use Rattle.tableau_core.specs.Places.{CoversNonzeros}
 use Rattle.tableau_core.specs.LoweringLaws.{false_from_not, fits_from, lowered-zero, lowered_fits-zero, step-zero, zero-step}
 use Rattle.simplex_laws.specs.SearchLaws.{all_below_all, all_below_failed, all_below_more}
 use Rattle.simplex_form.specs.Fit.{lowered_fits}
@@ -165,7 +165,7 @@ noted_here row places used j h b nonzero = record {
     by_old i (inr f) = inr (f.0, omega (arith, f.1), off f.0 (λ e. omega (arith, f.1, e)) ∙ f.2)
 
 pub noted_all : (row : List Rational) (places : List ℕ) (used j : ℕ) → IsNotedTo row places used j
-    → j ≡ length row → Covers (take used places) row
+    → j ≡ length row → CoversNonzeros (take used places) row
 noted_all row places used j h e = record {
   within = λ k b. subst (λ n. n < length row) (sym (same k (less k b)))
       (omega (arith, h.within k (less k b), e));
@@ -318,7 +318,7 @@ module _ (by : Rational) (step row : List Rational) (places : List ℕ) (before 
       (cell step k)) b e
 
   -- at the end
-  module _ (all : i ≡ length places) (covers : Covers places step) (long : length row ≤ length step)
+  module _ (all : i ≡ length places) (covers : CoversNonzeros places step) (long : length row ≤ length step)
       (fits : AllFit row) where
     by_place : (P : ℕ → Type 0) (j : ℕ) → j < length row → (cell step j ≡ zero_ℚ → P j)
         → ((k : ℕ) → k < i → slice_index places k < length row → P (slice_index places k)) → P j
@@ -347,7 +347,7 @@ module _ (by : Rational) (step row : List Rational) (places : List ℕ) (before 
 
 -- what was worked out beside a row is put in place
 pub lowered_put : (by : Rational) (step row next new : List Rational) (places : List ℕ)
-    → length row ≤ length step → Covers places step → IsLoweredBeside by step row next
+    → length row ≤ length step → CoversNonzeros places step → IsLoweredBeside by step row next
     → IsPutAt places (length places) (cell next) row new → IsLowered by step row new
 lowered_put by step row next new places long covers h p = record {
   long = p.long;

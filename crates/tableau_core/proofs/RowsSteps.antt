@@ -6,7 +6,7 @@ use Rattle.std.proofs.lemmas.List.{length-set}
 use Rattle.std.proofs.Math.Bool.{or-true}
 use Rattle.ratio_core.specs.Rational.{Rational}
 use Rattle.tableau_core.specs.declared.kept.Row.{Row}
-use Rattle.tableau_core.specs.Places.{Covers}
+use Rattle.tableau_core.specs.Places.{CoversNonzeros}
 use Rattle.tableau_core.specs.Row.{IsLowered, IsPrepared, cell, lowering_fits}
 use Rattle.tableau_core.specs.Rows.{ArePrepared, AreWide, next_at, next_numbers, now_at, numbers, rows_fit}
 use Rattle.tableau_core.specs.ItemLaws.{each_written, read_at, written_off}
@@ -28,7 +28,7 @@ pub record AreSettledTo (r q : ℕ) (places : List ℕ) (before rows : List Row)
   pub long : length rows ≡ length before
   pub later : (k : ℕ) → i ≤ k → slice_get rows k ≡ slice_get before k
   pub pivot_stays : now_at rows r ≡ now_at before r
-  pub lowered : (step : List Rational) → AreWide (length step) before → Covers places step
+  pub lowered : (step : List Rational) → AreWide (length step) before → CoversNonzeros places step
       → ArePrepared r q step before → (k : ℕ) → k < i → ¬ (k ≡ r)
       → IsLowered (cell (now_at before k) q) step (now_at before k) (now_at rows k)
 
@@ -94,7 +94,7 @@ module _ (r q : ℕ) (step : List Rational) (before rows : List Row) (i : ℕ) w
 module _ (r q : ℕ) (places : List ℕ) (before rows : List Row) (i : ℕ) where
   pub settled-more : (d new : Row) → AreSettledTo r q places before rows i → i < length before
       → ¬ (i ≡ r) → ((step : List Rational) → length (slice_index_or rows i d).now.items ≤ length
-      step → Covers places step → IsPrepared q step (slice_index_or rows i d).now.items
+      step → CoversNonzeros places step → IsPrepared q step (slice_index_or rows i d).now.items
       (slice_index_or rows i d).next.items → IsLowered (cell (slice_index_or rows i d).now.items q)
       step (slice_index_or rows i d).now.items new.now.items)
       → AreSettledTo r q places before (slice_set rows i new) (i + 1)

@@ -6,7 +6,7 @@ use Rattle.ratio_core.specs.Rational.{Rational}
 use Rattle.tableau_core.specs.declared.cost_rows.CostRows.{CostRows}
 use Rattle.tableau_core.specs.declared.kept.Row.{Row}
 use Rattle.tableau_core.specs.KeptLaws.{settled_by}
-use Rattle.tableau_core.specs.Numbers.{AreLess, IsSettled}
+use Rattle.tableau_core.specs.BoardNumbers.{AreLess, IsSettled}
 use Rattle.tableau_core.specs.Row.{IsLowered, cell}
 use Rattle.tableau_core.specs.Rows.{AreLowered, AreWide, now_at, numbers, numbers_in}
 use Rattle.tableau_core.specs.Pivoting.{IsReady}

@@ -2,8 +2,8 @@
 use Rattle.std.specs.Prelude.{◌≡◌, ℕ, ◌+◌, ◌<◌, length}
 use Rattle.std.proofs.Common.{sym, ◌∙◌, arith, subst}
 use Rattle.ratio_core.specs.Rational.{zero_ℚ}
-use Rattle.tableau_core.specs.Contents.{IsBoardOf, IsPivoted, Contents, readings_of, width}
-use Rattle.simplex_form.specs.Basis.{IsBasis, State}
+use Rattle.tableau_core.specs.BoardContents.{IsBoardOf, IsPivoted, BoardContents, readings_of, width}
+use Rattle.simplex_form.specs.Basis.{BasisState, IsBasis}
 use Rattle.simplex_form.specs.Board.{pivot}
 use Rattle.simplex_form.specs.Fit.{pivot_fits}
 use Rattle.simplex_form.specs.Form.{Form}
@@ -12,7 +12,7 @@ use Rattle.simplex_form.specs.declared.turn.Phase.{Phase}
 use Rattle.simplex_laws.specs.AgreementLaws.{agrees_chain, pivot_fits_same, pivoted_agrees}
 use Rattle.simplex_laws.specs.BoardLaws.{readings-pivot}
 
-module _ (F : Form) (s : State) (phase : Phase) (r q : ℕ) (t : Contents) (h : IsBoardOf F s t)
+module _ (F : Form) (s : BasisState) (phase : Phase) (r q : ℕ) (t : BoardContents) (h : IsBoardOf F s t)
     (row : r < length t.rows) (column : q < width t) where
   here : r < F.rows
   here = omega (arith, h.rows, row)
@@ -20,7 +20,7 @@ module _ (F : Form) (s : State) (phase : Phase) (r q : ℕ) (t : Contents) (h : 
   within : q < F.reals + F.rows
   within = omega (arith, h.rows, h.reals, column)
 
-  pub next_board : (u : Contents) → IsBasis F s → ¬ ((readings_of t).entry q r ≡ zero_ℚ)
+  pub next_board : (u : BoardContents) → IsBasis F s → ¬ ((readings_of t).entry q r ≡ zero_ℚ)
       → IsPivoted r q t u → IsBoardOf F (pivot F s phase r q) u
   next_board u basis n p =
       subst (λ b. Agrees b (readings_of u) (readings F (pivot F s phase r q))) (sym p.in_first)

@@ -3,14 +3,14 @@ use Rattle.std.specs.Prelude.{◌≡◌, ℕ, ◌+◌, length, map, take}
 use Rattle.tableau_core.specs.declared.dense_board.DenseBoard.TheInside.{Inside}
 use Rattle.tableau_core.specs.Row.{AllFit, cell}
 use Rattle.tableau_core.specs.Rows.{AreWide}
-use Rattle.tableau_core.specs.Contents.{Contents}
+use Rattle.tableau_core.specs.BoardContents.{BoardContents}
 
 -- the real columns and an artificial one for each row
 abbrev pub width_of : Inside → ℕ
 width_of a = a.reals + length a.rows.items
 
 -- each row is kept with its right side behind its entries
-abbrev pub contents_of : Inside → Contents
+abbrev pub contents_of : Inside → BoardContents
 contents_of a = record {
   reals = a.reals;
   rows = map (λ row. take (width_of a) row.now.items) a.rows.items;
@@ -22,7 +22,7 @@ contents_of a = record {
 }
 
 -- each row has its length, and so has the spare one
-pub record IsKept (a : Inside) : Type 0 where
+pub record IsDenseBoardKept (a : Inside) : Type 0 where
   pub wide : AreWide (width_of a + 1) a.rows.items
   pub spare : length a.step.items ≡ width_of a + 1
   pub spare_fits : AllFit a.step.items

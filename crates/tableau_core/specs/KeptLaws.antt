@@ -14,8 +14,8 @@ use Rattle.simplex_laws.specs.AgreementLaws.{agrees_back, agrees_chain, pivot_fi
 use Rattle.simplex_laws.specs.PivotLaws.{pivoted_each}
 use Rattle.simplex_laws.specs.SearchLaws.{all_below_last, all_below_same}
 use Rattle.simplex_laws.specs.TrailLaws.{right_side-start, second_price-start}
-use Rattle.tableau_core.specs.Contents.{Contents, IsBoardOf, IsPivoted, readings_of, width}
-use Rattle.tableau_core.specs.Numbers.{AreLess, IsSettled, Numbers, costs_fit, differences_fit, kept_readings, numbers_fit, others_fit, quotient_at, quotients_fit}
+use Rattle.tableau_core.specs.BoardContents.{BoardContents, IsBoardOf, IsPivoted, readings_of, width}
+use Rattle.tableau_core.specs.BoardNumbers.{AreLess, BoardNumbers, IsSettled, costs_fit, differences_fit, kept_readings, numbers_fit, others_fit, quotient_at, quotients_fit}
 
 -- ---- the tests of a pivot
 
@@ -25,7 +25,7 @@ regrouped true true c d = refl
 regrouped true false c d = refl
 regrouped false b c d = refl
 
-module _ (c : ℕ) (basis : List ℕ) (K : Numbers) (r q : ℕ) (in_first : Bool) where
+module _ (c : ℕ) (basis : List ℕ) (K : BoardNumbers) (r q : ℕ) (in_first : Bool) where
   abbrev R : Readings
   R = kept_readings c basis K
 
@@ -63,7 +63,7 @@ refused (Err x) P Q e h = h
 -- ---- a pivot put in place
 
 -- what was worked out with the step is so with the new row r, which is the step
-pub settled_by : (w r q : ℕ) (in_first : Bool) (K L : Numbers) (step : ℕ → Rational)
+pub settled_by : (w r q : ℕ) (in_first : Bool) (K L : BoardNumbers) (step : ℕ → Rational)
     → ((j : ℕ) → j < w + 1 → L.number r j ≡ step j)
     → ((j : ℕ) → j < w + 1 → step j ≡ quotient_at K.number r q j)
     → ((i : ℕ) → i < K.rows → ¬ (i ≡ r) → AreLess (w + 1) q step (K.number i) (L.number i))
@@ -81,7 +81,7 @@ settled_by w r q in_first K L step is divided others first second = record {
     by_row n few before after l j b =
         l j b ∙ ap (λ x. before j -ℚ before q *ℚ x) (sym (is j (few j b)))
 
-module _ (c : ℕ) (basis : List ℕ) (K L : Numbers) (r q : ℕ) (in_first : Bool)
+module _ (c : ℕ) (basis : List ℕ) (K L : BoardNumbers) (r q : ℕ) (in_first : Bool)
     (s : IsSettled (c + K.rows) r q in_first K L) where
   new_numbers : (j : ℕ) → j < c + K.rows + 1 → (i : ℕ) → i < K.rows
       → L.number i j ≡ pivoted r (λ k. K.number k q) (λ k. K.number k j) i
@@ -112,7 +112,7 @@ module _ (c : ℕ) (basis : List ℕ) (K L : Numbers) (r q : ℕ) (in_first : Bo
 -- ---- the board's contents
 
 -- K is what is kept, v its value, and t the board's contents
-module _ (c : ℕ) (basis : List ℕ) (K : Numbers) (v t : Contents) (view : v ≡ t)
+module _ (c : ℕ) (basis : List ℕ) (K : BoardNumbers) (v t : BoardContents) (view : v ≡ t)
     (value : Agrees v.in_first (readings_of v) (kept_readings c basis K)) where
   -- a row and a column of the contents are within what is kept
   pub row_kept : (r : ℕ) → r < length t.rows → r < K.rows
@@ -135,7 +135,7 @@ module _ (c : ℕ) (basis : List ℕ) (K : Numbers) (v t : Contents) (view : v �
         ∙ ap (λ t. pivot_fits t.in_first (readings_of t) r q) view
 
     -- what is kept after the pivot is L, whose value is u
-    pub pivoted_read : (d : ℕ) (after : List ℕ) (L : Numbers) (u : Contents)
+    pub pivoted_read : (d : ℕ) (after : List ℕ) (L : BoardNumbers) (u : BoardContents)
         → Agrees v.in_first (readings_of u) (kept_readings d after L) → d ≡ c
         → after ≡ slice_set basis r q → L.rows ≡ K.rows → u.in_first ≡ v.in_first
         → IsSettled (c + K.rows) r q v.in_first K L → IsPivoted r q t u
@@ -158,7 +158,7 @@ module _ (c : ℕ) (basis : List ℕ) (K : Numbers) (v t : Contents) (view : v �
 -- ---- the start
 
 -- the numbers of a form at its start, whose value is v
-module _ (F : Form) (basis : List ℕ) (K : Numbers) (v : Contents)
+module _ (F : Form) (basis : List ℕ) (K : BoardNumbers) (v : BoardContents)
     (value : Agrees v.in_first (readings_of v) (kept_readings F.reals basis K)) where
   start_columns : basis ≡ range_with_len F.reals F.rows → basis ≡ (start F).basis
   unfolding start

@@ -2,9 +2,9 @@
 pub mod Row
 pub mod Places
 pub mod Rows
-pub mod Numbers
+pub mod BoardNumbers
 pub mod TestLaws
-pub mod Contents
+pub mod BoardContents
 pub mod ContentsLaws
 pub mod KeptLaws
 pub mod Pivoting

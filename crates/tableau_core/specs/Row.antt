@@ -1,7 +1,7 @@
 -- What a pivot makes of a row of numbers.
 use Rattle.std.specs.Prelude.{◌≡◌, ℕ, ◌<◌, ◌≤◌, Bool, List, length, slice_index, slice_index_or}
 use Rattle.ratio_core.specs.Rational.{Fits, Rational, zero_ℚ, ◌*ℚ◌, ◌-ℚ◌, ◌/ℚ◌}
-use Rattle.tableau_core.specs.Numbers.{differences_fit}
+use Rattle.tableau_core.specs.BoardNumbers.{differences_fit}
 
 -- the j-th number of a row
 abbrev pub cell : List Rational → ℕ → Rational

@@ -2,7 +2,7 @@
 use Rattle.std.specs.Prelude.{◌≡◌, ℕ, ◌<◌, Bool, ◌||◌, nat_eq, List, [], length, Option, Some, None, slice_get}
 use Rattle.ratio_core.specs.Rational.{Rational}
 use Rattle.tableau_core.specs.declared.kept.Row.{Row}
-use Rattle.tableau_core.specs.Numbers.{Numbers}
+use Rattle.tableau_core.specs.BoardNumbers.{BoardNumbers}
 use Rattle.tableau_core.specs.Row.{IsLowered, IsPrepared, cell, lowering_fits}
 use Rattle.simplex_form.specs.Search.{all_below}
 
@@ -22,7 +22,7 @@ abbrev pub next_at : List Row → ℕ → List Rational
 next_at rows i = next_numbers (slice_get rows i)
 
 -- the numbers of the rows, each of which ends with its right side, and of the two cost rows
-abbrev pub numbers_in : List Row → List Rational → List Rational → Numbers
+abbrev pub numbers_in : List Row → List Rational → List Rational → BoardNumbers
 numbers_in rows first second = record {
   rows = length rows;
   number = λ i. cell (now_at rows i);

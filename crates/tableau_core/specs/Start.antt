@@ -2,7 +2,7 @@
 use Rattle.std.specs.Prelude.{◌≡◌, ℕ, ◌+◌, ◌*◌, ◌<◌, List, length}
 use Rattle.ratio_core.specs.Rational.{Rational}
 use Rattle.tableau_core.specs.Row.{cell}
-use Rattle.simplex_form.specs.Basis.{State, start}
+use Rattle.simplex_form.specs.Basis.{BasisState, start}
 use Rattle.simplex_form.specs.Form.{Form}
 
 -- the matrix is given row by row
@@ -21,7 +21,7 @@ pub record IsListOf (n : ℕ) (f : ℕ → Rational) (row : List Rational) : Typ
   pub cells : (j : ℕ) → j < n → cell row j ≡ f j
 
 -- a fact of the start of each form with this matrix
-abbrev pub AtEachStart : ℕ → ℕ → List Rational → (Form → State → Type 0) → Type 0
+abbrev pub AtEachStart : ℕ → ℕ → List Rational → (Form → BasisState → Type 0) → Type 0
 AtEachStart m c matrix P =
     (right costs : List Rational) →
     P (form_of m c matrix right costs) (start (form_of m c matrix right costs))

@@ -14,13 +14,13 @@ use Rattle.tableau_core.specs.Row.{AllFit, IsChanged, cell}
 
 -- the numbers of the columns from b on are those that are left, which the places from `from + b` on
 -- name
-pub record AreLeft (from c b : ℕ) (all left : List (ℕ × Rational)) : Type 0 where
+pub record AreTermsLeft (from c b : ℕ) (all left : List (ℕ × Rational)) : Type 0 where
   pub low : b ≤ c
   pub terms : AreTerms (from + b) (from + c) left
   pub numbers : (j : ℕ) → b ≤ j → j < c → number_at all (from + j) ≡ number_at left (from + j)
 
 pub all_left : (from c : ℕ) (all : List (ℕ × Rational)) → AreTerms from (from + c) all
-    → AreLeft from c 0 all all
+    → AreTermsLeft from c 0 all all
 all_left from c all h = record {
   low = omega arith;
   terms = subst (λ k. AreTerms k (from + c) all) (none_lem from) h;
@@ -31,7 +31,7 @@ all_left from c all h = record {
     none_lem n = omega arith
 
 module _ (from c b : ℕ) (all : List (ℕ × Rational)) where
-  module _ (t : ℕ × Rational) (left : List (ℕ × Rational)) (h : AreLeft from c b all (t ∷ left)) where
+  module _ (t : ℕ × Rational) (left : List (ℕ × Rational)) (h : AreTermsLeft from c b all (t ∷ left)) where
     -- the term's column
     pub column_within : t.0 - from < c
     column_within = omega (arith, h.terms.0, h.terms.1)
@@ -57,7 +57,7 @@ module _ (from c b : ℕ) (all : List (ℕ × Rational)) where
         h.numbers (t.0 - from) column_past column_within
         ∙ number_here t left (from + (t.0 - from)) (sym back)
 
-    pub left_after : AreLeft from c (t.0 - from + 1) all left
+    pub left_after : AreTermsLeft from c (t.0 - from + 1) all left
     left_after = record {
       low = omega (arith, column_within);
       terms = subst (λ k. AreTerms k (from + c) left) (next_lem from t.0 place_past) h.terms.2;
@@ -69,7 +69,7 @@ module _ (from c b : ℕ) (all : List (ℕ × Rational)) where
         next_lem : (from p : ℕ) → from ≤ p → p + 1 ≡ from + (p - from + 1)
         next_lem from p b = omega (arith, b)
 
-  pub zero_at_end : AreLeft from c b all [] → (j : ℕ) → b ≤ j → j < c
+  pub zero_at_end : AreTermsLeft from c b all [] → (j : ℕ) → b ≤ j → j < c
       → number_at all (from + j) ≡ zero_ℚ
   zero_at_end h j d e = h.numbers j d e
 
@@ -82,7 +82,7 @@ module _ (g : Rational → Rational → Rational) (from c b : ℕ) (all : List (
       → cell now j ≡ g (cell old j) (number_at all (from + j))
   skipped j d e z = changed.others j d ∙ sym (none j e) ∙ ap (g (cell old j)) (sym z)
 
-  pub changed_more : (t : ℕ × Rational) (left : List (ℕ × Rational)) → AreLeft from c b all (t ∷ left)
+  pub changed_more : (t : ℕ × Rational) (left : List (ℕ × Rational)) → AreTermsLeft from c b all (t ∷ left)
       → (next : List Rational) → length next ≡ length now
       → cell next (t.0 - from) ≡ g (cell now (t.0 - from)) t.1
       → ((j : ℕ) → ¬ (j ≡ t.0 - from) → cell next j ≡ cell now j)
@@ -106,7 +106,7 @@ module _ (g : Rational → Rational → Rational) (from c b : ℕ) (all : List (
           skipped j e (omega (arith, d, column_within from c b all t left h))
           (zero_before from c b all t left h j e d)
 
-  pub changed_all : AreLeft from c b all [] → IsChanged (λ j x. g x (number_at all (from + j))) c old now
+  pub changed_all : AreTermsLeft from c b all [] → IsChanged (λ j x. g x (number_at all (from + j))) c old now
   changed_all h = record {
     long = changed.long;
     changed = λ j d. by_start j d (cases_lt j b);
@@ -122,7 +122,7 @@ module _ (g : Rational → Rational → Rational) (from c b : ℕ) (all : List (
 pub record IsDoneTo (g : Rational → Rational → Rational) (from c : ℕ)
     (all left : List (ℕ × Rational)) (old now : List Rational) : Type 0 where
   pub next : ℕ
-  pub rest : AreLeft from c next all left
+  pub rest : AreTermsLeft from c next all left
   pub changed : IsChanged (λ j x. g x (number_at all (from + j))) next old now
 
 pub done_none : (g : Rational → Rational → Rational) (from c : ℕ) (all : List (ℕ × Rational))

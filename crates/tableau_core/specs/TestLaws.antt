@@ -4,7 +4,7 @@ use Rattle.std.proofs.Common.{sym, ◌∙◌, ap, arith}
 use Rattle.ratio_core.specs.Rational.{Rational}
 use Rattle.simplex_form.specs.Fit.{lowered_fits}
 use Rattle.simplex_laws.specs.SearchLaws.{all_below_same}
-use Rattle.tableau_core.specs.Numbers.{Numbers, costs_fit, differences_fit, numbers_fit, others_fit, quotient_at, quotients_fit}
+use Rattle.tableau_core.specs.BoardNumbers.{BoardNumbers, costs_fit, differences_fit, numbers_fit, others_fit, quotient_at, quotients_fit}
 
 differences_same : (w : ℕ) (f : ℕ → Rational) (by : Rational) (u v : ℕ → Rational)
     → ((j : ℕ) → j < w → u j ≡ v j) → differences_fit w f by u ≡ differences_fit w f by v
@@ -38,7 +38,7 @@ module _ (w q : ℕ) (in_first : Bool) (first second u v : ℕ → Rational)
       ∙ ap (λ x. x && differences_fit w second (second q) v) (t ∙ first_same w1 e)
 
 -- `step` is the pivot's new row
-module _ (w r q : ℕ) (in_first : Bool) (K : Numbers) (step : ℕ → Rational)
+module _ (w r q : ℕ) (in_first : Bool) (K : BoardNumbers) (step : ℕ → Rational)
     (divided : (j : ℕ) → j < w + 1 → step j ≡ quotient_at K.number r q j) where
   others_same : others_fit w r q K step ≡ others_fit w r q K (quotient_at K.number r q)
   others_same =

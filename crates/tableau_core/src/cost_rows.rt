@@ -1,8 +1,8 @@
 //! The two cost rows.
 ghost use Rattle.std.specs.Prelude.{◌≡◌, ℕ, ◌<◌, ◌≤◌, List, ◌||◌, not, IsTrue, length, is_ok, OnOk};
 ghost use Rattle.ratio_core.specs.Rational.{Rational};
-ghost use Rattle.tableau_core.specs.Numbers.{costs_fit};
-ghost use Rattle.tableau_core.specs.Places.{Covers};
+ghost use Rattle.tableau_core.specs.BoardNumbers.{costs_fit};
+ghost use Rattle.tableau_core.specs.Places.{CoversNonzeros};
 ghost use Rattle.tableau_core.specs.Row.{IsLowered, IsPrepared, cell, lowering_fits};
 
 use crate::fault::BoardOverflow;
@@ -29,7 +29,7 @@ impl CostRows {
         requires within { q < length self.old.second.now.items }
         requires first_long { length self.old.first.now.items ≡ length self.old.second.now.items }
         requires step_long { length self.old.second.now.items ≤ length step.now }
-        requires covers { Covers places.now step.now }
+        requires covers { CoversNonzeros places.now step.now }
         ensures use_stays { self.new.in_first ≡ self.old.in_first }
         ensures first_stays { self.new.first.now.items ≡ self.old.first.now.items }
         ensures second_stays { self.new.second.now.items ≡ self.old.second.now.items }
@@ -53,12 +53,12 @@ impl CostRows {
         ensures first_long { length self.new.first.now.items ≡ length self.old.first.now.items }
         ensures second_long { length self.new.second.now.items ≡ length self.old.second.now.items }
         ensures first_lowered { IsTrue self.old.in_first → (step : List Rational)
-            → length self.old.first.now.items ≤ length step → Covers places.now step
+            → length self.old.first.now.items ≤ length step → CoversNonzeros places.now step
             → IsPrepared q step self.old.first.now.items self.old.first.next.items
             → IsLowered (cell self.old.first.now.items q) step
             self.old.first.now.items self.new.first.now.items }
         ensures second_lowered { (step : List Rational)
-            → length self.old.second.now.items ≤ length step → Covers places.now step
+            → length self.old.second.now.items ≤ length step → CoversNonzeros places.now step
             → IsPrepared q step self.old.second.now.items self.old.second.next.items
             → IsLowered (cell self.old.second.now.items q) step
             self.old.second.now.items self.new.second.now.items }
@@ -78,7 +78,7 @@ fn prepare_if(
 ) -> Result<(), BoardOverflow>
     requires within { q < length row.old.now.items }
     requires step_long { length row.old.now.items ≤ length step.now }
-    requires covers { Covers places.now step.now }
+    requires covers { CoversNonzeros places.now step.now }
     ensures stays { row.new.now.items ≡ row.old.now.items }
     ensures fits { is_ok result ≡ (not used || lowering_fits q step.now row.old.now.items) }
     ensures ok { OnOk result
@@ -94,7 +94,7 @@ fn prepare_if(
 fn settle_if(used: bool, row: &mut Row, q: usize, places: &[usize])
     requires { q < length row.old.now.items }
     ensures lowered { IsTrue used → (step : List Rational)
-        → length row.old.now.items ≤ length step → Covers places.now step
+        → length row.old.now.items ≤ length step → CoversNonzeros places.now step
         → IsPrepared q step row.old.now.items row.old.next.items
         → IsLowered (cell row.old.now.items q) step row.old.now.items row.new.now.items }
     ensures long { length row.new.now.items ≡ length row.old.now.items }

@@ -28,15 +28,15 @@ pub struct DenseBoard {
 }
 
 impl Model for DenseBoard {
-    ghost use Rattle.tableau_core.specs.Contents.{Contents};
+    ghost use Rattle.tableau_core.specs.BoardContents.{BoardContents};
 
-    ghost Value = { Contents };
+    ghost Value = { BoardContents };
 
-    ghost use Rattle.tableau_core.specs.Kept.{IsKept, contents_of};
+    ghost use Rattle.tableau_core.specs.Kept.{IsDenseBoardKept, contents_of};
 
     ghost view = { contents_of };
 
-    ghost invariant = { IsKept };
+    ghost invariant = { IsDenseBoardKept };
 }
 
 impl Tableau for DenseBoard {

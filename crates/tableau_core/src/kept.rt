@@ -1,7 +1,7 @@
 //! A row of the board, with room for the row that comes after it.
 ghost use Rattle.std.specs.Prelude.{◌≡◌, ℕ, ◌<◌, ◌≤◌, List, length, is_ok, IfOk, OnOk};
 ghost use Rattle.ratio_core.specs.Rational.{Rational, zero_ℚ};
-ghost use Rattle.tableau_core.specs.Places.{Covers};
+ghost use Rattle.tableau_core.specs.Places.{CoversNonzeros};
 ghost use Rattle.tableau_core.specs.Row.{AllFit, IsLowered, IsPrepared, cell, lowering_fits};
 
 use crate::fault::BoardOverflow;
@@ -47,7 +47,7 @@ impl Row {
     ) -> Result<(), BoardOverflow>
         requires within { q < length self.old.now.items }
         requires step_long { length self.old.now.items ≤ length step.now }
-        requires covers { Covers places.now step.now }
+        requires covers { CoversNonzeros places.now step.now }
         ensures stays { self.new.now.items ≡ self.old.now.items }
         ensures fits { is_ok result ≡ lowering_fits q step.now self.old.now.items }
         ensures ok { OnOk result (IsPrepared q step.now self.old.now.items self.new.next.items) }
@@ -64,7 +64,7 @@ impl Row {
         requires { q < length self.old.now.items }
         ensures long { length self.new.now.items ≡ length self.old.now.items }
         ensures lowered { (step : List Rational) → length self.old.now.items ≤ length step
-            → Covers places.now step
+            → CoversNonzeros places.now step
             → IsPrepared q step self.old.now.items self.old.next.items
             → IsLowered (cell self.old.now.items q) step self.old.now.items self.new.now.items }
     {

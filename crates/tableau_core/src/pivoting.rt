@@ -1,8 +1,8 @@
 //! A pivot worked out beside what stands.
 ghost use Rattle.std.specs.Prelude.{◌≡◌, ◌≢◌, ◌+◌, ◌<◌, ◌≤◌, ℕ, length, take, is_ok, IfOk, OnOk};
 ghost use Rattle.ratio_core.specs.Rational.{zero_ℚ};
-ghost use Rattle.tableau_core.specs.Numbers.{IsSettled, numbers_fit, quotients_fit};
-ghost use Rattle.tableau_core.specs.Places.{Covers};
+ghost use Rattle.tableau_core.specs.BoardNumbers.{IsSettled, numbers_fit, quotients_fit};
+ghost use Rattle.tableau_core.specs.Places.{CoversNonzeros};
 ghost use Rattle.tableau_core.specs.Row.{AllFit, IsDivided, cell};
 ghost use Rattle.tableau_core.specs.Rows.{AreWide, now_at, numbers_in};
 ghost use Rattle.tableau_core.specs.Pivoting.{IsReady};
@@ -43,7 +43,7 @@ pub(crate) fn prepare_pivot(
         costs.old.in_first
         (numbers_in rows.old costs.old.first.now.items costs.old.second.now.items) }
     ensures used { IfOk result (λ used. used ≤ length places.new) }
-    ensures covers { IfOk result (λ used. Covers (take used places.new) step.new) }
+    ensures covers { IfOk result (λ used. CoversNonzeros (take used places.new) step.new) }
     ensures ok { OnOk result (IsReady rows.new r q costs.new step.new) }
 {
     divide_row(rows, r, q, step)?;
@@ -86,7 +86,7 @@ pub(crate) fn settle_pivot(
     requires first_long { length costs.old.first.now.items ≡ length costs.old.second.now.items }
     requires step_long { length step.old.items ≡ length costs.old.second.now.items + 1 }
     requires step_fits { AllFit step.old.items }
-    requires covers { Covers places.now step.old.items }
+    requires covers { CoversNonzeros places.now step.old.items }
     requires ready { IsReady rows.old r q costs.old step.old.items }
     ensures settled { IsSettled (length costs.old.second.now.items) r q costs.old.in_first
         (numbers_in rows.old costs.old.first.now.items costs.old.second.now.items)

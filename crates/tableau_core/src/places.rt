@@ -1,6 +1,6 @@
 //! Where the pivot's new row has a number that isn't 0: a row is lowered there alone.
 ghost use Rattle.std.specs.Prelude.{◌≡◌, ◌≤◌, length, take, IfOk};
-ghost use Rattle.tableau_core.specs.Places.{Covers};
+ghost use Rattle.tableau_core.specs.Places.{CoversNonzeros};
 
 use ratio_core::Ratio;
 use std::alloc::{AllocError, Global};
@@ -16,7 +16,7 @@ pub(crate) fn room_for_places(alloc: Global, n: usize) -> Result<Vec<usize>, All
 pub(crate) fn note_places(row: &[Ratio], places: &mut [usize]) -> usize
     requires { length row.now ≤ length places.old }
     ensures within { result ≤ length places.new }
-    ensures covers { Covers (take result places.new) row.now }
+    ensures covers { CoversNonzeros (take result places.new) row.now }
 {
     let mut used = 0;
     for j in 0..row.len() {

@@ -2,8 +2,8 @@
 ghost use Rattle.std.specs.Prelude.{◌≡◌, ◌≢◌, ◌≤◌, length, is_ok, IfOk, OkIff, OnOk};
 ghost use Rattle.ratio_core.specs.Rational.{Fits, SumFits, neg_ℚ, zero_ℚ, ◌*ℚ◌, ◌-ℚ◌, ◌/ℚ◌};
 ghost use Rattle.simplex_form.specs.Fit.{lowered_fits};
-ghost use Rattle.tableau_core.specs.Numbers.{differences_fit, quotients_fit};
-ghost use Rattle.tableau_core.specs.Places.{Covers};
+ghost use Rattle.tableau_core.specs.BoardNumbers.{differences_fit, quotients_fit};
+ghost use Rattle.tableau_core.specs.Places.{CoversNonzeros};
 ghost use Rattle.tableau_core.specs.Row.{AllFit, IsDivided, IsLoweredBeside, IsPutAt, cell};
 
 use crate::fault::BoardOverflow;
@@ -49,7 +49,7 @@ pub(crate) fn lower(
 ) -> Result<(), BoardOverflow>
     requires long { length next.old ≡ length row.now }
     requires step_long { length row.now ≤ length step.now }
-    requires covers { Covers places.now step.now }
+    requires covers { CoversNonzeros places.now step.now }
     requires row_fits { AllFit row.now }
     requires next_fits { AllFit next.old }
     ensures fits { is_ok result ≡ differences_fit (length row.now) (cell row.now) by.now

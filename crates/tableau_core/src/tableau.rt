@@ -4,7 +4,7 @@ ghost use Rattle.ratio_core.specs.Rational.{zero_ℚ, ◌≤ℚ◌, ◌‹ℚ◌
 ghost use Rattle.simplex_form.specs.Basis.{start};
 ghost use Rattle.simplex_form.specs.Fit.{pivot_fits, start_fits};
 ghost use Rattle.simplex_form.specs.Turns as bland;
-ghost use Rattle.tableau_core.specs.Contents.{Contents, IsBoardOf, IsInUse, IsPivoted, prices_of, readings_of, width};
+ghost use Rattle.tableau_core.specs.BoardContents.{BoardContents, IsBoardOf, IsInUse, IsPivoted, prices_of, readings_of, width};
 ghost use Rattle.tableau_core.specs.Start.{form_of};
 
 use crate::cost_row::CostRow;
@@ -16,7 +16,7 @@ use std::alloc::Global;
 /// and the right sides. The first cost row is in use until `end_phase_one`.
 pub trait Tableau: Sized {
     /// What the board keeps.
-    ghost contents: { Self → Contents };
+    ghost contents: { Self → BoardContents };
 
     /// The board at the artificial columns, of `m` rows and `c` real columns with the matrix row by
     /// row. Overflow where a sum of a column's entries doesn't fit.

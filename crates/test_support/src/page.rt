@@ -1,3 +1,4 @@
+//! The page on which a program of tests prints.
 use std::alloc::Global;
 use std::fmt::Display;
 use std::process::ExitCode;

@@ -1,3 +1,4 @@
+//! The one error by which a program of tests ends early.
 use std::error::Error;
 
 /// Running out of memory, a line that says nothing that the program does, an edit that is to be

@@ -22,7 +22,7 @@ use Rattle.map_laws.specs.MadeLaws.{entries_empty}
 use Rattle.numbered_list.specs.declared.change.Change.{Change}
 use Rattle.user_model.specs.declared.row.Row.{Row}
 use Rattle.user_model.specs.declared.undo.Undo.{Undo}
-use Rattle.touched_items.specs.FirstLaws.{Changes, HasFirst, HasTaken, more_taken}
+use Rattle.touched_items.specs.FirstLaws.{ChangesByNumber, HasFirst, HasTaken, more_taken}
 use Rattle.touched_items.specs.Search.{AreInOrder, is_objective, is_row}
 
 -- one more item of a list
@@ -147,7 +147,7 @@ at_most_one true n a e = omega arith
 at_most_one false n a e = omega arith
 
 pub undo_taken : {X : Type 0} (f : Undo → List (Change X)) (undos left rest : List Undo) (u : Undo)
-    (cs : List (Change X)) (old now new : Changes X)
+    (cs : List (Change X)) (old now new : ChangesByNumber X)
     → HasTaken (flat_map f undos) (flat_map f left) old now → left ≡ rest ++ u ∷ [] → cs ≡ f u
     → HasFirst cs now new → HasTaken (flat_map f undos) (flat_map f rest) old new
 undo_taken f undos left rest u cs old now new h is same has =

@@ -28,11 +28,11 @@ use Rattle.numbered_list.specs.Changes.{AreChanges}
 use Rattle.user_model.specs.declared.undo.Undo.{Undo}
 use Rattle.touched_items.specs.FirstChanges.{AreFirst, first_objective, stood_at}
 use Rattle.touched_items.specs.UndoLaws.{listed_changes, objective_stood, stood_is}
-use Rattle.touched_items.specs.declared.listed.Listed.{Listed}
+use Rattle.touched_items.specs.declared.listed.ListedChanges.{ListedChanges}
 use Rattle.touched_items.specs.Differences.{AreDiffering, addresses_in, differing_addresses, group_addresses, groups_in, listed_groups, listed_rows, row_addresses, rows_in}
 use Rattle.touched_items.specs.SideLaws.{found_itself}
 use Rattle.touched_items.specs.Sides.{AreSides, IsSeparated, differ, same}
-use Rattle.touched_items.specs.declared.differing.Contents.{Contents}
+use Rattle.touched_items.specs.declared.differing.ModelItems.{ModelItems}
 use Rattle.touched_items.specs.declared.differing.Differing.{Differing}
 use Rattle.user_model.specs.declared.group.Group.{Group}
 use Rattle.user_model.specs.declared.row.Row.{Row}
@@ -310,14 +310,14 @@ module _ (model after : ModelValue) (d : Differing) (h : HasDifferences model af
 
   -- ---- and nothing else
 
-  in_groups : (c : Contents) (at : Address) → ¬ (Contains (addresses_in c) at)
+  in_groups : (c : ModelItems) (at : Address) → ¬ (Contains (addresses_in c) at)
       → ¬ (Contains (group_addresses (groups_in c)) at)
   in_groups c at out k =
       out (Contains-append_left (group_addresses (groups_in c))
       (row_addresses (rows_in c) ++ option_map_or (λ _. objective_address ∷ []) c.objective []) at
       k)
 
-  in_rows : (c : Contents) (at : Address) → ¬ (Contains (addresses_in c) at)
+  in_rows : (c : ModelItems) (at : Address) → ¬ (Contains (addresses_in c) at)
       → ¬ (Contains (row_addresses (rows_in c)) at)
   in_rows c at out k =
       out (Contains-append_right (group_addresses (groups_in c))
@@ -325,7 +325,7 @@ module _ (model after : ModelValue) (d : Differing) (h : HasDifferences model af
       (Contains-append_left (row_addresses (rows_in c))
       (option_map_or (λ _. objective_address ∷ []) c.objective []) at k))
 
-  in_objective : (c : Contents) (at : Address) → ¬ (Contains (addresses_in c) at)
+  in_objective : (c : ModelItems) (at : Address) → ¬ (Contains (addresses_in c) at)
       → ¬ (Contains (option_map_or (λ _. objective_address ∷ []) c.objective []) at)
   in_objective c at out k =
       out (Contains-append_right (group_addresses (groups_in c))
@@ -407,13 +407,13 @@ alike_sides number_of item_of was other is before after e sides = record {
 }
 
 -- undos that lead back to a model list what was there
-pub record Lists (undos : List Undo) (listed : Listed) : Type 0 where
+pub record UndosList (undos : List Undo) (listed : ListedChanges) : Type 0 where
   pub groups : AreFirst (flat_map (λ u. u.groups) undos) (listed_groups listed)
   pub rows : AreFirst (flat_map (λ u. u.rows) undos) (listed_rows listed)
   pub objective : option_copied listed.objective ≡ first_objective undos
 
 module _ (model : ModelValue) (undos : List Undo) (after : ModelValue)
-    (back : LeadBackTo model undos after) (listed : Listed) (lists : Lists undos listed) where
+    (back : LeadBackTo model undos after) (listed : ListedChanges) (lists : UndosList undos listed) where
   pub groups_listed : AreChanges group_number (listed_groups listed)
   groups_listed =
       listed_changes group_number (λ m. m.groups) (λ u. u.groups) (λ old new undo is. is.groups)

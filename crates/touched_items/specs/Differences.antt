@@ -15,32 +15,32 @@ use Rattle.user_model.specs.declared.group.Group.{Group}
 use Rattle.user_model.specs.declared.row.Row.{Row}
 use Rattle.touched_items.specs.FirstChanges.{stood_at}
 use Rattle.touched_items.specs.Sides.{AreSides, IsSeparated}
-use Rattle.touched_items.specs.declared.differing.Contents.{Contents}
+use Rattle.touched_items.specs.declared.differing.ModelItems.{ModelItems}
 use Rattle.touched_items.specs.declared.differing.Differing.{Differing}
-use Rattle.touched_items.specs.declared.listed.Listed.{Listed}
+use Rattle.touched_items.specs.declared.listed.ListedChanges.{ListedChanges}
 
 -- ---- what is listed
 
-abbrev pub listed_groups : Listed → List (Change Group)
+abbrev pub listed_groups : ListedChanges → List (Change Group)
 listed_groups listed = map (λ c. c.now) listed.groups.items
 
-abbrev pub listed_rows : Listed → List (Change Row)
+abbrev pub listed_rows : ListedChanges → List (Change Row)
 listed_rows listed = map (λ c. c.now) listed.rows.items
 
-abbrev pub count_listed : Listed → ℕ
+abbrev pub count_listed : ListedChanges → ℕ
 count_listed listed =
     length listed.groups.items + length listed.rows.items
     + option_map_or (λ _. 1) listed.objective 0
 
 -- ---- what differs
 
-abbrev pub groups_in : Contents → List Group
+abbrev pub groups_in : ModelItems → List Group
 groups_in contents = map (λ g. g.now) contents.groups.items
 
-abbrev pub rows_in : Contents → List Row
+abbrev pub rows_in : ModelItems → List Row
 rows_in contents = map (λ r. r.now) contents.rows.items
 
-pub record AreDiffering (listed : Listed) (model : ModelValue) (d : Differing) : Type 0 where
+pub record AreDiffering (listed : ListedChanges) (model : ModelValue) (d : Differing) : Type 0 where
   pub groups :
       AreSides group_number group_item
       (stood_at (λ n. find group_number n model.groups) (listed_groups listed))
@@ -62,7 +62,7 @@ group_addresses groups = map (λ g. root_address root.Group g.id) groups
 abbrev pub row_addresses : List Row → List Address
 row_addresses rows = map (λ r. root_address root.Row r.id) rows
 
-abbrev pub addresses_in : Contents → List Address
+abbrev pub addresses_in : ModelItems → List Address
 addresses_in contents =
     group_addresses (groups_in contents)
     ++ (row_addresses (rows_in contents)

@@ -82,21 +82,21 @@ module _ {B X : Type 0} (read : B → X) (number_of : X → ℕ) where
 
 -- ---- changes by their numbers, those that come later first
 
-abbrev pub Changes : Type 0 → Type 0
-Changes X = BTreeMap ℕ (Bor (Change X))
+abbrev pub ChangesByNumber : Type 0 → Type 0
+ChangesByNumber X = BTreeMap ℕ (Bor (Change X))
 
 module _ {X : Type 0} where
-  abbrev pub change_in : Changes X → ℕ → Option (Change X)
+  abbrev pub change_in : ChangesByNumber X → ℕ → Option (Change X)
   change_in m n = option_copied (get nat_cmp m n)
 
   -- these changes are in the map, the first of each number in the place of any other
-  pub record HasFirst (changes : List (Change X)) (old new : Changes X) : Type 0 where
+  pub record HasFirst (changes : List (Change X)) (old new : ChangesByNumber X) : Type 0 where
     pub first :
         (n : ℕ) → change_in new n ≡ option_or (find changed_number n changes) (change_in old n)
     pub few : btree_map_len new ≤ btree_map_len old + length changes
 
   -- all but those that are left
-  pub record HasTaken (changes left : List (Change X)) (old new : Changes X) : Type 0 where
+  pub record HasTaken (changes left : List (Change X)) (old new : ChangesByNumber X) : Type 0 where
     pub taken : List (Change X)
     pub all : changes ≡ left ++ taken
     pub has : HasFirst taken old new
@@ -105,7 +105,8 @@ module _ {X : Type 0} where
   or_or None p q = refl
   or_or (Some c) p q = refl
 
-  pub none_taken : (changes : List (Change X)) (m : Changes X) → HasTaken changes changes m m
+  pub none_taken : (changes : List (Change X)) (m : ChangesByNumber X)
+      → HasTaken changes changes m m
   none_taken changes m = record {
     taken = [];
     all = sym (append-nil changes);
@@ -113,7 +114,7 @@ module _ {X : Type 0} where
   }
 
   -- some more, which stand before those so far
-  pub more_taken : (changes left rest more : List (Change X)) (old now new : Changes X)
+  pub more_taken : (changes left rest more : List (Change X)) (old now new : ChangesByNumber X)
       → HasTaken changes left old now → left ≡ rest ++ more → HasFirst more now new
       → HasTaken changes rest old new
   more_taken changes left rest more old now new h is has = record {
@@ -129,13 +130,13 @@ module _ {X : Type 0} where
     };
   }
 
-  pub all_taken : (changes left : List (Change X)) (old new : Changes X) → left ≡ []
+  pub all_taken : (changes left : List (Change X)) (old new : ChangesByNumber X) → left ≡ []
       → HasTaken changes left old new → HasFirst changes old new
   all_taken changes left old new none h =
       subst (λ l. HasFirst l old new) (sym (h.all ∙ ap (λ l. l ++ h.taken) none)) h.has
 
   -- one change
-  pub one_put : (c : Bor (Change X)) (old new : Changes X)
+  pub one_put : (c : Bor (Change X)) (old new : ChangesByNumber X)
       → Updates nat_cmp old new c.now.number (Some c)
       → btree_map_len new ≤ btree_map_len old + 1 → HasFirst (c.now ∷ []) old new
   one_put c old new updates few = record {
@@ -152,7 +153,7 @@ module _ {X : Type 0} where
       by false o = refl
 
   -- the changes of such a map, in its order
-  pub listed_first : (changes : List (Change X)) (old m : Changes X) (list : List (Bor (Change X)))
+  pub listed_first : (changes : List (Change X)) (old m : ChangesByNumber X) (list : List (Bor (Change X)))
       → old.entries ≡ [] → HasFirst changes old m → IsOrdered nat_cmp m
       → All (λ e. get nat_cmp m e.0 ≡ Some e.1) m.entries → list ≡ values m
       → AreFirst changes (map (λ c. c.now) list)

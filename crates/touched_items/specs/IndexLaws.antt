@@ -23,7 +23,7 @@ use Rattle.item_core.specs.declared.item.Body.TheVariants.{PlainObj, AffineObj}
 use Rattle.item_core.specs.declared.item.Item.{Item}
 use Rattle.local_laws.specs.Held.{is_there}
 use Rattle.local_laws.specs.ListedLaws.{by_parts, found_by_number, found_nowhere, three}
-use Rattle.local_laws.specs.MentionLaws.{IsIndexOf, OtherMentions, names_in, names_listed}
+use Rattle.local_laws.specs.MentionLaws.{NotesMentions, OtherMentions, names_in, names_listed}
 use Rattle.local_laws.specs.StaysLaws.{found_is, groups_are}
 use Rattle.numbered_list.specs.Laws.{Contains-found, number_of_found}
 use Rattle.numbered_list.specs.Numbered.{find}
@@ -295,7 +295,7 @@ module _ (model : ModelValue) (valid : IsValid model) (var : Address) where
 -- so notes that say which rows, and whether the objective, name which variables are the index
 pub notes_are_index : (model : ModelValue) → IsValid model → (noted : Noted)
     → ((var at : Address) → is_some (finite.get (noted_in noted var) at) ≡ other_names model var at)
-    → IsIndexOf model (noted_items noted)
+    → NotesMentions model (noted_items noted)
 notes_are_index model valid noted h var at = (
   λ c. names_mentioned model valid var at
       (sym (h var at)

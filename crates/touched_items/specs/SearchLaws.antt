@@ -25,7 +25,7 @@ use Rattle.local_laws.specs.GoneLaws.{all_kept, kept_in}
 use Rattle.local_laws.specs.Held.{HasOwn}
 use Rattle.local_laws.specs.ListedLaws.{found_nowhere}
 use Rattle.local_laws.specs.LookedLaws.{contains_or_not}
-use Rattle.local_laws.specs.MentionLaws.{IsBesideGroups, IsIndexOf, IsSearched, touched_exactly}
+use Rattle.local_laws.specs.MentionLaws.{IsBesideGroups, IsSearched, NotesMentions, touched_exactly}
 use Rattle.local_laws.specs.Sound.{IsValidUnder}
 use Rattle.local_laws.specs.Stays.{StaysAt}
 use Rattle.local_laws.specs.UntouchedLaws.{found_exactly as count_found}
@@ -236,7 +236,7 @@ module _ {setting : Setting} {model after : ModelValue} (sound : IsValidUnder se
     (standing : List Entry)
     (stands : (v : Address) → Contains (own_variables d) v
     → expression_in standing v ≡ expression_of new v)
-    (index : IsIndexOf model (noted_items m.noted)) where
+    (index : NotesMentions model (noted_items m.noted)) where
   abbrev changed : List Address
   changed = changed_by sound after old d h m has standing (expression_of new) stands
 

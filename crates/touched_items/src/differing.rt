@@ -7,7 +7,7 @@ ghost use Rattle.user_model.specs.Edited.{group_number, row_number};
 ghost use Rattle.touched_items.specs.Differences.{AreDiffering, count_listed, listed_groups, listed_rows};
 ghost use Rattle.touched_items.specs.Sides.{IsSeparated};
 
-use crate::Listed;
+use crate::ListedChanges;
 use crate::same::same_objective;
 use crate::separating::{separate_groups, separate_rows};
 use lists::Memory;
@@ -18,7 +18,7 @@ use user_model::{Group, Objective, Row};
 /// Items of a model: groups and rows in the order of their numbers, and the objective, where it is
 /// one of them.
 #[derive(Debug, Drop)]
-pub struct Contents<'a> {
+pub struct ModelItems<'a> {
     pub groups: Vec<&'a Group>,
     pub rows: Vec<&'a Row>,
     pub objective: Option<&'a Objective>,
@@ -27,15 +27,15 @@ pub struct Contents<'a> {
 /// The items whose content differs, names aside: as they were, and as they are.
 #[derive(Debug, Drop)]
 pub struct Differing<'a> {
-    pub before: Contents<'a>,
-    pub after: Contents<'a>,
+    pub before: ModelItems<'a>,
+    pub after: ModelItems<'a>,
 }
 
 /// Which of the listed items differ from what stands now. Each is read once.
 pub fn compare_listed<'a>(
     alloc: Global,
     reading: &mut CountedView<'a>,
-    listed: &Listed<'a>,
+    listed: &ListedChanges<'a>,
 ) -> Result<Differing<'a>, Memory>
     requires groups { AreChanges group_number (listed_groups listed.now) }
     requires rows { AreChanges row_number (listed_rows listed.now) }
@@ -47,12 +47,12 @@ pub fn compare_listed<'a>(
     let rows = separate_rows(alloc, reading, &listed.rows)?;
     let (was, is) = separate_objective(reading, listed.objective);
     Ok(Differing {
-        before: Contents {
+        before: ModelItems {
             groups: groups.before,
             rows: rows.before,
             objective: was,
         },
-        after: Contents {
+        after: ModelItems {
             groups: groups.after,
             rows: rows.after,
             objective: is,

@@ -8,7 +8,7 @@ ghost use Rattle.touched_items.specs.Differences.{addresses_in, differing_addres
 ghost use Rattle.touched_items.specs.Search.{AreInOrder, is_objective, is_row, objective_among, row_at};
 ghost use Rattle.touched_items.specs.Results.{found_rows};
 
-use crate::{Contents, Differing};
+use crate::{Differing, ModelItems};
 use address_map::{AddressMap, AddressSet};
 use aff_core::{Address, Root};
 use lists::Memory;
@@ -18,7 +18,7 @@ use user_model::{Group, Objective, Row};
 
 /// The items that a search finds. The groups among them are those that differ.
 #[derive(Debug, Drop)]
-pub struct Found<'a> {
+pub struct FoundItems<'a> {
     /// The addresses of all, whether they stood before or stand now, in their order, each once.
     pub addresses: Vec<Address>,
     /// The found rows that stand now, in the order of their numbers.
@@ -35,7 +35,7 @@ pub fn find_items<'a>(
     map: &AddressMap,
     differing: &Differing<'a>,
     changed: &[Address],
-) -> Result<Found<'a>, Memory>
+) -> Result<FoundItems<'a>, Memory>
     ensures addresses { IfOk result (λ found. AreInOrder
         (differing_addresses differing.now ++ flat_map (noted_items map.now.noted) changed.now)
         found.addresses.items) }
@@ -51,7 +51,7 @@ pub fn find_items<'a>(
     let addresses = in_order(listed);
     let rows = read_rows(alloc, reading, &addresses)?;
     let objective = read_objective(reading, &addresses);
-    Ok(Found {
+    Ok(FoundItems {
         addresses,
         rows,
         objective,
@@ -77,7 +77,7 @@ fn list_found(
     Ok(list)
 }
 
-fn list_contents(contents: &Contents<'_>, list: &mut Vec<Address>) -> Result<(), Memory>
+fn list_contents(contents: &ModelItems<'_>, list: &mut Vec<Address>) -> Result<(), Memory>
     ensures { OnOk result (list.new.items ≡ list.old.items ++ addresses_in contents.now) }
 {
     list_groups(&contents.groups, list)?;

@@ -9,6 +9,6 @@ mod same;
 mod separating;
 
 pub use changed::{changed_variables, own_variables};
-pub use differing::{Contents, Differing, compare_listed};
-pub use found::{Found, find_items};
-pub use listed::{Listed, list_undos};
+pub use differing::{Differing, ModelItems, compare_listed};
+pub use found::{FoundItems, find_items};
+pub use listed::{ListedChanges, list_undos};

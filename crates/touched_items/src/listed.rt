@@ -17,14 +17,14 @@ use user_model::{Group, Objective, Row, Undo};
 /// of their numbers. Each is there with what it was before the first undo that lists it: undos that
 /// lead back one after another, the last first, list first what was there before all of them.
 #[derive(Debug, Drop)]
-pub struct Listed<'a> {
+pub struct ListedChanges<'a> {
     pub groups: Vec<&'a Change<Group>>,
     pub rows: Vec<&'a Change<Row>>,
     pub objective: Option<&'a Objective>,
 }
 
 /// What undos list.
-pub fn list_undos<'a>(alloc: Global, undos: &'a [Undo]) -> Result<Listed<'a>, Memory>
+pub fn list_undos<'a>(alloc: Global, undos: &'a [Undo]) -> Result<ListedChanges<'a>, Memory>
     ensures groups { IfOk result (λ listed.
         AreFirst (flat_map (λ u. u.groups) undos.now) (map (λ c. c.now) listed.groups.items)) }
     ensures rows { IfOk result (λ listed.
@@ -34,7 +34,7 @@ pub fn list_undos<'a>(alloc: Global, undos: &'a [Undo]) -> Result<Listed<'a>, Me
 {
     let groups = list_groups(alloc, undos)?;
     let rows = list_rows(alloc, undos)?;
-    Ok(Listed {
+    Ok(ListedChanges {
         groups,
         rows,
         objective: first_objective(undos),

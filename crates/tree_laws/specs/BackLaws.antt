@@ -15,13 +15,13 @@ use Rattle.fresh_bridging.specs.CanLaws.{AreLawful}
 use Rattle.fresh_bridging.specs.Entries.{Entry}
 use Rattle.fresh_bridging.specs.TheRules.{AreChoices, Setting, edge_at, graph_of, rules_by}
 use Rattle.address_laws.specs.PutLaws.{objective_stays}
-use Rattle.tree_laws.specs.Carried.{LeafDuals, back, backs}
+use Rattle.tree_laws.specs.Carried.{LeafAnswerDuals, back, backs}
 use Rattle.tree_laws.specs.SeenLaws.{IsRowHere, groups_at, others_at}
 use Rattle.address_laws.specs.ImageLaws.{HasObjective, child_objective}
 
 module _ (setting : Setting) (costly : IsCostly (graph_of setting)) (choice : ℕ → Choice)
     (chosen : AreChoices setting choice) (lawful : AreLawful setting) where
-  module _ (d : LeafDuals) where
+  module _ (d : LeafAnswerDuals) where
     objective_back : {item : Item} {entries : List Entry}
         (tree : Bridged (rules_by choice) item entries) → is_objective item.body ≡ true
         → back d tree ≡ d.objective

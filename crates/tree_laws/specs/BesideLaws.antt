@@ -15,8 +15,8 @@ use Rattle.address_laws.specs.LeafKeys.{no_keys}
 -- ---- two lists that make a third
 
 -- lists that have nothing in common
-abbrev pub AreBeside : List Address → List Address → Type 0
-AreBeside xs ys = All (Avoids ys) xs
+abbrev pub HaveNothingInCommon : List Address → List Address → Type 0
+HaveNothingInCommon xs ys = All (Avoids ys) xs
 
 -- the third has the addresses of both, each list's in their order
 data Merge : List Address → List Address → List Address → Type 0 where
@@ -49,7 +49,7 @@ part_of P (from_first {x} {xs} {ys} {zs} m) h =
 part_of P (from_second {y} {xs} {ys} {zs} m) h = part_of P m (All-tail P y zs h)
 
 -- where the third has each once, the two have nothing in common
-made_beside : {xs ys zs : List Address} → Merge xs ys zs → Distinct zs → AreBeside xs ys
+made_beside : {xs ys zs : List Address} → Merge xs ys zs → Distinct zs → HaveNothingInCommon xs ys
 made_beside no_more d = All-nil (Avoids [])
 made_beside (from_first {x} {xs} {ys} {zs} m) d =
     All-cons (Avoids ys) x xs (part_of (λ k. ¬ (k ≡ x)) (turned m) d.0) (made_beside m d.1)
@@ -90,6 +90,6 @@ module _ {rules : Rules Item Entry} (of_leaf of_node : Item → List Address) wh
   pub all_beside : {groups others : List Item} {entries : List Entry}
       (gs : EachBridged rules groups entries) (os : EachBridgedIn rules entries others)
       → Distinct (keys_of_each of_leaf of_node gs ++ keys_in of_leaf of_node os)
-      → AreBeside (keys_of_each of_leaf no_keys gs ++ keys_in of_leaf no_keys os)
+      → HaveNothingInCommon (keys_of_each of_leaf no_keys gs ++ keys_in of_leaf no_keys os)
       (keys_of_each no_keys of_node gs ++ keys_in no_keys of_node os)
   all_beside gs os d = made_beside (merge-append (merged_of_each gs) (merged_in os)) d

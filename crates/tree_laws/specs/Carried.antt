@@ -17,7 +17,7 @@ use Rattle.fresh_bridging.specs.TheRules.{edge_at}
 
 -- a bound on the objective's cost with its dual, the numbers of the leaf variables, and the duals
 -- of the leaf rows
-pub record LeafDuals : Type 0 where
+pub record LeafAnswerDuals : Type 0 where
   pub bound : Rational
   pub objective : List Rational
   pub numbers : Address → Rational
@@ -25,7 +25,7 @@ pub record LeafDuals : Type 0 where
 
 -- ---- leaves with their duals
 
-module _ (d : LeafDuals) where
+module _ (d : LeafAnswerDuals) where
   abbrev pub row_dual : Item → List Rational
   row_dual leaf = cond (is_objective leaf.body) d.objective (d.duals leaf.at)
 
@@ -41,7 +41,7 @@ module _ (d : LeafDuals) where
 
 -- an objective's dual is the leaf objective's, and a row's is what its edge's rule makes of its
 -- child rows' duals
-module _ {rules : Rules Item Entry} (d : LeafDuals) where
+module _ {rules : Rules Item Entry} (d : LeafAnswerDuals) where
   unfoldable mutual
     pub back : {item : Item} {entries : List Entry} → Bridged rules item entries → List Rational
     back (natively {item} c) = row_dual d item

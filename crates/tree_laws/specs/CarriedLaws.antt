@@ -15,9 +15,9 @@ use Rattle.aff_core.specs.Address.{Address, root_number}
 use Rattle.aff_core.specs.Function.{coefficient}
 use Rattle.aff_core.specs.declared.root.Root.TheVariants as root
 use Rattle.linear_laws.specs.SupportLaws.{count}
-use Rattle.dual_laws.specs.Held.{DualsHold, DualRow, adjoint, adjoint_of, gap, gap_of}
+use Rattle.dual_laws.specs.Held.{DualsHold, DualRow, HasDuals, adjoint, adjoint_of, gap, gap_of}
 use Rattle.dual_laws.specs.PullLaws.{adjoint-append}
-use Rattle.equality_form.specs.Right.{AreDuals, HasDuals, MayCost, held as entry_held, held_rows}
+use Rattle.equality_form.specs.Right.{AreLeafDuals, MayCost, held as entry_held, held_rows}
 use Rattle.item_core.specs.declared.item.Item.{Item}
 use Rattle.item_core.specs.Item.{functions_of, is_group}
 use Rattle.bridge_face.specs.Law.{held, inner_of}
@@ -40,8 +40,8 @@ use Rattle.address_laws.specs.KeyLaws.{IsHere, other_below, within_in}
 use Rattle.address_laws.specs.Keys.{Mine, keys_in, keys_of_each, own}
 use Rattle.address_laws.specs.MadeLaws.{made_summed}
 use Rattle.address_laws.specs.PutLaws.{group_stays}
-use Rattle.tree_laws.specs.Carried.{LeafDuals, StandFor, backs, group_helds, leaf_helds, through}
-use Rattle.tree_laws.specs.LeafLaws.{AreRight, SupportsNativeKinds, groups_part_gap, groups_part_weighs, leaves_hold, objective_held, parted}
+use Rattle.tree_laws.specs.Carried.{LeafAnswerDuals, StandFor, backs, group_helds, leaf_helds, through}
+use Rattle.tree_laws.specs.LeafLaws.{AreLeavesRight, SupportsNativeKinds, groups_part_gap, groups_part_weighs, leaves_hold, objective_held, parted}
 use Rattle.tree_laws.specs.LevelLaws.{IsLevel, children_hold, groups_weigh, level_stands, meets}
 use Rattle.tree_laws.specs.LookupLaws.{Missed, components}
 use Rattle.tree_laws.specs.NodeLaws.{held_missed}
@@ -138,17 +138,17 @@ module _ (setting : Setting) (costly : IsCostly (graph_of setting)) (lawful : Ar
   -- ---- right duals
 
   module _ (o : Rational) (costs : Address → Rational) (y : Address → List Rational)
-      (nonpos : o ≤ℚ zero_ℚ) (duals : AreDuals (leaves_of bridging) costs y)
+      (nonpos : o ≤ℚ zero_ℚ) (duals : AreLeafDuals (leaves_of bridging) costs y)
       (weighs : (v : Address)
       → costs v +ℚ sum_by_ℚ (λ e. adjoint_of (objective_held (leaf_duals bridging o costs y) e) v)
       (flat_map leaf_objectives all_leaves) ≡ zero_ℚ) where
-    abbrev pub d : LeafDuals
+    abbrev pub d : LeafAnswerDuals
     d = leaf_duals bridging o costs y
 
     abbrev pub other_helds : List DualRow
     other_helds = held d.bound others (backs d bridging.made.others)
 
-    are_right : AreRight d all_leaves
+    are_right : AreLeavesRight d all_leaves
     are_right = record {
       leaves = native_leaves setting costly lawful native model valid bridging;
       variables = variables_from setting costly lawful native model valid bridging

@@ -10,13 +10,13 @@ use Rattle.certificates.specs.declared.certificate.Certificate.{Certificate}
 use Rattle.certificates.specs.declared.certificate.Certificate.TheVariants.{Infeasible, Optimal, Unbounded}
 use Rattle.dual_laws.specs.Held.{adjoint}
 use Rattle.equality_form.specs.EqualityForm.{cost}
-use Rattle.equality_form.specs.ReadBack.{Answer, infeasible, optimal, unbounded}
+use Rattle.equality_form.specs.ReadBack.{AnswerByAddress, infeasible, optimal, unbounded}
 use Rattle.equality_form.specs.Right.{held_rows}
 use Rattle.fresh_bridging.specs.Entries.{function_in}
 use Rattle.fresh_bridging.specs.FreshBridging.{FreshBridging, leaves_of}
 use Rattle.fresh_bridging.specs.TheRules.{Setting}
 use Rattle.user_model.specs.Model.{ModelValue, variables}
-use Rattle.tree_laws.specs.Carried.{LeafDuals, backs}
+use Rattle.tree_laws.specs.Carried.{LeafAnswerDuals, backs}
 
 module _ {setting : Setting} {model : ModelValue} (bridging : FreshBridging setting model) where
   -- the user's variables have the values of their expressions, and along a ray the slopes
@@ -30,7 +30,8 @@ module _ {setting : Setting} {model : ModelValue} (bridging : FreshBridging sett
       map (λ v. slope (function_in bridging.made.entries v) d) (addresses_of (variables model))
 
   -- the leaves' duals, with so much of the objective: the numbers are what is left of the costs
-  abbrev pub leaf_duals : Rational → (Address → Rational) → (Address → List Rational) → LeafDuals
+  abbrev pub leaf_duals : Rational → (Address → Rational) → (Address → List Rational)
+      → LeafAnswerDuals
   leaf_duals o costs y = record {
     bound = zero_ℚ;
     objective = o ∷ [];
@@ -38,14 +39,14 @@ module _ {setting : Setting} {model : ModelValue} (bridging : FreshBridging sett
     duals = y;
   }
 
-  abbrev pub optimal_duals : (Address → List Rational) → LeafDuals
+  abbrev pub optimal_duals : (Address → List Rational) → LeafAnswerDuals
   optimal_duals y = leaf_duals (neg_ℚ one_ℚ) (coefficient (cost (leaves_of bridging))) y
 
-  abbrev pub infeasible_duals : (Address → List Rational) → LeafDuals
+  abbrev pub infeasible_duals : (Address → List Rational) → LeafAnswerDuals
   infeasible_duals y = leaf_duals zero_ℚ (λ v. zero_ℚ) y
 
   -- the rows' duals are carried back
-  abbrev pub rows_of : LeafDuals → List (List Rational)
+  abbrev pub rows_of : LeafAnswerDuals → List (List Rational)
   rows_of d = take (length model.rows) (backs d bridging.made.others)
 
   -- and the variables' duals are what is left for them
@@ -60,7 +61,7 @@ module _ {setting : Setting} {model : ModelValue} (bridging : FreshBridging sett
   cancelling rows =
       map (λ v. neg_ℚ (adjoint_of_rows model rows v)) (addresses_of (variables model))
 
-  abbrev pub certificate_of : Answer → Certificate
+  abbrev pub certificate_of : AnswerByAddress → Certificate
   certificate_of (optimal x y) =
       let rows = rows_of (optimal_duals y) in
       Optimal (objective_value model (point_of x)) (point_of x) rows (reduced_costs rows)

@@ -24,7 +24,7 @@ use Rattle.fresh_bridging.specs.TheRules.{AreChoices, Setting, graph_of, rules_b
 use Rattle.address_laws.specs.Apart.{Avoids, Distinct, in_first, in_second}
 use Rattle.address_laws.specs.LeafKeys.{no_keys}
 use Rattle.address_laws.specs.Keys.{keys, keys_of_each, own}
-use Rattle.tree_laws.specs.Carried.{LeafDuals, StandFor, group_held, group_helds, leaf_helds, through}
+use Rattle.tree_laws.specs.Carried.{LeafAnswerDuals, StandFor, group_held, group_helds, leaf_helds, through}
 use Rattle.tree_laws.specs.LevelLaws.{adjoint_of_leaves, leaf_missed, stand_leaves}
 use Rattle.tree_laws.specs.LookupLaws.{components, found_first, found_omits, found_second}
 use Rattle.tree_laws.specs.PutLaws.{group_row_functions}
@@ -89,7 +89,7 @@ abbrev AvoidsVariables : List Entry → Item → Type 0
 AvoidsVariables es g = All (Avoids (components es)) (variables_of g.body)
 
 module _ (setting : Setting) (costly : IsCostly (graph_of setting)) (choice : ℕ → Choice)
-    (chosen : AreChoices setting choice) (lawful : AreLawful setting) (d : LeafDuals) where
+    (chosen : AreChoices setting choice) (lawful : AreLawful setting) (d : LeafAnswerDuals) where
   abbrev Groups : List Item → Type 0
   Groups items = All (IsGroupHere setting costly choice chosen lawful) items
 

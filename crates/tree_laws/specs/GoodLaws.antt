@@ -18,8 +18,8 @@ use Rattle.certificates.specs.Duals.{adjoint_of_rows, dual_gap, reduced_cost}
 use Rattle.certificates.specs.Good.{Good, IsInfeasible, IsOptimal}
 use Rattle.certificates.specs.Points.{address_of, addresses_of, all_addresses, at_point, objective_coefficient, objective_function, objective_value, sense_of}
 use Rattle.equality_form.specs.EqualityForm.{cost}
-use Rattle.equality_form.specs.ReadBack.{Answer, infeasible, optimal, unbounded}
-use Rattle.equality_form.specs.Right.{IsInfeasible as IsLeafInfeasible, IsOptimal as IsLeafOptimal, IsRight, held_rows}
+use Rattle.equality_form.specs.ReadBack.{AnswerByAddress, infeasible, optimal, unbounded}
+use Rattle.equality_form.specs.Right.{IsLeafInfeasible, IsLeafOptimal, IsRight, held_rows}
 use Rattle.fresh_bridging.specs.CanLaws.{AreLawful}
 use Rattle.fresh_bridging.specs.FreshBridging.{FreshBridging, leaves_of}
 use Rattle.fresh_bridging.specs.ModelImage.{group_item, model_image}
@@ -294,7 +294,7 @@ module _ (setting : Setting) (costly : IsCostly (graph_of setting)) (lawful : Ar
     }
 
   -- a right answer for the leaf model is carried to a certificate that is good for the user's
-  pub right_is_good : (answer : Answer) → IsRight (leaves_of bridging) answer
+  pub right_is_good : (answer : AnswerByAddress) → IsRight (leaves_of bridging) answer
       → Good model (certificate_of bridging answer)
   right_is_good (optimal x y) right = optimal_good x y right
   right_is_good (infeasible y) right = infeasible_good y right

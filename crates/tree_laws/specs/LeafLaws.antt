@@ -24,8 +24,8 @@ use Rattle.aff_core.specs.FunctionLists.{constants}
 use Rattle.linear_laws.specs.SupportLaws.{count}
 use Rattle.aff_core.specs.Points.{unit}
 use Rattle.aff_core.specs.FunctionLaws.{constant-variable}
-use Rattle.dual_laws.specs.Held.{DualsHold, DualRow, IsHeld, adjoint_of, gap_of}
-use Rattle.equality_form.specs.Right.{HasDuals, MayCost, held}
+use Rattle.dual_laws.specs.Held.{DualsHold, DualRow, IsHeld, HasDuals, adjoint_of, gap_of}
+use Rattle.equality_form.specs.Right.{MayCost, held}
 use Rattle.item_core.specs.declared.item.Body.{Body}
 use Rattle.item_core.specs.declared.item.Body.TheVariants.{Group, Free, Plain, Affine, PlainVec, AffineVec, PlainObj, AffineObj}
 use Rattle.item_core.specs.declared.item.Item.{Item}
@@ -46,7 +46,7 @@ use Rattle.solver_store.specs.declared.leaf.LeafVar.{LeafVar}
 use Rattle.solver_store.specs.declared.leaf.LeafVar.TheVariants as leaf
 use Rattle.address_laws.specs.KeyLaws.{IsHere}
 use Rattle.address_laws.specs.Keys.{own}
-use Rattle.tree_laws.specs.Carried.{LeafDuals, leaf_held, leaf_helds, row_dual}
+use Rattle.tree_laws.specs.Carried.{LeafAnswerDuals, leaf_held, leaf_helds, row_dual}
 use Rattle.tree_laws.specs.LevelLaws.{weighed_group}
 use Rattle.tree_laws.specs.SeenLaws.{IsGroupHere, IsRowHere, child_groups_here, child_rows_here, own_none_is}
 use Rattle.tree_laws.specs.ObjectiveLaws.{by_case}
@@ -89,15 +89,16 @@ pub record IsNode (setting : Setting) (node : ℕ × Item) : Type 0 where
   pub suits : IsItemFor (edge_at node.0) node.1
   pub usable : is_usable setting (family_of (edge_at node.0)) ≡ true
 
-pub record AreParts (setting : Setting) (ls : List Item) (ns : List (ℕ × Item)) : Type 0 where
+pub record AreLeavesAndNodes (setting : Setting) (ls : List Item) (ns : List (ℕ × Item)) : Type 0 where
   pub are_leaves : All IsLeaf ls
   pub are_nodes : All (IsNode setting) ns
 
-no_parts : (setting : Setting) → AreParts setting [] []
+no_parts : (setting : Setting) → AreLeavesAndNodes setting [] []
 no_parts setting = record { are_leaves = All-nil IsLeaf; are_nodes = All-nil (IsNode setting) }
 
 pub both_parts : {setting : Setting} {ls ms : List Item} {ns os : List (ℕ × Item)}
-    → AreParts setting ls ns → AreParts setting ms os → AreParts setting (ls ++ ms) (ns ++ os)
+    → AreLeavesAndNodes setting ls ns → AreLeavesAndNodes setting ms os
+    → AreLeavesAndNodes setting (ls ++ ms) (ns ++ os)
 both_parts {setting} {ls} {ms} {ns} {os} h k = record {
   are_leaves = All-append IsLeaf ls ms h.are_leaves k.are_leaves;
   are_nodes = All-append (IsNode setting) ns os h.are_nodes k.are_nodes;
@@ -139,7 +140,7 @@ module _ (setting : Setting) (costly : IsCostly (graph_of setting)) (choice : �
     pub are_parts : {item : Item} {entries : List Entry}
         (tree : Bridged (rules_by choice) item entries)
         → IsHere setting costly choice chosen lawful item
-        → AreParts setting (leaves tree) (nodes tree)
+        → AreLeavesAndNodes setting (leaves tree) (nodes tree)
     are_parts (natively {item} c) here = record {
       are_leaves = All-cons IsLeaf item [] (native_leaf item c here) (All-nil IsLeaf);
       are_nodes = All-nil (IsNode setting);
@@ -160,7 +161,7 @@ module _ (setting : Setting) (costly : IsCostly (graph_of setting)) (choice : �
     pub each_are_parts : {items : List Item} {entries : List Entry}
         (trees : EachBridged (rules_by choice) items entries)
         → All (IsGroupHere setting costly choice chosen lawful) items
-        → AreParts setting (leaves_of_each trees) (nodes_of_each trees)
+        → AreLeavesAndNodes setting (leaves_of_each trees) (nodes_of_each trees)
     each_are_parts none all = no_parts setting
     each_are_parts (each {item} {items} first rest) all =
         both_parts
@@ -172,7 +173,7 @@ module _ (setting : Setting) (costly : IsCostly (graph_of setting)) (choice : �
     pub others_are_parts : {inner : List Entry} {items : List Item}
         (trees : EachBridgedIn (rules_by choice) inner items)
         → All (λ c. IsRowHere setting costly choice chosen lawful (put_in inner c)) items
-        → AreParts setting (leaves_in trees) (nodes_in trees)
+        → AreLeavesAndNodes setting (leaves_in trees) (nodes_in trees)
     others_are_parts none_in all = no_parts setting
     others_are_parts (each_in {inner} {item} {items} first rest) all =
         both_parts
@@ -200,7 +201,7 @@ third_alone : (q : Rational) → q ≡ zero_ℚ +ℚ (zero_ℚ +ℚ (q +ℚ zero
 third_alone q =
     sym (zero-+ℚ (zero_ℚ +ℚ (q +ℚ zero_ℚ)) ∙ zero-+ℚ (q +ℚ zero_ℚ) ∙ +ℚ-zero q)
 
-module _ (d : LeafDuals) where
+module _ (d : LeafAnswerDuals) where
   abbrev pub objective_held : Address × Body → DualRow
   objective_held e = held_body d.bound e.1 d.objective
 
@@ -323,7 +324,7 @@ module _ (d : LeafDuals) where
   RowHasDuals e = HasDuals (held d.duals e)
 
   -- what is asked of the leaves
-  pub record AreRight (items : List Item) : Type 0 where
+  pub record AreLeavesRight (items : List Item) : Type 0 where
     pub leaves : All IsLeaf items
     pub variables : All MayBe (flat_map leaf_variables items)
     pub rows : All RowHasDuals (flat_map leaf_rows items)
@@ -394,7 +395,7 @@ module _ (d : LeafDuals) where
           let h = All-head RowHasDuals (i.at, row) [] r in
           record { set = l.valid.set; size = h.size; dual = h.dual }
 
-  pub leaves_hold : (items : List Item) → AreRight items → DualsHold (leaf_helds d items)
+  pub leaves_hold : (items : List Item) → AreLeavesRight items → DualsHold (leaf_helds d items)
   leaves_hold items h = each items h.leaves h.variables h.rows
     where
       each : (xs : List Item) → All IsLeaf xs → All MayBe (flat_map leaf_variables xs)

@@ -34,7 +34,7 @@ use Rattle.address_laws.specs.Apart.{Avoids, Distinct, counted_never, counted_on
 use Rattle.address_laws.specs.LeafKeys.{no_keys}
 use Rattle.address_laws.specs.ImageLaws.{Misses}
 use Rattle.address_laws.specs.Keys.{keys_in, keys_of_each, own}
-use Rattle.tree_laws.specs.Carried.{LeafDuals, StandFor, backs, group_held, group_helds, leaf_held, leaf_helds, seen_at, through}
+use Rattle.tree_laws.specs.Carried.{LeafAnswerDuals, StandFor, backs, group_held, group_helds, leaf_held, leaf_helds, seen_at, through}
 use Rattle.tree_laws.specs.LookupLaws.{components, itself}
 use Rattle.tree_laws.specs.PutLaws.{all_put, group_row_functions, row_misses}
 use Rattle.tree_laws.specs.SeenLaws.{IsGroupHere, IsRowHere, components_of_each, leaves_of_each_miss}
@@ -42,7 +42,7 @@ use Rattle.tree_laws.specs.ThroughLaws.{HeldMisses, adjoints_missed, adjoints_th
 
 -- ---- leaves
 
-module _ (d : LeafDuals) where
+module _ (d : LeafAnswerDuals) where
   pub leaf_missed : (v : Address) (items : List Item) → All (Misses v) items
       → adjoint (leaf_helds d items) v ≡ zero_ℚ
   leaf_missed v items m =
@@ -102,7 +102,7 @@ groups_weigh bound w (g ∷ groups) v h =
 -- ---- a level
 
 module _ (setting : Setting) (costly : IsCostly (graph_of setting)) (choice : ℕ → Choice)
-    (chosen : AreChoices setting choice) (lawful : AreLawful setting) (d : LeafDuals) where
+    (chosen : AreChoices setting choice) (lawful : AreLawful setting) (d : LeafAnswerDuals) where
   abbrev pub GroupHere : Item → Type 0
   GroupHere g = IsGroupHere setting costly choice chosen lawful g
 

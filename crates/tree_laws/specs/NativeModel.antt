@@ -179,11 +179,11 @@ module _ (setting : Setting) (costly : IsCostly (graph_of setting)) (lawful : Ar
       (others_there setting costly lawful native model valid bridging) v (further_miss v h)
       (all_second (λ k. ¬ (k ≡ v)) first_keys second_keys h))
 
-  abbrev pub Names : Function → Type 0
-  Names f = NamesVariables (leaves_of bridging) f
+  abbrev pub NamesLeafVariables : Function → Type 0
+  NamesLeafVariables f = NamesVariables (leaves_of bridging) f
 
   abbrev pub LeafNames : Item → Type 0
-  LeafNames leaf = All Names (functions_of leaf.body)
+  LeafNames leaf = All NamesLeafVariables (functions_of leaf.body)
 
   -- a leaf variable stands in the leaf model
   stands : (v : Address) → Contains (first_keys ++ second_keys) v
@@ -208,7 +208,7 @@ module _ (setting : Setting) (costly : IsCostly (graph_of setting)) (lawful : Ar
       (first_keys ++ second_keys) (λ v h. leaves_seen v h k d end j g ends))
 
   abbrev EntryNames : Address × Body → Type 0
-  EntryNames e = All Names (functions_of e.1)
+  EntryNames e = All NamesLeafVariables (functions_of e.1)
 
   one_entry : (e : Address × Body) → EntryNames e → All EntryNames (e ∷ [])
   one_entry e h = All-cons EntryNames e [] h (All-nil EntryNames)

@@ -31,8 +31,8 @@ use Rattle.address_laws.specs.LeafKeys.{no_keys, variables_are}
 use Rattle.address_laws.specs.ImageLaws.{Misses}
 use Rattle.address_laws.specs.KeyLaws.{IsHere, groups_apart, groups_here, groups_under, law_of, no_groups, once_in_tree, others_here, others_under, within_each, within_in}
 use Rattle.address_laws.specs.Keys.{Mine, keys, keys_in, keys_of_each, own}
-use Rattle.address_laws.specs.Regions.{AreApart}
-use Rattle.tree_laws.specs.Carried.{LeafDuals, StandFor, backs, group_held, group_helds, leaf_helds, through}
+use Rattle.address_laws.specs.Regions.{AreRegionsApart}
+use Rattle.tree_laws.specs.Carried.{LeafAnswerDuals, StandFor, backs, group_held, group_helds, leaf_helds, through}
 use Rattle.tree_laws.specs.LevelLaws.{IsLevel, children_hold, level_stands, meets}
 use Rattle.tree_laws.specs.LookupLaws.{Missed, components, composed_misses}
 use Rattle.tree_laws.specs.PutLaws.{row_misses}
@@ -54,7 +54,7 @@ avoid_inner (g ∷ groups) v h n =
     (All-tail (λ x. ¬ (Mine x v)) g groups n))
 
 pub inner_distinct : (groups : List Item) → All (λ g. is_group g.body ≡ true) groups
-    → All (λ g. Distinct (own g)) groups → AreApart Mine groups → Distinct (inner_of groups)
+    → All (λ g. Distinct (own g)) groups → AreRegionsApart Mine groups → Distinct (inner_of groups)
 inner_distinct [] h d a = tt
 inner_distinct (g ∷ groups) h d a =
     distinct-append (variables_of g.body) (inner_of groups)
@@ -111,7 +111,7 @@ one_stands h ls i same gaps = record {
 }
 
 module _ (setting : Setting) (costly : IsCostly (graph_of setting)) (choice : ℕ → Choice)
-    (chosen : AreChoices setting choice) (lawful : AreLawful setting) (d : LeafDuals) where
+    (chosen : AreChoices setting choice) (lawful : AreLawful setting) (d : LeafAnswerDuals) where
   module _ {inner : List Entry} where
     pub length-backs : {items : List Item} (trees : EachBridgedIn (rules_by choice) inner items)
         → length (backs d trees) ≡ length items

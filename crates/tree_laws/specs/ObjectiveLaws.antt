@@ -35,19 +35,19 @@ abbrev pub CostsNothing : Item → Type 0
 CostsNothing leaf = is_objective leaf.body ≡ false
 
 -- one leaf objective
-pub record HasOne (items : List Item) : Type 0 where
+pub record HasOneLeafObjective (items : List Item) : Type 0 where
   pub leaf : Address × Body
   pub alone : flat_map leaf_objectives items ≡ leaf ∷ []
 
 -- the items are none, and then one, and then none that are objectives
-abbrev pub OneObjective : List Item → Type 0
-OneObjective [] = ⊥
-OneObjective (c ∷ cs) =
+abbrev pub HasOneObjective : List Item → Type 0
+HasOneObjective [] = ⊥
+HasOneObjective (c ∷ cs) =
     ((is_objective c.body ≡ true) × All (λ x. is_objective x.body ≡ false) cs)
-    ⊎ ((is_objective c.body ≡ false) × OneObjective cs)
+    ⊎ ((is_objective c.body ≡ false) × HasOneObjective cs)
 
 pub one_last : (rows : List Item) (o : Item) → All (λ x. is_objective x.body ≡ false) rows
-    → is_objective o.body ≡ true → OneObjective (rows ++ o ∷ [])
+    → is_objective o.body ≡ true → HasOneObjective (rows ++ o ∷ [])
 one_last [] o h k = inl (k, λ i d end. absurd (omega (arith, end)))
 one_last (r ∷ rows) o h k =
     inr (
@@ -82,15 +82,17 @@ none_at_all (i ∷ items) h =
     ap₂ ◌++◌ (no_leaf_objective i (All-head (λ x. is_objective x.body ≡ false) i items h))
     (none_at_all items (All-tail (λ x. is_objective x.body ≡ false) i items h))
 
-pub one_behind : (xs ys : List Item) → All (λ x. is_objective x.body ≡ false) xs → HasOne ys
-    → HasOne (xs ++ ys)
+pub one_behind : (xs ys : List Item) → All (λ x. is_objective x.body ≡ false) xs
+    → HasOneLeafObjective ys
+    → HasOneLeafObjective (xs ++ ys)
 one_behind xs ys h one = record {
   leaf = one.leaf;
   alone = flat_map-append leaf_objectives xs ys ∙ ap₂ ◌++◌ (none_at_all xs h) one.alone;
 }
 
-one_before : (xs ys : List Item) → HasOne xs → All (λ x. is_objective x.body ≡ false) ys
-    → HasOne (xs ++ ys)
+one_before : (xs ys : List Item) → HasOneLeafObjective xs
+    → All (λ x. is_objective x.body ≡ false) ys
+    → HasOneLeafObjective (xs ++ ys)
 one_before xs ys one h = record {
   leaf = one.leaf;
   alone = flat_map-append leaf_objectives xs ys ∙ ap₂ ◌++◌ one.alone (none_at_all ys h);
@@ -151,11 +153,11 @@ module _ (setting : Setting) (costly : IsCostly (graph_of setting)) (choice : �
 
   children_one : (item : Item) (is : IsRowHere setting costly choice chosen lawful item) (n : ℕ)
       (e : choice (kind_number (kind_of_body item.body)) ≡ By n) → is_objective item.body ≡ true
-      → OneObjective
+      → HasOneObjective
       ((image_of (edge_at n) item).rows ++ listed (image_of (edge_at n) item).objective)
   children_one item is n e o =
       let has = child_objective setting costly choice chosen lawful item is.here.can n e o in
-      subst (λ x. OneObjective ((image_of (edge_at n) item).rows ++ listed x)) (sym has.is)
+      subst (λ x. HasOneObjective ((image_of (edge_at n) item).rows ++ listed x)) (sym has.is)
       (one_last (image_of (edge_at n) item).rows has.child
       (rows_alone setting costly choice chosen lawful item is.here.can n e) has.objective)
 
@@ -164,7 +166,7 @@ module _ (setting : Setting) (costly : IsCostly (graph_of setting)) (choice : �
 
     pub has_one : {item : Item} {entries : List Entry}
         (tree : Bridged (rules_by choice) item entries) → RowThere item
-        → is_objective item.body ≡ true → HasOne (leaves tree)
+        → is_objective item.body ≡ true → HasOneLeafObjective (leaves tree)
     has_one (natively {item} c) is o =
         record { leaf = (item.at, item.body); alone = ap (λ l. l ++ []) (itself_one item o) }
     has_one (by {item} {edge} {inner} c groups others) is o =
@@ -177,8 +179,8 @@ module _ (setting : Setting) (costly : IsCostly (graph_of setting)) (choice : �
 
     pub one_in : {inner : List Entry} {items : List Item}
         (trees : EachBridgedIn (rules_by choice) inner items)
-        → All (λ c. RowThere (put_in inner c)) items → OneObjective items
-        → HasOne (leaves_in trees)
+        → All (λ c. RowThere (put_in inner c)) items → HasOneObjective items
+        → HasOneLeafObjective (leaves_in trees)
     one_in none_in all h = absurd h
     one_in (each_in {inner} {item} {items} first rest) all (inl h) =
         one_before (leaves first) (leaves_in rest)

@@ -20,7 +20,7 @@ use Rattle.linear_laws.specs.ListLaws.{evaluated_constant_function}
 use Rattle.dual_laws.specs.Held.{DualRow, adjoint, gap}
 use Rattle.certificates.specs.Points.{objective_function, sense_of}
 use Rattle.equality_form.specs.EqualityForm.{cost, cost_among}
-use Rattle.equality_form.specs.Right.{IsFeasible}
+use Rattle.equality_form.specs.Right.{IsLeafFeasible}
 use Rattle.item_core.specs.declared.item.Body.{Body}
 use Rattle.item_core.specs.declared.item.Body.TheVariants.{Group, Free, Plain, Affine, PlainVec, AffineVec, PlainObj, AffineObj}
 use Rattle.item_core.specs.declared.item.Item.{Item}
@@ -37,9 +37,9 @@ use Rattle.user_model.specs.declared.objective.Objective.{Objective}
 use Rattle.user_model.specs.declared.objective.Objective.TheVariants as objective
 use Rattle.address_laws.specs.DistinctLaws.{each_apart}
 use Rattle.address_laws.specs.ImageLaws.{constant_misses}
-use Rattle.tree_laws.specs.Carried.{LeafDuals, backs}
+use Rattle.tree_laws.specs.Carried.{LeafAnswerDuals, backs}
 use Rattle.tree_laws.specs.LeafLaws.{SupportsNativeKinds, objective_held}
-use Rattle.tree_laws.specs.ObjectiveLaws.{CostsNothing, HasOne, none_at_all, none_below_each, none_below_in}
+use Rattle.tree_laws.specs.ObjectiveLaws.{CostsNothing, HasOneLeafObjective, none_at_all, none_below_each, none_below_in}
 use Rattle.tree_laws.specs.PrimalLaws.{all_leaves, cost_of_one, costs_less, groups_there, has_leaf, others_there, rows_no_objective, seen_point}
 use Rattle.tree_laws.specs.BackLaws.{last_of_rows}
 
@@ -67,12 +67,12 @@ none_gap o =
     ∙ ap neg_ℚ (*ℚ-zero o) ∙ neg_ℚ-zero)
 
 -- the objective weighs its cost, and its gap is that of the constant
-pub record Weighs (o : Rational) (f : Function) (hs : List DualRow) : Type 0 where
+pub record WeighsCost (o : Rational) (f : Function) (hs : List DualRow) : Type 0 where
   pub adjoints : (v : Address) → adjoint hs v ≡ o *ℚ coefficient f v
   pub gaps : gap hs ≡ neg_ℚ (o *ℚ f.constant)
 
 pub body_weighs : (o : Rational) (b : Body) → is_objective b ≡ true
-    → Weighs o (cost_of b) (held_body zero_ℚ b (o ∷ []) ∷ [])
+    → WeighsCost o (cost_of b) (held_body zero_ℚ b (o ∷ []) ∷ [])
 body_weighs o (PlainObj sense var) h = record {
   adjoints = λ v. one_weighed o (coefficient (cost_by sense (variable var)) v);
   gaps = one_gap o (cost_by sense (variable var)).constant;
@@ -83,7 +83,7 @@ body_weighs o (AffineObj sense func) h = record {
 }
 body_weighs o _ h = absurd (true≢false (sym h))
 
-none_weighs : (o : Rational) → Weighs o (constant_function zero_ℚ) []
+none_weighs : (o : Rational) → WeighsCost o (constant_function zero_ℚ) []
 none_weighs o = record { adjoints = none_weighed o; gaps = none_gap o }
 
 -- ---- the leaf objective
@@ -161,26 +161,26 @@ module _ (setting : Setting) (costly : IsCostly (graph_of setting)) (lawful : Ar
       by (objective.Plain sense var) n k = k (PlainObj sense var) refl refl refl
       by (objective.Affine sense func) n k = k (AffineObj sense func) refl refl refl
 
-  module _ (d : LeafDuals) (o : Rational) (bound : d.bound ≡ zero_ℚ)
+  module _ (d : LeafAnswerDuals) (o : Rational) (bound : d.bound ≡ zero_ℚ)
       (dual : d.objective ≡ o ∷ []) where
-    pub leaf_weighs : Weighs o (cost (leaves_of bridging))
+    pub leaf_weighs : WeighsCost o (cost (leaves_of bridging))
         (map (objective_held d) (flat_map leaf_objectives leaves_here))
     leaf_weighs = by_objective
-        (λ e k. subst (λ f. Weighs o f (map (objective_held d)
+        (λ e k. subst (λ f. WeighsCost o f (map (objective_held d)
         (flat_map leaf_objectives leaves_here)))
         (sym (no_cost e))
-        (subst (λ l. Weighs o (constant_function zero_ℚ) (map (objective_held d) l))
+        (subst (λ l. WeighsCost o (constant_function zero_ℚ) (map (objective_held d) l))
         (sym (none_here e)) (none_weighs o)))
         (λ b t e k. of_one (has_leaf setting costly lawful native model valid bridging b t e))
       where
-        of_one : HasOne leaves_here
-            → Weighs o (cost (leaves_of bridging))
+        of_one : HasOneLeafObjective leaves_here
+            → WeighsCost o (cost (leaves_of bridging))
             (map (objective_held d) (flat_map leaf_objectives leaves_here))
         of_one has =
-            subst (λ f. Weighs o f (map (objective_held d) (flat_map leaf_objectives leaves_here)))
+            subst (λ f. WeighsCost o f (map (objective_held d) (flat_map leaf_objectives leaves_here)))
             (sym (cost_of_one setting costly lawful native model valid bridging has.leaf has.alone))
-            (subst (λ l. Weighs o (cost_of has.leaf.1) (map (objective_held d) l)) (sym has.alone)
-            (subst (λ h. Weighs o (cost_of has.leaf.1) (h ∷ []))
+            (subst (λ l. WeighsCost o (cost_of has.leaf.1) (map (objective_held d) l)) (sym has.alone)
+            (subst (λ h. WeighsCost o (cost_of has.leaf.1) (h ∷ []))
             (ap₂ (λ q w. held_body q has.leaf.1 w) (sym bound) (sym dual))
             (body_weighs o has.leaf.1
             (All-head (λ x. is_objective x.1 ≡ true) has.leaf []
@@ -198,23 +198,23 @@ module _ (setting : Setting) (costly : IsCostly (graph_of setting)) (lawful : Ar
     user_part_weighs : (ob : Objective) (rows : List Item)
         (trees : EachBridgedIn (rules_by bridging.choice) bridging.made.entries
         (rows ++ objective_items ob))
-        → Weighs o (user_cost ob)
+        → WeighsCost o (user_cost ob)
         (held d.bound (objective_items ob) (drop (length rows) (backs d trees)))
     user_part_weighs objective.Feasibility rows trees = none_weighs o
     user_part_weighs (objective.Plain sense var) rows trees =
-        subst (Weighs o (cost_by sense (variable var)))
+        subst (WeighsCost o (cost_by sense (variable var)))
         (sym (one_dual (PlainObj sense var) (drop (length rows) (backs d trees))
         (last_of_rows setting costly bridging.choice bridging.chosen lawful d rows
         (objective_item (PlainObj sense var)) trees refl)))
         (body_weighs o (PlainObj sense var) refl)
     user_part_weighs (objective.Affine sense func) rows trees =
-        subst (Weighs o (cost_by sense func))
+        subst (WeighsCost o (cost_by sense func))
         (sym (one_dual (AffineObj sense func) (drop (length rows) (backs d trees))
         (last_of_rows setting costly bridging.choice bridging.chosen lawful d rows
         (objective_item (AffineObj sense func)) trees refl)))
         (body_weighs o (AffineObj sense func) refl)
 
-    pub user_weighs : Weighs o (user_cost model.objective)
+    pub user_weighs : WeighsCost o (user_cost model.objective)
         (held d.bound (objective_items model.objective)
         (drop (length (map row_item model.rows)) (backs d bridging.made.others)))
     user_weighs =
@@ -223,7 +223,7 @@ module _ (setting : Setting) (costly : IsCostly (graph_of setting)) (lawful : Ar
   -- ---- the user's objective costs no more
 
   module _ (one : Rational) (a : zero_ℚ ≤ℚ one) (x : Address → Rational)
-      (feasible : IsFeasible (leaves_of bridging) one x) where
+      (feasible : IsLeafFeasible (leaves_of bridging) one x) where
     abbrev user_seen : Address → Rational
     user_seen = seen_point setting costly lawful native model valid bridging one a x feasible
 

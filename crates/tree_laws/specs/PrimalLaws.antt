@@ -21,7 +21,7 @@ use Rattle.linear_laws.specs.ListLaws.{evaluations_variables}
 use Rattle.dual_laws.specs.Held.{Holds}
 use Rattle.certificates.specs.Points.{addresses_of, all_addresses, at_point, functions_of as functions_in, functions_of_group}
 use Rattle.equality_form.specs.EqualityForm.{cost, cost_among, cost_of as form_cost}
-use Rattle.equality_form.specs.Right.{Admits, IsFeasible}
+use Rattle.equality_form.specs.Right.{Admits, IsLeafFeasible}
 use Rattle.item_core.specs.declared.item.Body.{Body}
 use Rattle.item_core.specs.declared.item.Body.TheVariants.{Group, Free, Plain, Affine, PlainVec, AffineVec, PlainObj, AffineObj}
 use Rattle.item_core.specs.declared.item.Item.{Item}
@@ -50,8 +50,8 @@ use Rattle.address_laws.specs.ImageLaws.{variables_miss}
 use Rattle.address_laws.specs.KeyLaws.{IsHere}
 use Rattle.address_laws.specs.PutLaws.{group_stays, objective_stays}
 use Rattle.tree_laws.specs.Carried.{group_held, group_helds, through}
-use Rattle.tree_laws.specs.LeafLaws.{AreParts, IsLeaf, IsNativeGroup, IsNode, SupportsNativeKinds, both_parts, each_are_parts, free, nonnegatives, others_are_parts, reals}
-use Rattle.tree_laws.specs.ObjectiveLaws.{CostsNothing, HasOne, OneObjective, none_below_each, one_behind, one_in, one_last}
+use Rattle.tree_laws.specs.LeafLaws.{AreLeavesAndNodes, IsLeaf, IsNativeGroup, IsNode, SupportsNativeKinds, both_parts, each_are_parts, free, nonnegatives, others_are_parts, reals}
+use Rattle.tree_laws.specs.ObjectiveLaws.{CostsNothing, HasOneLeafObjective, HasOneObjective, none_below_each, one_behind, one_in, one_last}
 use Rattle.tree_laws.specs.PutLaws.{held_put}
 use Rattle.tree_laws.specs.SeenLaws.{IsGroupHere, IsRowHere}
 use Rattle.tree_laws.specs.UpLaws.{CostsAtLeast, GroupsHold, LeafHolds, cost_put, costs_in, groups_hold, no_numbers, point_in, rows_hold, to_point}
@@ -63,8 +63,8 @@ module _ (one : Rational) (a : zero_ℚ ≤ℚ one) (x : Address → Rational) w
   abbrev pub Allows : Address × LeafVar → Type 0
   Allows var = Admits var.1 (x var.0)
 
-  abbrev pub RowIn : Address × Body → Type 0
-  RowIn row = In (multiplied one (set_of row.1)) (evaluations one (functions_of row.1) x)
+  abbrev pub LeafRowIn : Address × Body → Type 0
+  LeafRowIn row = In (multiplied one (set_of row.1)) (evaluations one (functions_of row.1) x)
 
   nonneg_in : (vars : List Address) (var : LeafVar)
       → ((v : Address) → Allows (v, var) → zero_ℚ ≤ℚ x v)
@@ -83,35 +83,35 @@ module _ (one : Rational) (a : zero_ℚ ≤ℚ one) (x : Address → Rational) w
   group_in at b (nonnegatives {n} {vars}) h = nonneg_in vars leaf.Nonneg (λ v k. k) h
   group_in at b (free {vars}) h = tt
 
-  one_in_place : (i : Item) → IsLeaf i → All Allows (leaf_variables i) → All RowIn (leaf_rows i)
+  one_in_place : (i : Item) → IsLeaf i → All Allows (leaf_variables i) → All LeafRowIn (leaf_rows i)
       → LeafHolds one a x i
   one_in_place i = by i.body
     where
       by : (b : Body) → IsLeaf (record { at = i.at; body = b })
           → All Allows (leaf_variables (record { at = i.at; body = b }))
-          → All RowIn (leaf_rows (record { at = i.at; body = b }))
+          → All LeafRowIn (leaf_rows (record { at = i.at; body = b }))
           → LeafHolds one a x (record { at = i.at; body = b })
       by (Group s vars) l v r o = group_in i.at (Group s vars) (l.group refl) v
       by (Free vars) l v r o = group_in i.at (Free vars) (l.group refl) v
-      by (Plain var s) l v r o = All-head RowIn (i.at, Plain var s) [] r
-      by (Affine f s) l v r o = All-head RowIn (i.at, Affine f s) [] r
-      by (PlainVec vars s) l v r o = All-head RowIn (i.at, PlainVec vars s) [] r
-      by (AffineVec fs s) l v r o = All-head RowIn (i.at, AffineVec fs s) [] r
+      by (Plain var s) l v r o = All-head LeafRowIn (i.at, Plain var s) [] r
+      by (Affine f s) l v r o = All-head LeafRowIn (i.at, Affine f s) [] r
+      by (PlainVec vars s) l v r o = All-head LeafRowIn (i.at, PlainVec vars s) [] r
+      by (AffineVec fs s) l v r o = All-head LeafRowIn (i.at, AffineVec fs s) [] r
       by (PlainObj sense var) l v r o = absurd (true≢false o)
       by (AffineObj sense f) l v r o = absurd (true≢false o)
 
   pub leaves_in_place : (items : List Item) → All IsLeaf items
-      → All Allows (flat_map leaf_variables items) → All RowIn (flat_map leaf_rows items)
+      → All Allows (flat_map leaf_variables items) → All LeafRowIn (flat_map leaf_rows items)
       → All (LeafHolds one a x) items
   leaves_in_place [] l v r = All-nil (LeafHolds one a x)
   leaves_in_place (i ∷ items) l v r =
       All-cons (LeafHolds one a x) i items
       (one_in_place i (All-head IsLeaf i items l)
       (all_first Allows (leaf_variables i) (flat_map leaf_variables items) v)
-      (all_first RowIn (leaf_rows i) (flat_map leaf_rows items) r))
+      (all_first LeafRowIn (leaf_rows i) (flat_map leaf_rows items) r))
       (leaves_in_place items (All-tail IsLeaf i items l)
       (all_second Allows (leaf_variables i) (flat_map leaf_variables items) v)
-      (all_second RowIn (leaf_rows i) (flat_map leaf_rows items) r))
+      (all_second LeafRowIn (leaf_rows i) (flat_map leaf_rows items) r))
 
   -- ---- the cost of the leaf objective
 
@@ -216,7 +216,7 @@ module _ (setting : Setting) (costly : IsCostly (graph_of setting)) (lawful : Ar
       subst Distinct (sym (inner_is model.groups))
       (vars_distinct setting costly lawful model valid bridging)
 
-  parts_are : AreParts setting all_leaves
+  parts_are : AreLeavesAndNodes setting all_leaves
       (nodes_of_each bridging.made.groups ++ nodes_in bridging.made.others)
   parts_are =
       both_parts
@@ -267,21 +267,21 @@ module _ (setting : Setting) (costly : IsCostly (graph_of setting)) (lawful : Ar
 
   -- with an objective there is one leaf objective
   pub has_leaf : (b : Body) → is_objective b ≡ true
-      → objective_items model.objective ≡ objective_item b ∷ [] → HasOne all_leaves
+      → objective_items model.objective ≡ objective_item b ∷ [] → HasOneLeafObjective all_leaves
   has_leaf b o here =
       one_behind (leaves_of_each bridging.made.groups) (leaves_in bridging.made.others)
       (none_below_each setting costly bridging.choice bridging.chosen lawful
       bridging.made.groups groups_there)
       (one_in setting costly bridging.choice bridging.chosen lawful bridging.made.others
       others_there
-      (subst (λ l. OneObjective (map row_item model.rows ++ l)) (sym here)
+      (subst (λ l. HasOneObjective (map row_item model.rows ++ l)) (sym here)
       (one_last (map row_item model.rows) (objective_item b)
       (rows_no_objective model.rows) o)))
 
   -- ---- at a point
 
   module _ (one : Rational) (a : zero_ℚ ≤ℚ one) (x : Address → Rational)
-      (feasible : IsFeasible (leaves_of bridging) one x) where
+      (feasible : IsLeafFeasible (leaves_of bridging) one x) where
     abbrev pub seen_point : Address → Rational
     seen_point = point_in one a x bridging.made.entries
 
@@ -289,7 +289,7 @@ module _ (setting : Setting) (costly : IsCostly (graph_of setting)) (lawful : Ar
     all_in_place =
         leaves_in_place one a x all_leaves native_leaves
         (variables_from (Allows one a x) feasible.variables)
-        (rows_from (RowIn one a x) feasible.rows)
+        (rows_from (LeafRowIn one a x) feasible.rows)
 
     pub groups_in_place : GroupsHold one a x setting costly bridging.choice bridging.chosen lawful
         bridging.made.entries (model_image model).groups
@@ -310,13 +310,13 @@ module _ (setting : Setting) (costly : IsCostly (graph_of setting)) (lawful : Ar
         (leaves_in bridging.made.others) all_in_place)
 
     -- groups and rows hold, as the expressions have the point
-    abbrev pub GroupIn : (Address → Rational) → UserGroup → Type 0
-    GroupIn p g = In (multiplied one g.set) (evaluations one (functions_of_group g) p)
+    abbrev pub UserGroupIn : (Address → Rational) → UserGroup → Type 0
+    UserGroupIn p g = In (multiplied one g.set) (evaluations one (functions_of_group g) p)
 
     abbrev pub UserRowIn : (Address → Rational) → Row → Type 0
     UserRowIn p r = In (multiplied one r.set) (evaluations one (functions_in r.func) p)
 
-    pub user_groups_seen : All (GroupIn seen_point) model.groups
+    pub user_groups_seen : All (UserGroupIn seen_point) model.groups
     user_groups_seen =
         all_from_map
         (λ g. Holds one (group_held zero_ℚ no_numbers g) seen_point) group_item model.groups
@@ -356,17 +356,17 @@ module _ (setting : Setting) (costly : IsCostly (graph_of setting)) (lawful : Ar
     abbrev pub user_point : Address → Rational
     user_point = at_point model (listed_point model seen_point)
 
-    pub user_groups : All (GroupIn user_point) model.groups
+    pub user_groups : All (UserGroupIn user_point) model.groups
     user_groups =
         All-weaker
-        (λ g. GroupIn seen_point g
+        (λ g. UserGroupIn seen_point g
         × ((v : Address) → Avoids (all_addresses model.groups) v → Avoids (addresses_of g.vars) v))
-        (GroupIn user_point)
+        (UserGroupIn user_point)
         (λ g h. subst (In (multiplied one g.set))
         (sym (evaluations_agree model seen_point one (functions_of_group g)
         (λ v n. variables_miss (addresses_of g.vars) v (h.1 v n)))) h.0)
         model.groups
-        (all_both (GroupIn seen_point)
+        (all_both (UserGroupIn seen_point)
         (λ g. (v : Address) → Avoids (all_addresses model.groups) v → Avoids (addresses_of g.vars)
         v)
         model.groups user_groups_seen (group_among model.groups))

@@ -24,7 +24,7 @@ use Rattle.address_laws.specs.LeafKeys.{no_keys}
 use Rattle.address_laws.specs.ImageLaws.{Misses}
 use Rattle.address_laws.specs.KeyLaws.{IsHere}
 use Rattle.address_laws.specs.Keys.{keys, keys_in, keys_of_each, own}
-use Rattle.tree_laws.specs.Carried.{LeafDuals, StandFor, back, backs, group_held, group_helds, leaf_helds, through}
+use Rattle.tree_laws.specs.Carried.{LeafAnswerDuals, StandFor, back, backs, group_held, group_helds, leaf_helds, through}
 use Rattle.tree_laws.specs.DownLaws.{each_joined, first_balance, rest_balance, stand_itself}
 use Rattle.tree_laws.specs.LevelLaws.{IsLevel, duals_of_first, duals_of_second, group_duals, groups_balance, other_duals, others_zero, stand_leaves}
 use Rattle.tree_laws.specs.NodeLaws.{keys_under, left, left_rest, level, target, target_stands}
@@ -33,7 +33,7 @@ use Rattle.tree_laws.specs.BackLaws.{last_back}
 use Rattle.tree_laws.specs.TreeLaws.{carried, first_zero, group_carries, native_group, native_row, outer_through, rest_missed, rest_zero, row_carries, row_quiet, row_through}
 
 module _ (setting : Setting) (costly : IsCostly (graph_of setting)) (choice : ℕ → Choice)
-    (chosen : AreChoices setting choice) (lawful : AreLawful setting) (d : LeafDuals) where
+    (chosen : AreChoices setting choice) (lawful : AreLawful setting) (d : LeafAnswerDuals) where
   abbrev GroupThere : Item → Type 0
   GroupThere g = IsGroupHere setting costly choice chosen lawful g
 

@@ -37,7 +37,7 @@ use Rattle.address_laws.specs.LeafKeys.{no_keys}
 use Rattle.address_laws.specs.ImageLaws.{Misses}
 use Rattle.address_laws.specs.KeyLaws.{groups_under}
 use Rattle.address_laws.specs.Keys.{Mine, keys, keys_in, own}
-use Rattle.tree_laws.specs.Carried.{LeafDuals, StandFor, group_held, leaf_held, leaf_helds, row_dual, through}
+use Rattle.tree_laws.specs.Carried.{LeafAnswerDuals, StandFor, group_held, leaf_held, leaf_helds, row_dual, through}
 use Rattle.tree_laws.specs.DownLaws.{group_through, stand_itself}
 use Rattle.tree_laws.specs.LevelLaws.{adjoint_of_leaves, groups_weigh, leaf_missed}
 use Rattle.tree_laws.specs.LookupLaws.{components, given_lookup, itself, own_lookup}
@@ -70,13 +70,13 @@ native_through bound w g h =
     ∙ own_functions (variables_of g.body) (variables_of g.body)
     ∙ sym (group_row_functions g.body h))
 
-leaf_group : (d : LeafDuals) (g : Item) → is_group g.body ≡ true
+leaf_group : (d : LeafAnswerDuals) (g : Item) → is_group g.body ≡ true
     → leaf_held d g ≡ group_held d.bound d.numbers g
 leaf_group d g h =
     ap (λ b. held_body d.bound g.body
     (cond b (map d.numbers (variables_of g.body)) (row_dual d g))) h
 
-leaf_row : (d : LeafDuals) (c : Item) → is_group c.body ≡ false
+leaf_row : (d : LeafAnswerDuals) (c : Item) → is_group c.body ≡ false
     → leaf_held d c ≡ held_body d.bound c.body (row_dual d c)
 leaf_row d c h =
     ap (λ b. held_body d.bound c.body
@@ -112,7 +112,7 @@ no_objective (AffineObj sense func) h = absurd (true≢false (sym h))
 no_objective _ h = refl
 
 module _ (setting : Setting) (costly : IsCostly (graph_of setting)) (choice : ℕ → Choice)
-    (chosen : AreChoices setting choice) (lawful : AreLawful setting) (d : LeafDuals) where
+    (chosen : AreChoices setting choice) (lawful : AreLawful setting) (d : LeafAnswerDuals) where
   abbrev GroupThere : Item → Type 0
   GroupThere g = IsGroupHere setting costly choice chosen lawful g
 

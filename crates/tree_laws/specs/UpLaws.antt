@@ -33,7 +33,7 @@ use Rattle.fresh_bridging.specs.TheRules.{AreChoices, Setting, edge_at, graph_of
 use Rattle.address_laws.specs.Apart.{Distinct, distinct-second}
 use Rattle.address_laws.specs.KeyLaws.{IsHere, law_of, no_groups}
 use Rattle.address_laws.specs.PutLaws.{objective_stays}
-use Rattle.tree_laws.specs.Carried.{LeafDuals, group_held, group_helds, through}
+use Rattle.tree_laws.specs.Carried.{LeafAnswerDuals, group_held, group_helds, through}
 use Rattle.tree_laws.specs.DownLaws.{first_through, rest_through}
 use Rattle.tree_laws.specs.NodeLaws.{components_distinct}
 use Rattle.tree_laws.specs.ObjectiveLaws.{CostsNothing, by_case, none_below, none_below_each}
@@ -43,7 +43,7 @@ use Rattle.address_laws.specs.ImageLaws.{rows_alone}
 use Rattle.tree_laws.specs.TreeLaws.{all_untouched, misses, native_through, no_objective, outer_through, row_through}
 
 -- values say nothing of duals, so any will do
-abbrev no_duals : LeafDuals
+abbrev no_duals : LeafAnswerDuals
 no_duals = record {
   bound = zero_ℚ;
   objective = [];

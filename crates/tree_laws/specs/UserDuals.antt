@@ -8,12 +8,12 @@ use Rattle.ratio_core.specs.Rational.{Rational, neg_ℚ, zero_ℚ, ◌*ℚ◌, �
 use Rattle.rational_laws.specs.Sums.{sum_by_ℚ, sum_by_ℚ-map}
 use Rattle.aff_core.specs.Address.{Address}
 use Rattle.aff_core.specs.Function.{Function, coefficient}
-use Rattle.dual_laws.specs.Held.{DualsHold, DualRow, IsHeld, adjoint, adjoint_of, gap, gap_of}
+use Rattle.dual_laws.specs.Held.{DualsHold, DualRow, IsHeld, HasDuals, adjoint, adjoint_of, gap, gap_of}
 use Rattle.dual_laws.specs.PullLaws.{adjoint-append, gap-append}
-use Rattle.certificates.specs.Duals.{AreDuals, HasDuals, adjoint_of_rows, dual_gap, groups_with, rows_with}
+use Rattle.certificates.specs.Duals.{AreDuals, adjoint_of_rows, dual_gap, groups_with, rows_with}
 use Rattle.certificates.specs.Points.{all_addresses, at_point}
 use Rattle.equality_form.specs.EqualityForm.{cost}
-use Rattle.equality_form.specs.Right.{AreDuals as AreLeafDuals, held_rows}
+use Rattle.equality_form.specs.Right.{AreLeafDuals, held_rows}
 use Rattle.bridge_face.specs.Law.{held}
 use Rattle.fresh_bridging.specs.CanLaws.{AreLawful}
 use Rattle.map_laws.specs.EachLaws.{all_first, all_second}
@@ -24,11 +24,11 @@ use Rattle.fresh_bridging.specs.TheRules.{Setting, graph_of}
 use Rattle.item_core.specs.declared.item.Item.{Item}
 use Rattle.user_model.specs.Model.{ModelValue, variables}
 use Rattle.user_model.specs.Valid.{IsValid}
-use Rattle.tree_laws.specs.Carried.{LeafDuals, backs, group_helds, leaf_helds}
+use Rattle.tree_laws.specs.Carried.{LeafAnswerDuals, backs, group_helds, leaf_helds}
 use Rattle.tree_laws.specs.Certificate.{leaf_duals, rows_of}
 use Rattle.tree_laws.specs.LeafLaws.{SupportsNativeKinds, objective_held}
 use Rattle.tree_laws.specs.NodeLaws.{held_split, length-backs}
-use Rattle.tree_laws.specs.ObjectivePart.{Weighs, leaf_weighs, user_cost, user_weighs}
+use Rattle.tree_laws.specs.ObjectivePart.{WeighsCost, leaf_weighs, user_cost, user_weighs}
 use Rattle.tree_laws.specs.CarriedLaws.{gaps_grow, left, leaves_gap, other_helds, user_balance, user_duals_hold, user_helds}
 use Rattle.tree_laws.specs.PrimalLaws.{all_leaves}
 use Rattle.tree_laws.specs.UserHelds.{groups_are, held_duals, rows_are}
@@ -48,10 +48,10 @@ module _ (setting : Setting) (costly : IsCostly (graph_of setting)) (lawful : Ar
       (nonpos : o ≤ℚ zero_ℚ) (duals : AreLeafDuals (leaves_of bridging) costs y)
       (weighed : (v : Address) → costs v +ℚ o *ℚ coefficient (cost (leaves_of bridging)) v ≡ zero_ℚ)
     where
-      abbrev pub d : LeafDuals
+      abbrev pub d : LeafAnswerDuals
       d = leaf_duals bridging o costs y
 
-      pub leaf_part : Weighs o (cost (leaves_of bridging))
+      pub leaf_part : WeighsCost o (cost (leaves_of bridging))
           (map (objective_held d) (flat_map leaf_objectives leaves_here))
       leaf_part = leaf_weighs setting costly lawful native model valid bridging d o refl refl
 
@@ -74,7 +74,7 @@ module _ (setting : Setting) (costly : IsCostly (graph_of setting)) (lawful : Ar
           held d.bound (objective_items model.objective)
           (drop (length (map row_item model.rows)) (backs d bridging.made.others))
 
-      pub user_part : Weighs o user_f objective_part
+      pub user_part : WeighsCost o user_f objective_part
       user_part = user_weighs setting costly lawful native model valid bridging d o refl refl
 
       abbrev pub row_helds : List DualRow

@@ -7,8 +7,8 @@ use Rattle.set_core.specs.Membership.{In}
 use Rattle.set_core.specs.Mirrored.{multiplied}
 use Rattle.aff_core.specs.Address.{Address}
 use Rattle.aff_core.specs.FunctionLists.{evaluations}
-use Rattle.dual_laws.specs.Held.{AllHold, DualsHold, DualRow, Holds, IsHeld}
-use Rattle.certificates.specs.Duals.{HasDuals, groups_with, row_with, rows_with}
+use Rattle.dual_laws.specs.Held.{AllHold, DualsHold, DualRow, Holds, IsHeld, HasDuals}
+use Rattle.certificates.specs.Duals.{groups_with, row_with, rows_with}
 use Rattle.certificates.specs.Points.{addresses_of, all_addresses, functions_of, functions_of_group}
 use Rattle.bridge_face.specs.Law.{held}
 use Rattle.fresh_bridging.specs.ModelImage.{group_item, row_item}

@@ -19,7 +19,7 @@ use Rattle.linear_laws.specs.ListLaws.{evaluations_slopes, evaluations_values}
 use Rattle.certificates.specs.Feasible.{IsBetter, IsFeasible, IsRay}
 use Rattle.certificates.specs.Points.{address_of, addresses_of, all_addresses, at_point, functions_of, functions_of_group, objective_function, objective_slope, objective_value, sense_of}
 use Rattle.equality_form.specs.EqualityForm.{cost}
-use Rattle.equality_form.specs.Right.{IsFeasible as IsLeafFeasible}
+use Rattle.equality_form.specs.Right.{IsLeafFeasible}
 use Rattle.bridge_face.specs.BackOf.{head_of}
 use Rattle.bridge_face.specs.Law.{Miss}
 use Rattle.fresh_bridging.specs.CanLaws.{AreLawful}

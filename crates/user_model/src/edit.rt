@@ -2,7 +2,7 @@
 ghost use Rattle.std.specs.Prelude.{◌≡◌, IfOk};
 
 use crate::{Sense, copies};
-use lists::Duplicate;
+use lists::{Duplicate, Sequence};
 use name_index::{Name, Names};
 use named_aff::{NamedAff, NamedVec};
 use ratio_core::{Memory, Ratio};
@@ -116,6 +116,9 @@ impl NamedFunc {
         })
     }
 }
+
+/// Edits in their order.
+pub type Edits = Sequence<Edit>;
 
 impl Edit {
     /// An equal edit in memory of its own.

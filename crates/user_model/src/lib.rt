@@ -11,7 +11,7 @@ mod row;
 mod undo;
 
 pub use aff_core::Sense;
-pub use edit::{Edit, NamedFunc};
+pub use edit::{Edit, Edits, NamedFunc};
 pub use function::UserFunc;
 pub use group::{Group, GroupVar, GroupVars, Groups};
 pub use objective::Objective;

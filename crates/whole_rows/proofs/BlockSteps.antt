@@ -6,15 +6,15 @@ use Rattle.std.proofs.lemmas.Bool.{cases_lt}
 use Rattle.std.proofs.lemmas.Int.{unsigned_abs-mul}
 use Rattle.std.proofs.lemmas.List.{get_or-set_other, get_or-set_same, get_or_default, get_or_past, length-set}
 use Rattle.simplex_laws.specs.BoundedSumLaws.{same_or_other}
-use Rattle.whole_rows.specs.Blocks.{AreMarked, AreScaled, AreScaledIn, AreUnmarked, Covers, Joins, KeepsMarks, blocks_of}
-use Rattle.whole_rows.specs.Listed.{Lists}
-use Rattle.whole_rows.specs.Numerators.{AreDivided, AreLowered, AreMade, AreShrunk, numerator}
+use Rattle.whole_rows.specs.Blocks.{AreBlocksMarked, AreColumnsUnmarked, AreScaled, AreScaledIn, BlocksCover, Joins, KeepsMarks, blocks_of}
+use Rattle.whole_rows.specs.Listed.{ListsNonzeros}
+use Rattle.whole_rows.specs.Numerators.{AreDivided, AreNumeratorsLowered, AreNumeratorsMade, AreShrunk, numerator}
 use Rattle.whole_rows.specs.Over.{lowered_num}
 
 -- ---- blocks that aren't marked
 
-pub unmarked_more : (blocks : List Bool) (from b : ℕ) → AreUnmarked from (b * 8) blocks
-    → slice_index_or blocks b false ≡ false → AreUnmarked from ((b + 1) * 8) blocks
+pub unmarked_more : (blocks : List Bool) (from b : ℕ) → AreColumnsUnmarked from (b * 8) blocks
+    → slice_index_or blocks b false ≡ false → AreColumnsUnmarked from ((b + 1) * 8) blocks
 unmarked_more blocks from b h e j f t = by_block (cases_lt j (b * 8))
   where
     same_lem : (j b : ℕ) → b * 8 ≤ j → j < (b + 1) * 8 → b ≡ j / 8
@@ -25,8 +25,9 @@ unmarked_more blocks from b h e j f t = by_block (cases_lt j (b * 8))
     by_block (inr k) = subst (λ n. slice_index_or blocks n false ≡ false) (same_lem j b k t) e
 
 -- what isn't marked is 0
-pub skipped_zero : (blocks : List Bool) (numbers : List ℤ) (from to : ℕ) → Covers blocks numbers
-    → AreUnmarked from to blocks → (j : ℕ) → from ≤ j → j < to
+pub skipped_zero : (blocks : List Bool) (numbers : List ℤ) (from to : ℕ)
+    → BlocksCover blocks numbers
+    → AreColumnsUnmarked from to blocks → (j : ℕ) → from ≤ j → j < to
     → slice_index_or numbers j (pos 0) ≡ pos 0
 skipped_zero blocks numbers from to covers h j f t = covers.unmarked j (h j f t)
 
@@ -68,10 +69,10 @@ or_false a b e = (left_lem a b e, right_lem a b e)
 -- first row that stay, and those of the second
 pub covers_made : (R : ℤ → ℤ → ℤ → Type 0) → ((x : ℤ) → R (pos 0) (pos 0) x → x ≡ pos 0)
     → (blocks new : List Bool) (numbers step made : List ℤ) → KeepsMarks blocks new
-    → Covers blocks numbers → Covers new step → length made ≡ length numbers
+    → BlocksCover blocks numbers → BlocksCover new step → length made ≡ length numbers
     → ((j : ℕ) → j < length numbers → R (slice_index_or numbers j (pos 0))
     (slice_index_or step j (pos 0)) (slice_index_or made j (pos 0)))
-    → Covers new made
+    → BlocksCover new made
 covers_made R zeros blocks new numbers step made kept covers step_covers count is = record {
   unmarked = λ j e. by_end j e (cases_lt j (length numbers));
 }
@@ -104,23 +105,24 @@ module _ (others old new : List Bool) (joins : Joins (length old) others old new
   pub joins_keep : KeepsMarks old new
   joins_keep b e = (unmarked_both b e).0
 
-  pub joins_cover : (numbers : List ℤ) → Covers others numbers → Covers new numbers
+  pub joins_cover : (numbers : List ℤ) → BlocksCover others numbers → BlocksCover new numbers
   joins_cover numbers covers = record {
     unmarked = λ j e. covers.unmarked j (unmarked_both (j / 8) e).1;
   }
 
 -- ---- the marks of listed columns
 
-pub marked_none : (columns : List ℕ) (old : List Bool) → AreMarked columns 0 old old
+pub marked_none : (columns : List ℕ) (old : List Bool) → AreBlocksMarked columns 0 old old
 marked_none columns old = record {
   long = refl;
   kept = λ b e. e;
   marked = λ k b. absurd (omega (arith, b));
 }
 
-pub marked_more : (columns : List ℕ) (n : ℕ) (old now : List Bool) → AreMarked columns n old now
+pub marked_more : (columns : List ℕ) (n : ℕ) (old now : List Bool)
+    → AreBlocksMarked columns n old now
     → slice_index columns n / 8 < length now
-    → AreMarked columns (n + 1) old (slice_set now (slice_index columns n / 8) true)
+    → AreBlocksMarked columns (n + 1) old (slice_set now (slice_index columns n / 8) true)
 marked_more columns n old now h within = record {
   long = length-set now (slice_index columns n / 8) true ∙ h.long;
   kept = λ b e. same_or_other (slice_index_or old b false ≡ false) b (slice_index columns n / 8)
@@ -144,7 +146,7 @@ marked_more columns n old now h within = record {
     less_lem k n b m = omega (arith, b, m)
 
 -- a listed column has a block
-pub column_block : (columns : List ℕ) (numbers : List ℤ) (k n : ℕ) → Lists columns numbers
+pub column_block : (columns : List ℕ) (numbers : List ℤ) (k n : ℕ) → ListsNonzeros columns numbers
     → k < length columns → n ≡ blocks_of (length numbers) → slice_index columns k / 8 < n
 column_block columns numbers k n lists b e =
     within_lem (slice_index columns k) (length numbers) n (lists.within k b) e
@@ -153,10 +155,10 @@ column_block columns numbers k n lists b e =
     within_lem j w m b e = omega (arith, b, e)
 
 pub listed_covers : (columns : List ℕ) (numbers : List ℤ) (new : List Bool)
-    → Lists columns numbers
+    → ListsNonzeros columns numbers
     → ((k : ℕ) → k < length columns
     → slice_index_or new (slice_index columns k / 8) false ≡ true)
-    → Covers new numbers
+    → BlocksCover new numbers
 listed_covers columns numbers new lists marked = record {
   unmarked = λ j e. by_end j e (cases_lt j (length numbers));
 }
@@ -169,7 +171,8 @@ listed_covers columns numbers new lists marked = record {
     by_end j e (inr h) = get_or_past numbers j (pos 0) h
 
 pub marked_covers : (columns : List ℕ) (numbers : List ℤ) (old new : List Bool)
-    → Lists columns numbers → AreMarked columns (length columns) old new → Covers new numbers
+    → ListsNonzeros columns numbers → AreBlocksMarked columns (length columns) old new
+    → BlocksCover new numbers
 marked_covers columns numbers old new lists h =
     listed_covers columns numbers new lists (λ k b. h.marked k b)
 
@@ -267,7 +270,7 @@ scaled_past over old now j to h past zeros = record {
 -- ---- rows whose marks stay
 
 pub covers_divided : (by : ℤ) (blocks : List Bool) (old new : List ℤ) → ¬ (by ≡ pos 0)
-    → Covers blocks old → AreDivided by (length old) old new → Covers blocks new
+    → BlocksCover blocks old → AreDivided by (length old) old new → BlocksCover blocks new
 covers_divided by blocks old new nonzero covers divided = record {
   unmarked = λ j e. by_end j e (cases_lt j (length old));
 }
@@ -280,13 +283,14 @@ covers_divided by blocks old new nonzero covers divided = record {
     by_end j e (inr h) = get_or_past new j (pos 0) (subst (λ n. n ≤ j) (sym divided.long) h)
 
 pub covers_zeros : (blocks : List Bool) (numbers : List ℤ)
-    → ((j : ℕ) → slice_index_or numbers j (pos 0) ≡ pos 0) → Covers blocks numbers
+    → ((j : ℕ) → slice_index_or numbers j (pos 0) ≡ pos 0) → BlocksCover blocks numbers
 covers_zeros blocks numbers h = record { unmarked = λ j e. h j }
 
 -- numbers that are multiplied
 pub covers_scaled : (over : ℤ) (blocks new : List Bool) (numbers made : List ℤ)
-    → KeepsMarks blocks new → Covers blocks numbers → AreScaled over (length numbers) numbers made
-    → Covers new made
+    → KeepsMarks blocks new → BlocksCover blocks numbers
+    → AreScaled over (length numbers) numbers made
+    → BlocksCover new made
 covers_scaled over blocks new numbers made kept covers scaled = record {
   unmarked = λ j e. by_end j e (cases_lt j (length numbers));
 }
@@ -300,16 +304,16 @@ covers_scaled over blocks new numbers made kept covers scaled = record {
 
 -- numbers that are lowered
 pub covers_lowered : (over : ℕ) (by : ℤ) (blocks new : List Bool) (numbers step made : List ℤ)
-    → KeepsMarks blocks new → Covers blocks numbers → Covers new step
-    → AreLowered over by step (length numbers) numbers made → Covers new made
+    → KeepsMarks blocks new → BlocksCover blocks numbers → BlocksCover new step
+    → AreNumeratorsLowered over by step (length numbers) numbers made → BlocksCover new made
 covers_lowered over by blocks new numbers step made kept covers step_covers lowered =
     covers_made (λ a b x. x ≡ lowered_num a over by b) (λ x e. e ∙ lowered_zeros over by) blocks new
     numbers step made kept covers step_covers lowered.long lowered.lowered
 
 pub covers_shrunk : (over : ℕ) (by : ℤ) (common : ℕ) (blocks new : List Bool)
-    (numbers step made : List ℤ) → 0 < common → KeepsMarks blocks new → Covers blocks numbers
-    → Covers new step → AreShrunk over by step common (length numbers) numbers made
-    → Covers new made
+    (numbers step made : List ℤ) → 0 < common → KeepsMarks blocks new → BlocksCover blocks numbers
+    → BlocksCover new step → AreShrunk over by step common (length numbers) numbers made
+    → BlocksCover new made
 covers_shrunk over by common blocks new numbers step made above kept covers step_covers shrunk =
     covers_made (λ a b x. lowered_num a over by b ≡ x *ℤ pos common)
     (λ x e. factor_zero x (pos common) (sym e ∙ lowered_zeros over by)
@@ -322,7 +326,7 @@ covers_shrunk over by common blocks new numbers step made above kept covers step
 -- ---- rows that are rebuilt
 
 pub copied_made : (old items : List ℤ) (side : ℤ) → length old ≡ length items
-    → AreMade (numerator items side) (length old) old items
+    → AreNumeratorsMade (numerator items side) (length old) old items
 copied_made old items side e = record {
   long = sym e;
   made = λ j b. sym (get_or_default items j side (pos 0) (subst (λ n. j < n) e b));
@@ -330,7 +334,7 @@ copied_made old items side e = record {
       ∙ sym (get_or_past old j (pos 0) h);
 }
 
-pub made_zeros : (old new : List ℤ) → AreMade (λ _. pos 0) (length old) old new → (j : ℕ)
+pub made_zeros : (old new : List ℤ) → AreNumeratorsMade (λ _. pos 0) (length old) old new → (j : ℕ)
     → slice_index_or new j (pos 0) ≡ pos 0
 made_zeros old new made j = by_end (cases_lt j (length old))
   where
@@ -340,7 +344,8 @@ made_zeros old new made j = by_end (cases_lt j (length old))
 
 -- a list whose blocks are all marked
 pub covers_all : (blocks : List Bool) (numbers : List ℤ) → length blocks ≡ blocks_of (length numbers)
-    → ((b : ℕ) → b < length blocks → slice_index_or blocks b false ≡ true) → Covers blocks numbers
+    → ((b : ℕ) → b < length blocks → slice_index_or blocks b false ≡ true)
+    → BlocksCover blocks numbers
 covers_all blocks numbers long marked = record {
   unmarked = λ j e. by_end j e (cases_lt j (length numbers));
 }
@@ -355,8 +360,9 @@ covers_all blocks numbers long marked = record {
         long)) ∙ e))
     by_end j e (inr h) = get_or_past numbers j (pos 0) h
 
-pub covers_put : (blocks : List Bool) (numbers : List ℤ) (j : ℕ) (x : ℤ) → Covers blocks numbers
-    → j / 8 < length blocks → Covers (slice_set blocks (j / 8) true) (slice_set numbers j x)
+pub covers_put : (blocks : List Bool) (numbers : List ℤ) (j : ℕ) (x : ℤ)
+    → BlocksCover blocks numbers
+    → j / 8 < length blocks → BlocksCover (slice_set blocks (j / 8) true) (slice_set numbers j x)
 covers_put blocks numbers j x covers within = record {
   unmarked = λ k e. same_or_other
       (slice_index_or (slice_set numbers j x) k (pos 0) ≡ pos 0) (k / 8) (j / 8)

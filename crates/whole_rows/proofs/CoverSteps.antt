@@ -7,37 +7,38 @@ use Rattle.std.proofs.lemmas.List.{get_or_default, get_or_past}
 use Rattle.ratio_core.specs.Gcd.{gcd}
 use Rattle.ratio_core.specs.Rational.{reduce, zero_ℚ}
 use Rattle.rational_laws.specs.Over.{over-zero_ℚ}
-use Rattle.whole_rows.specs.Blocks.{AreScaled, Covers, KeepsMarks, blocks_of}
+use Rattle.whole_rows.specs.Blocks.{AreScaled, BlocksCover, KeepsMarks, blocks_of}
 use Rattle.whole_rows.specs.declared.narrow_row.NarrowRow.{NarrowRow}
-use Rattle.whole_rows.specs.Numerators.{AreDivided, AreMade, AreShrunk, numerator}
+use Rattle.whole_rows.specs.Numerators.{AreDivided, AreNumeratorsMade, AreShrunk, numerator}
 use Rattle.whole_rows.specs.Rows.{can_stay, number_of, numerator_of, width_of}
 use Rattle.whole_rows.proofs.BlockSteps.{covers_divided, covers_scaled, covers_shrunk}
 
 pub scaled_covers : (row : NarrowRow) (over : ℤ) (N N' items : List ℤ) (B B' blocks : List Bool)
     → N ≡ row.numbers.items → items ≡ N' → B ≡ row.blocks.items → blocks ≡ B' → KeepsMarks B B'
-    → AreScaled over (length N) N N' → Covers blocks items
+    → AreScaled over (length N) N N' → BlocksCover blocks items
 scaled_covers row over N N' items B B' blocks N_is items_are B_is blocks_are kept scaled =
-    subst₂ Covers (sym blocks_are) (sym items_are)
-    (covers_scaled over B B' N N' kept (subst₂ Covers (sym B_is) (sym N_is) row.covers) scaled)
+    subst₂ BlocksCover (sym blocks_are) (sym items_are)
+    (covers_scaled over B B' N N' kept (subst₂ BlocksCover (sym B_is) (sym N_is) row.covers) scaled)
 
 module _ (row : NarrowRow) (N n N' items : List ℤ) (B B' blocks : List Bool)
     (N_is : N ≡ row.numbers.items) (items_are : items ≡ N') (B_is : B ≡ row.blocks.items)
-    (blocks_are : blocks ≡ B') (kept : KeepsMarks B B') (step_covers : Covers B' n) where
-  row_covers : Covers B N
-  row_covers = subst₂ Covers (sym B_is) (sym N_is) row.covers
+    (blocks_are : blocks ≡ B') (kept : KeepsMarks B B') (step_covers : BlocksCover B' n) where
+  row_covers : BlocksCover B N
+  row_covers = subst₂ BlocksCover (sym B_is) (sym N_is) row.covers
 
   pub shrunk_covers : (over : ℕ) (by : ℤ) (common : ℕ) → 0 < common
-      → AreShrunk over by n common (length N) N N' → Covers blocks items
+      → AreShrunk over by n common (length N) N N' → BlocksCover blocks items
   shrunk_covers over by common above shrunk =
-      subst₂ Covers (sym blocks_are) (sym items_are)
+      subst₂ BlocksCover (sym blocks_are) (sym items_are)
       (covers_shrunk over by common B B' N n N' above kept row_covers step_covers shrunk)
 
 pub divided_covers : (row : NarrowRow) (by : ℤ) (N N' items : List ℤ) → N ≡ row.numbers.items
-    → items ≡ N' → ¬ (by ≡ pos 0) → AreDivided by (length N) N N' → Covers row.blocks.items items
+    → items ≡ N' → ¬ (by ≡ pos 0) → AreDivided by (length N) N N'
+    → BlocksCover row.blocks.items items
 divided_covers row by N N' items N_is items_are nonzero divided =
-    subst (Covers row.blocks.items) (sym items_are)
+    subst (BlocksCover row.blocks.items) (sym items_are)
     (covers_divided by row.blocks.items N N' nonzero
-    (subst (Covers row.blocks.items) (sym N_is) row.covers) divided)
+    (subst (BlocksCover row.blocks.items) (sym N_is) row.covers) divided)
 
 -- there are as many blocks as there were
 pub long_kept : (row : NarrowRow) (items : List ℤ) (blocks : List Bool)
@@ -53,7 +54,7 @@ zero_number row j b z =
 
 -- the numerators of a row that is copied, and its right side
 pub copied_numerators : (row : NarrowRow) (old N items : List ℤ) (side : ℤ) → items ≡ N
-    → AreMade (numerator_of row) (length old) old N → side ≡ numerator_of row (length old)
+    → AreNumeratorsMade (numerator_of row) (length old) old N → side ≡ numerator_of row (length old)
     → (j : ℕ) → j ≤ length old → numerator items side j ≡ numerator_of row j
 copied_numerators row old N items side is made side_is j b = by_end (cases_lt j (length old))
   where

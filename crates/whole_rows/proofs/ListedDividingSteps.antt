@@ -6,7 +6,7 @@ use Rattle.std.proofs.lemmas.Nat.Gcd.{dvd-zero}
 use Rattle.std.specs.Int.{◌∣◌}
 use Rattle.rational_laws.specs.Whole.{*ℤ_pos_one}
 use Rattle.simplex_laws.specs.BoundedSumLaws.{same_or_other}
-use Rattle.whole_rows.specs.Listed.{Lists}
+use Rattle.whole_rows.specs.Listed.{ListsNonzeros}
 use Rattle.whole_rows.specs.Numerators.{AreDivided, AreSized, DividesAll}
 use Rattle.whole_rows.proofs.BlockSteps.{factor_zero, zero_times}
 use Rattle.whole_rows.proofs.ListedSteps.{sought}
@@ -22,7 +22,8 @@ number_at_is columns numbers k b =
     get_or-map (λ c. slice_index_or numbers c (pos 0)) columns k 0 (pos 0) b
 
 -- what holds of 0 and of each listed number holds of all
-pub from_listed : (P : ℤ → Type 0) (columns : List ℕ) (numbers : List ℤ) → Lists columns numbers
+pub from_listed : (P : ℤ → Type 0) (columns : List ℕ) (numbers : List ℤ)
+    → ListsNonzeros columns numbers
     → P (pos 0)
     → ((k : ℕ) → k < length columns → P (slice_index_or numbers (slice_index columns k) (pos 0)))
     → (j : ℕ) → j < length numbers → P (slice_index_or numbers j (pos 0))
@@ -37,7 +38,7 @@ from_listed P columns numbers lists zero listed j b =
     by_place (inr none) = subst P (sym (lists.others j b none)) zero
 
 pub sized_all : (columns : List ℕ) (numbers : List ℤ) (n size greatest : ℕ)
-    → Lists columns numbers → n ≡ length columns
+    → ListsNonzeros columns numbers → n ≡ length columns
     → AreSized (numbers_at columns numbers) n size greatest
     → AreSized numbers (length numbers) size greatest
 sized_all columns numbers n size greatest lists all h = record {
@@ -49,7 +50,7 @@ sized_all columns numbers n size greatest lists all h = record {
 }
 
 pub divides_listed : (columns : List ℕ) (numbers : List ℤ) (n size common : ℕ)
-    → Lists columns numbers → n ≡ length columns
+    → ListsNonzeros columns numbers → n ≡ length columns
     → DividesAll (numbers_at columns numbers) n size common
     → DividesAll numbers (length numbers) size common
 divides_listed columns numbers n size common lists all h = record {
@@ -101,7 +102,7 @@ divided_next by columns n old now x so_far within apart is = record {
       (λ e. h n (omega arith) (sym e)) ∙ so_far.others j (λ k b. h k (omega (arith, b)));
 }
 
-pub divided_all : (by : ℤ) (columns : List ℕ) (old new : List ℤ) (n : ℕ) → Lists columns old
+pub divided_all : (by : ℤ) (columns : List ℕ) (old new : List ℤ) (n : ℕ) → ListsNonzeros columns old
     → n ≡ length columns → IsDividedAt by columns n old new
     → AreDivided by (length old) old new
 divided_all by columns old new n lists all made = record {
@@ -135,7 +136,7 @@ divided_by_one old = record {
 
 -- the same columns are those of the numbers that aren't 0
 pub lists_divided : (by : ℤ) (columns : List ℕ) (old new : List ℤ) → ¬ (by ≡ pos 0)
-    → Lists columns old → AreDivided by (length old) old new → Lists columns new
+    → ListsNonzeros columns old → AreDivided by (length old) old new → ListsNonzeros columns new
 lists_divided by columns old new nonzero lists divided = record {
   within = λ k b. subst (λ n. slice_index columns k < n) (sym divided.long) (lists.within k b);
   rising = lists.rising;

@@ -8,8 +8,8 @@ use Rattle.std.proofs.lemmas.List.{get_or-set_other, get_or-set_same, get_or-tak
 use Rattle.rational_laws.specs.Fitting.{size_neg}
 use Rattle.simplex_laws.specs.BoundedSumLaws.{same_or_other}
 use Rattle.whole_rows.specs.Blocks.{AreScaled}
-use Rattle.whole_rows.specs.Listed.{IsLoweredAt, Lists, lowered_once}
-use Rattle.whole_rows.specs.Numerators.{AreLowered, LoweringFits}
+use Rattle.whole_rows.specs.Listed.{IsLoweredAt, ListsNonzeros, lowered_once}
+use Rattle.whole_rows.specs.Numerators.{AreNumeratorsLowered, LoweringFits}
 use Rattle.whole_rows.specs.Over.{lowered_num}
 use Rattle.rational_laws.specs.Whole.{*ℤ_pos_one}
 use Rattle.whole_rows.specs.NarrowFit.{size_sum}
@@ -104,8 +104,8 @@ sought columns j (suc n) = by_last (sought columns j n)
         (λ d. none k (omega (arith, b, d)))))
 
 pub listed_all : (by : ℤ) (columns : List ℕ) (step old new : List ℤ) (n : ℕ)
-    → Lists columns step → length step ≡ length old → n ≡ length columns
-    → IsLoweredAt by columns step n old new → AreLowered 1 by step (length old) old new
+    → ListsNonzeros columns step → length step ≡ length old → n ≡ length columns
+    → IsLoweredAt by columns step n old new → AreNumeratorsLowered 1 by step (length old) old new
 listed_all by columns step old new n lists long all made = record {
   long = made.long;
   lowered = λ j b. by_place j b (sought columns j (length columns));
@@ -273,7 +273,8 @@ noted_next numbers columns used j (suc zero) h b few none one =
 noted_next numbers columns used j (suc (suc count)) h b few none one = absurd (omega (arith, few))
 
 pub noted_all : (numbers : List ℤ) (columns : List ℕ) (used j : ℕ)
-    → IsNotedTo numbers columns used j → j ≡ length numbers → Lists (take used columns) numbers
+    → IsNotedTo numbers columns used j → j ≡ length numbers
+    → ListsNonzeros (take used columns) numbers
 noted_all numbers columns used j h e = record {
   within = λ k b. subst (λ n. n < length numbers) (sym (same k (less k b)))
       (omega (arith, h.within k (less k b), e));
@@ -339,7 +340,7 @@ noted_skip numbers columns used j to h past row_end zeros = record {
 
 -- no column is listed of numbers that are all 0
 pub lists_zeros : (columns : List ℕ) (numbers : List ℤ)
-    → ((j : ℕ) → slice_index_or numbers j (pos 0) ≡ pos 0) → Lists (take 0 columns) numbers
+    → ((j : ℕ) → slice_index_or numbers j (pos 0) ≡ pos 0) → ListsNonzeros (take 0 columns) numbers
 lists_zeros columns numbers h = record {
   within = λ k b. absurd (omega (arith, b));
   rising = λ k l a b. absurd (omega (arith, b));

@@ -7,10 +7,10 @@ use Rattle.std.proofs.lemmas.Bool.{cases_lt}
 use Rattle.std.proofs.lemmas.List.{get_or_default, get_or_past}
 use Rattle.ratio_core.specs.Rational.{reduce}
 use Rattle.whole_rows.specs.declared.narrow_row.NarrowRow.{NarrowRow}
-use Rattle.whole_rows.specs.Blocks.{Covers}
+use Rattle.whole_rows.specs.Blocks.{BlocksCover}
 use Rattle.whole_rows.specs.Listed.{lowered_once}
-use Rattle.whole_rows.specs.Numerators.{AreLowered, AreWithin, LoweringFits, numerator}
-use Rattle.whole_rows.specs.Rows.{CanLower, IsLowered, IsReady, lowered_by, number_of, numerator_of, width_of}
+use Rattle.whole_rows.specs.Numerators.{AreNumeratorsLowered, AreNumeratorsWithin, LoweringFits, numerator}
+use Rattle.whole_rows.specs.Rows.{CanLower, IsNarrowLowered, IsNarrowReady, lowered_by, number_of, numerator_of, width_of}
 use Rattle.whole_rows.proofs.BitLaws.{lowered_size}
 use Rattle.whole_rows.proofs.BlockSteps.{covers_lowered, zero_times}
 use Rattle.whole_rows.proofs.ListedSteps.{lowered_once_is}
@@ -60,12 +60,12 @@ module _ (step row : NarrowRow) (by : ℤ) (can : CanLower step row by) where
 
   module _ (N n N' items : List ℤ) (s u side : ℤ) (N_is : N ≡ row.numbers.items)
       (n_is : n ≡ step.numbers.items) (s_is : s ≡ row.side) (u_is : u ≡ step.side)
-      (lowered : AreLowered 1 by n (length N) N N') (items_are : items ≡ N')
+      (lowered : AreNumeratorsLowered 1 by n (length N) N N') (items_are : items ≡ N')
       (side_is : side ≡ lowered_once s by u) where
-    lowered_items : AreLowered 1 by step.numbers.items (width_of row) row.numbers.items items
+    lowered_items : AreNumeratorsLowered 1 by step.numbers.items (width_of row) row.numbers.items items
     lowered_items =
-        subst (AreLowered 1 by step.numbers.items (width_of row) row.numbers.items) (sym items_are)
-        (subst₂ (λ x y. AreLowered 1 by x (length y) y N') n_is N_is lowered)
+        subst (AreNumeratorsLowered 1 by step.numbers.items (width_of row) row.numbers.items) (sym items_are)
+        (subst₂ (λ x y. AreNumeratorsLowered 1 by x (length y) y N') n_is N_is lowered)
 
     once_numerator : (j : ℕ) → numerator items side j
         ≡ lowered_once (numerator_of row j) by (numerator_of step j)
@@ -89,7 +89,7 @@ module _ (step row : NarrowRow) (by : ℤ) (can : CanLower step row by) where
             (u_is ∙ sym (get_or_past step.numbers.items j step.side
             (subst (λ k. k ≤ j) (sym can.width) h)))
 
-    pub once_within : AreWithin row.bound items side
+    pub once_within : AreNumeratorsWithin row.bound items side
     once_within = record {
       sizes = λ j. at_most_lem (unsigned_abs (numerator items side j)) _
           (unsigned_abs (numerator_of row j))
@@ -99,12 +99,12 @@ module _ (step row : NarrowRow) (by : ℤ) (can : CanLower step row by) where
           (lowered_size (numerator_of row j) 1 by (numerator_of step j)) (can.within j);
     }
 
-    pub once_covers : Covers row.blocks.items items
+    pub once_covers : BlocksCover row.blocks.items items
     once_covers =
-        subst (Covers row.blocks.items) (sym items_are)
+        subst (BlocksCover row.blocks.items) (sym items_are)
         (covers_lowered 1 by row.blocks.items row.blocks.items N n N' (λ b e. e)
-        (subst (Covers row.blocks.items) (sym N_is) row.covers)
-        (subst (Covers row.blocks.items) (sym n_is) can.covers) lowered)
+        (subst (BlocksCover row.blocks.items) (sym N_is) row.covers)
+        (subst (BlocksCover row.blocks.items) (sym n_is) can.covers) lowered)
 
     pub once_lowered : (j : ℕ) → reduce (numerator items side j) row.den ≡ lowered_by step row by j
     once_lowered j = ap (λ z. reduce z row.den) (once_numerator j)
@@ -121,8 +121,8 @@ lowered_none step row by e j =
 
 -- a row that is brought over and then lowered by what is left
 pub ready_lowered : (q : ℕ) (step row middle next : NarrowRow) (by : ℤ)
-    → IsReady q step row middle by → width_of next ≡ width_of middle
-    → ((j : ℕ) → number_of next j ≡ lowered_by step middle by j) → IsLowered q step row next
+    → IsNarrowReady q step row middle by → width_of next ≡ width_of middle
+    → ((j : ℕ) → number_of next j ≡ lowered_by step middle by j) → IsNarrowLowered q step row next
 ready_lowered q step row middle next by ready width lowered = record {
   width = width ∙ ready.width;
   numbers = λ j b. lowered j ∙ ready.numbers j b;

@@ -9,10 +9,10 @@ use Rattle.ratio_core.specs.Gcd.{gcd, part_pos}
 use Rattle.ratio_core.specs.Rational.{reduce}
 use Rattle.whole_rows.specs.declared.narrow_row.NarrowRow.{NarrowRow}
 use Rattle.whole_rows.specs.declared.plan.LoweringPlan.{LoweringPlan}
-use Rattle.whole_rows.specs.Blocks.{AreScaled, Covers}
+use Rattle.whole_rows.specs.Blocks.{AreScaled, BlocksCover}
 use Rattle.whole_rows.specs.Listed.{lowered_once}
-use Rattle.whole_rows.specs.Numerators.{AreWithin, numerator}
-use Rattle.whole_rows.specs.Rows.{IsLowered, IsPlan, IsReady, number_of, numerator_of, width_of}
+use Rattle.whole_rows.specs.Numerators.{AreNumeratorsWithin, numerator}
+use Rattle.whole_rows.specs.Rows.{IsLoweringPlan, IsNarrowLowered, IsNarrowReady, number_of, numerator_of, width_of}
 use Rattle.rational_laws.specs.Over.{over-zero_ℚ}
 use Rattle.tableau_core.specs.LoweringLaws.{lowered-zero, zero-step}
 use Rattle.whole_rows.proofs.RowSteps.{number_over, part_fits, size_int_div}
@@ -30,7 +30,7 @@ at_most_lem y x s o w m i h e =
 sum_lem : (y p w r m n : ℕ) → y ≡ p → p + w ≤ r → r ≡ m → n ≡ m → y + w ≤ n
 sum_lem y p w r m n e h f g = omega (arith, e, h, f, g)
 
-module _ (q : ℕ) (step row : NarrowRow) (plan : LoweringPlan) (planned : IsPlan q step row plan)
+module _ (q : ℕ) (step row : NarrowRow) (plan : LoweringPlan) (planned : IsLoweringPlan q step row plan)
     (long : width_of step ≡ width_of row) where
   room_is : (by : ℤ) → by ≡ plan.by
       → row.bound * plan.over + unsigned_abs by * step.bound ≡ plan.bound
@@ -94,7 +94,7 @@ module _ (q : ℕ) (step row : NarrowRow) (plan : LoweringPlan) (planned : IsPla
         ap unsigned_abs (numerator_scaled j)
         ∙ unsigned_abs-mul (numerator_of row j) (pos plan.over)
 
-    pub scaled_within : AreWithin plan.bound items side
+    pub scaled_within : AreNumeratorsWithin plan.bound items side
     scaled_within = record {
       sizes = λ j. at_most_lem (unsigned_abs (numerator items side j))
           (unsigned_abs (numerator_of row j)) row.bound plan.over
@@ -104,7 +104,8 @@ module _ (q : ℕ) (step row : NarrowRow) (plan : LoweringPlan) (planned : IsPla
 
     pub planned_ready : (next : NarrowRow) (by : ℤ) → next.numbers.items ≡ items
         → next.side ≡ side → next.den ≡ plan.den → next.bound ≡ plan.bound
-        → Covers next.blocks.items step.numbers.items → by ≡ plan.by → IsReady q step row next by
+        → BlocksCover next.blocks.items step.numbers.items → by ≡ plan.by
+        → IsNarrowReady q step row next by
     planned_ready next by next_items next_side next_den next_bound covers by_is = record {
       width = width_lem;
       left = record {
@@ -137,7 +138,7 @@ module _ (q : ℕ) (step row : NarrowRow) (plan : LoweringPlan) (planned : IsPla
 
 -- a row whose number of the column is 0 stays
 pub zero_lowered : (q : ℕ) (step row : NarrowRow) → numerator_of row q ≡ pos 0
-    → IsLowered q step row row
+    → IsNarrowLowered q step row row
 zero_lowered q step row z = record {
   width = refl;
   numbers = λ j b. sym (lowered-zero (number_of row j) (number_of row q) (number_of step j)

@@ -6,13 +6,13 @@ abbrev pub blocks_of : ℕ → ℕ
 blocks_of width = (width + 7) / 8
 
 -- each number is of a marked block, or 0
-pub record Covers (blocks : List Bool) (numbers : List ℤ) : Type 0 where
+pub record BlocksCover (blocks : List Bool) (numbers : List ℤ) : Type 0 where
   pub unmarked : (j : ℕ) → slice_index_or blocks (j / 8) false ≡ false →
       slice_index_or numbers j (pos 0) ≡ pos 0
 
 -- the columns from `from` on below `to` are of blocks that aren't marked
-abbrev pub AreUnmarked : ℕ → ℕ → List Bool → Type 0
-AreUnmarked from to blocks =
+abbrev pub AreColumnsUnmarked : ℕ → ℕ → List Bool → Type 0
+AreColumnsUnmarked from to blocks =
     (j : ℕ) → from ≤ j → j < to → slice_index_or blocks (j / 8) false ≡ false
 
 -- the first n blocks are marked where they were, or where another row has them marked
@@ -28,7 +28,7 @@ KeepsMarks old new =
     (b : ℕ) → slice_index_or new b false ≡ false → slice_index_or old b false ≡ false
 
 -- the blocks of the first n columns are marked, and what was marked stays so
-pub record AreMarked (columns : List ℕ) (n : ℕ) (old new : List Bool) : Type 0 where
+pub record AreBlocksMarked (columns : List ℕ) (n : ℕ) (old new : List Bool) : Type 0 where
   pub long : length new ≡ length old
   pub kept : KeepsMarks old new
   pub marked : (k : ℕ) → k < n → slice_index_or new (slice_index columns k / 8) false ≡ true

@@ -2,7 +2,7 @@
 use Rattle.std.specs.Prelude.{◌≡◌, ℕ, ◌<◌, List, length, slice_index, slice_index_or, ℤ, pos, ◌+ℤ◌, ◌*ℤ◌, neg_ℤ}
 
 -- these are the columns of the numbers that aren't 0, rising
-pub record Lists (columns : List ℕ) (numbers : List ℤ) : Type 0 where
+pub record ListsNonzeros (columns : List ℕ) (numbers : List ℤ) : Type 0 where
   pub within : (k : ℕ) → k < length columns → slice_index columns k < length numbers
   pub rising : (k l : ℕ) → k < l → l < length columns →
       slice_index columns k < slice_index columns l

@@ -10,7 +10,7 @@ abbrev pub numerator : List ℤ → ℤ → ℕ → ℤ
 numerator numbers side j = slice_index_or numbers j side
 
 -- no numerator is larger
-pub record AreWithin (bound : ℕ) (numbers : List ℤ) (side : ℤ) : Type 0 where
+pub record AreNumeratorsWithin (bound : ℕ) (numbers : List ℤ) (side : ℤ) : Type 0 where
   pub sizes : (j : ℕ) → unsigned_abs (numerator numbers side j) ≤ bound
 
 -- what stays of a number's size and of a denominator without their common divisor
@@ -27,7 +27,7 @@ LoweringFits over by step numbers = (j : ℕ) → j < length numbers →
     + unsigned_abs by * unsigned_abs (slice_index_or step j (pos 0)) < 2 ^ 63
 
 -- the first n numbers are lowered, and each other is as it was
-pub record AreLowered (over : ℕ) (by : ℤ) (step : List ℤ) (n : ℕ) (old new : List ℤ) : Type 0 where
+pub record AreNumeratorsLowered (over : ℕ) (by : ℤ) (step : List ℤ) (n : ℕ) (old new : List ℤ) : Type 0 where
   pub long : length new ≡ length old
   pub lowered : (j : ℕ) → j < n →
       slice_index_or new j (pos 0)
@@ -35,7 +35,7 @@ pub record AreLowered (over : ℕ) (by : ℤ) (step : List ℤ) (n : ℕ) (old n
   pub others : (j : ℕ) → n ≤ j → slice_index_or new j (pos 0) ≡ slice_index_or old j (pos 0)
 
 -- the first n numbers are those of f, and each other is as it was
-pub record AreMade (f : ℕ → ℤ) (n : ℕ) (old new : List ℤ) : Type 0 where
+pub record AreNumeratorsMade (f : ℕ → ℤ) (n : ℕ) (old new : List ℤ) : Type 0 where
   pub long : length new ≡ length old
   pub made : (j : ℕ) → j < n → slice_index_or new j (pos 0) ≡ f j
   pub others : (j : ℕ) → n ≤ j → slice_index_or new j (pos 0) ≡ slice_index_or old j (pos 0)

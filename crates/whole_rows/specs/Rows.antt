@@ -6,7 +6,7 @@ use Rattle.whole_rows.specs.declared.narrow_row.NarrowRow.{NarrowRow}
 use Rattle.std.specs.Int.{◌∣◌}
 use Rattle.whole_rows.specs.declared.plan.Division.{Division}
 use Rattle.whole_rows.specs.declared.plan.LoweringPlan.{LoweringPlan}
-use Rattle.whole_rows.specs.Blocks.{Covers}
+use Rattle.whole_rows.specs.Blocks.{BlocksCover}
 use Rattle.whole_rows.specs.Listed.{lowered_once}
 use Rattle.whole_rows.specs.Numerators.{numerator, over_left, size_left}
 
@@ -21,7 +21,7 @@ abbrev pub number_of : NarrowRow → ℕ → Rational
 number_of row j = reduce (numerator_of row j) row.den
 
 -- each number is lowered by a multiple of the step's
-pub record IsLowered (q : ℕ) (step row next : NarrowRow) : Type 0 where
+pub record IsNarrowLowered (q : ℕ) (step row next : NarrowRow) : Type 0 where
   pub width : width_of next ≡ width_of row
   pub numbers : (j : ℕ) → j < width_of row + 1 →
       number_of next j ≡ number_of row j -ℚ number_of row q *ℚ number_of step j
@@ -36,17 +36,17 @@ pub record CanLower (step row : NarrowRow) (by : ℤ) : Type 0 where
   pub width : width_of step ≡ width_of row
   pub within : (j : ℕ) → unsigned_abs (numerator_of row j)
       + unsigned_abs by * unsigned_abs (numerator_of step j) ≤ row.bound
-  pub covers : Covers row.blocks.items step.numbers.items
+  pub covers : BlocksCover row.blocks.items step.numbers.items
 
 -- each number is lowered by a multiple of the step's, but for a multiple of the numerators
-pub record IsReady (q : ℕ) (step row next : NarrowRow) (by : ℤ) : Type 0 where
+pub record IsNarrowReady (q : ℕ) (step row next : NarrowRow) (by : ℤ) : Type 0 where
   pub width : width_of next ≡ width_of row
   pub left : CanLower step next by
   pub numbers : (j : ℕ) → j < width_of row + 1 →
       lowered_by step next by j ≡ number_of row j -ℚ number_of row q *ℚ number_of step j
 
 -- each number is divided by that of column q
-pub record IsDivided (q : ℕ) (row next : NarrowRow) : Type 0 where
+pub record IsNarrowDivided (q : ℕ) (row next : NarrowRow) : Type 0 where
   pub width : width_of next ≡ width_of row
   pub numbers : (j : ℕ) → j < width_of row + 1 →
       number_of next j ≡ number_of row j /ℚ number_of row q
@@ -70,7 +70,7 @@ can_stay q step row =
     nat_lt q (width_of row) && nat_eq (width_of step) (width_of row) && stays_narrow q step row
 
 -- the plan by which the row is lowered and stays narrow
-pub record IsPlan (q : ℕ) (step row : NarrowRow) (plan : LoweringPlan) : Type 0 where
+pub record IsLoweringPlan (q : ℕ) (step row : NarrowRow) (plan : LoweringPlan) : Type 0 where
   pub over : plan.over ≡ over_left (numerator_of row q) step.den
   pub by : plan.by ≡ int_div (numerator_of row q)
       (pos (gcd (unsigned_abs (numerator_of row q)) step.den))

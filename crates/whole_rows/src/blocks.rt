@@ -1,8 +1,8 @@
 //! Blocks of eight columns: a row of many columns has few numbers other than 0, and a block without
 //! a mark isn't read. Eight numbers are as much as a read of memory brings.
 ghost use Rattle.std.specs.Prelude.{◌≡◌, ◌+◌, ◌*◌, ◌/◌, ◌<◌, ◌≤◌, ◌^◌, ℕ, ◌*ℤ◌, false, true, length, pos, slice_index, slice_index_or, unsigned_abs};
-ghost use Rattle.whole_rows.specs.Blocks.{AreMarked, AreScaled, AreScaledIn, AreUnmarked, Covers, Joins, KeepsMarks, blocks_of};
-ghost use Rattle.whole_rows.specs.Listed.{Lists};
+ghost use Rattle.whole_rows.specs.Blocks.{AreBlocksMarked, AreColumnsUnmarked, AreScaled, AreScaledIn, BlocksCover, Joins, KeepsMarks, blocks_of};
+ghost use Rattle.whole_rows.specs.Listed.{ListsNonzeros};
 
 use crate::narrow_row::NarrowRow;
 
@@ -28,7 +28,7 @@ pub(crate) fn next_marked(blocks: &[bool], from: usize, width: usize) -> usize
     requires within { from ≤ width }
     ensures from { from ≤ result }
     ensures within { result ≤ width }
-    ensures unmarked { AreUnmarked from result blocks.now }
+    ensures unmarked { AreColumnsUnmarked from result blocks.now }
 {
     let is_within = from % BLOCK != 0;
     if is_within {
@@ -44,10 +44,10 @@ pub(crate) fn next_marked(blocks: &[bool], from: usize, width: usize) -> usize
 
 // Marks the blocks in which a row with these columns isn't 0: one by one where they are few.
 pub(crate) fn mark_blocks(blocks: &mut [bool], row: &NarrowRow, columns: &[u32])
-    requires lists { Lists columns.now row.now.numbers.items }
+    requires lists { ListsNonzeros columns.now row.now.numbers.items }
     requires long { length row.now.blocks.items ≡ length blocks.old }
     ensures kept { KeepsMarks blocks.old blocks.new }
-    ensures covers { Covers blocks.new row.now.numbers.items }
+    ensures covers { BlocksCover blocks.new row.now.numbers.items }
 {
     let are_few = columns.len() < blocks.len() / 8 + 8;
     if are_few {
@@ -73,7 +73,7 @@ pub(crate) fn remark_blocks(blocks: &mut [bool], columns: &[u32])
 fn mark_columns(blocks: &mut [bool], columns: &[u32])
     requires { (k : ℕ) → k < length columns.now
         → slice_index columns.now k / 8 < length blocks.old }
-    ensures { AreMarked columns.now (length columns.now) blocks.old blocks.new }
+    ensures { AreBlocksMarked columns.now (length columns.now) blocks.old blocks.new }
 {
     for k in 0..columns.len() {
         blocks[columns[k] as usize / BLOCK] = true;
@@ -94,7 +94,7 @@ fn join_blocks(blocks: &mut [bool], others: &[bool])
 // Multiplies the numbers, of which those that aren't 0 stand in marked blocks. Mostly it is by 1.
 #[inline]
 pub(crate) fn scale_numbers(numbers: &mut [i64], blocks: &[bool], over: u64)
-    requires covers { Covers blocks.now numbers.old }
+    requires covers { BlocksCover blocks.now numbers.old }
     requires blocks { length blocks.now ≡ blocks_of (length numbers.old) }
     requires over { over < 2 ^ 63 }
     requires fits { (j : ℕ) → j < length numbers.old
@@ -110,7 +110,7 @@ pub(crate) fn scale_numbers(numbers: &mut [i64], blocks: &[bool], over: u64)
 // The same block by block.
 #[inline(never)]
 fn scale_marked(numbers: &mut [i64], blocks: &[bool], over: i64)
-    requires covers { Covers blocks.now numbers.old }
+    requires covers { BlocksCover blocks.now numbers.old }
     requires blocks { length blocks.now ≡ blocks_of (length numbers.old) }
     requires fits { (j : ℕ) → j < length numbers.old
         → unsigned_abs (slice_index_or numbers.old j (pos 0)) * unsigned_abs over < 2 ^ 63 }

@@ -4,7 +4,7 @@ ghost use Rattle.std.specs.Int.{◌∣◌};
 ghost use Rattle.ratio_core.specs.Gcd.{gcd};
 ghost use Rattle.ratio_core.specs.Rational.{signed};
 ghost use Rattle.std.specs.Int.{is_negative};
-ghost use Rattle.whole_rows.specs.Listed.{Lists};
+ghost use Rattle.whole_rows.specs.Listed.{ListsNonzeros};
 ghost use Rattle.whole_rows.specs.Numerators.{AreDivided, AreSized, DividesAll, IsMeasure};
 
 use crate::arithmetic::common_divisor;
@@ -15,7 +15,7 @@ use crate::plan::Measure;
 pub(crate) fn measured(numbers: &[i64], columns: &[u32], side: i64, size: u64) -> Measure
     requires positive { 0 < size }
     requires side { unsigned_abs side < 2 ^ 63 }
-    requires lists { Lists columns.now numbers.now }
+    requires lists { ListsNonzeros columns.now numbers.now }
     requires small { (j : ℕ) → unsigned_abs (slice_index_or numbers.now j (pos 0)) < 2 ^ 63 }
     ensures { IsMeasure numbers.now (length numbers.now) side size result }
 {
@@ -28,7 +28,7 @@ pub(crate) fn measured(numbers: &[i64], columns: &[u32], side: i64, size: u64) -
 // A size that none of these numerators passes, nor the given one.
 fn greatest_of(numbers: &[i64], columns: &[u32], size: u64) -> u64
     requires size { size < 2 ^ 63 }
-    requires lists { Lists columns.now numbers.now }
+    requires lists { ListsNonzeros columns.now numbers.now }
     requires small { (j : ℕ) → unsigned_abs (slice_index_or numbers.now j (pos 0)) < 2 ^ 63 }
     ensures { AreSized numbers.now (length numbers.now) size result }
 {
@@ -42,7 +42,7 @@ fn greatest_of(numbers: &[i64], columns: &[u32], size: u64) -> u64
 // What divides a size and the numerators. Mostly it is 1 soon.
 fn common_of(numbers: &[i64], columns: &[u32], size: u64) -> u64
     requires above { 0 < size }
-    requires lists { Lists columns.now numbers.now }
+    requires lists { ListsNonzeros columns.now numbers.now }
     ensures { DividesAll numbers.now (length numbers.now) size result }
 {
     let mut common = size;
@@ -109,7 +109,7 @@ pub(crate) fn quotient(a: i64, by: i64) -> i64
 
 // Divides each number, in place. Those that aren't 0 are of the listed columns.
 pub(crate) fn divide_numbers(numbers: &mut [i64], columns: &[u32], by: i64)
-    requires lists { Lists columns.now numbers.old }
+    requires lists { ListsNonzeros columns.now numbers.old }
     requires nonzero { by ≢ pos 0 }
     requires exact { (j : ℕ) → unsigned_abs by ∣ unsigned_abs (slice_index_or numbers.old j (pos 0)) }
     requires small { (j : ℕ) → unsigned_abs (slice_index_or numbers.old j (pos 0)) < 2 ^ 63 }

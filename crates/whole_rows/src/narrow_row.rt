@@ -1,7 +1,7 @@
 //! A row of whole numbers over one denominator, in 64 bits.
 ghost use Rattle.std.specs.Prelude.{◌≡◌, ◌+◌, ◌/◌, ◌<◌, ◌≤◌, ◌^◌, length};
-ghost use Rattle.whole_rows.specs.Blocks.{Covers, blocks_of};
-ghost use Rattle.whole_rows.specs.Numerators.{AreWithin};
+ghost use Rattle.whole_rows.specs.Blocks.{BlocksCover, blocks_of};
+ghost use Rattle.whole_rows.specs.Numerators.{AreNumeratorsWithin};
 
 use crate::arithmetic::{common_divisor, exact, multiplied, next_bound, next_den, part};
 use crate::blocks::{BLOCK, block_count, mark_blocks, next_marked, remark_blocks, scale_numbers};
@@ -32,17 +32,17 @@ pub struct NarrowRow {
     ghost above: { 0 < den },
     ghost small_den: { den < 2 ^ 63 },
     ghost small_bound: { bound < 2 ^ 63 },
-    ghost within: { AreWithin bound numbers.items side },
+    ghost within: { AreNumeratorsWithin bound numbers.items side },
     ghost blocks_long: { length blocks.items ≡ blocks_of (length numbers.items) },
-    ghost covers: { Covers blocks.items numbers.items },
+    ghost covers: { BlocksCover blocks.items numbers.items },
 }
 
 impl NarrowRow {
     ghost use Rattle.std.specs.Prelude.{◌≢◌, ℕ, IsTrue, false, is_some, pos, true, unsigned_abs, IfOk, IfSome};
     ghost use Rattle.ratio_core.specs.Rational.{zero_ℚ};
-    ghost use Rattle.whole_rows.specs.Listed.{Lists};
+    ghost use Rattle.whole_rows.specs.Listed.{ListsNonzeros};
     ghost use Rattle.whole_rows.specs.Shrinking.{IsLongPlan};
-    ghost use Rattle.whole_rows.specs.Rows.{CanLower, IsDivided, IsDivision, IsLowered, IsPlan, IsReady, can_stay, lowered_by, number_of, numerator_of, stays_narrow, width_of};
+    ghost use Rattle.whole_rows.specs.Rows.{CanLower, IsDivision, IsLoweringPlan, IsNarrowDivided, IsNarrowLowered, IsNarrowReady, can_stay, lowered_by, number_of, numerator_of, stays_narrow, width_of};
 
     /// Zeros in this number of columns.
     pub fn zeros(alloc: Global, width: usize) -> Result<NarrowRow, AllocError>
@@ -125,7 +125,7 @@ impl NarrowRow {
     /// numerators and its denominator then don't stay below 2^63, or the two have other columns.
     #[inline(always)]
     pub fn lower(&mut self, step: &NarrowStep, q: usize) -> bool
-        ensures lowered { IsTrue result → IsLowered q step.now.row self.old self.new }
+        ensures lowered { IsTrue result → IsNarrowLowered q step.now.row self.old self.new }
         ensures kept { result ≡ false → self.new ≡ self.old }
         ensures tight { result ≡ false → can_stay q step.now.row self.old ≡ false }
     {
@@ -148,7 +148,7 @@ impl NarrowRow {
     /// have other columns.
     #[inline(always)]
     pub fn ready(&mut self, step: &NarrowStep, q: usize) -> Option<i64>
-        ensures ready { IfSome result (IsReady q step.now.row self.old self.new) }
+        ensures ready { IfSome result (IsNarrowReady q step.now.row self.old self.new) }
         ensures kept { is_some result ≡ false → self.new ≡ self.old }
         ensures tight { is_some result ≡ false → can_stay q step.now.row self.old ≡ false }
     {
@@ -204,7 +204,7 @@ impl NarrowRow {
         requires column { q < width_of self.old }
         requires width { width_of step.now.row ≡ width_of self.old }
         ensures narrow { result ≡ stays_narrow q step.now.row self.old }
-        ensures lowered { IsTrue result → IsLowered q step.now.row self.old self.new }
+        ensures lowered { IsTrue result → IsNarrowLowered q step.now.row self.old self.new }
         ensures kept { result ≡ false → self.new ≡ self.old }
     {
         let Some(by) = self.bring_over(&step.row, &step.columns[..step.used], q) else {
@@ -220,9 +220,9 @@ impl NarrowRow {
     fn bring_over(&mut self, step: &NarrowRow, columns: &[u32], q: usize) -> Option<i64>
         requires column { q < width_of self.old }
         requires width { width_of step.now ≡ width_of self.old }
-        requires lists { Lists columns.now step.now.numbers.items }
+        requires lists { ListsNonzeros columns.now step.now.numbers.items }
         ensures narrow { is_some result ≡ stays_narrow q step.now self.old }
-        ensures ready { IfSome result (IsReady q step.now self.old self.new) }
+        ensures ready { IfSome result (IsNarrowReady q step.now self.old self.new) }
         ensures kept { is_some result ≡ false → self.new ≡ self.old }
     {
         let Some(plan) = self.plan(step, q) else {
@@ -241,8 +241,8 @@ impl NarrowRow {
     fn lower_long(&mut self, step: &NarrowRow, columns: &[u32], q: usize) -> bool
         requires column { q < width_of self.old }
         requires width { width_of step.now ≡ width_of self.old }
-        requires lists { Lists columns.now step.now.numbers.items }
-        ensures lowered { IsTrue result → IsLowered q step.now self.old self.new }
+        requires lists { ListsNonzeros columns.now step.now.numbers.items }
+        ensures lowered { IsTrue result → IsNarrowLowered q step.now self.old self.new }
         ensures kept { result ≡ false → self.new ≡ self.old }
     {
         let Some(plan) = self.long_plan(step, q) else {
@@ -295,7 +295,7 @@ impl NarrowRow {
     fn plan(&self, step: &NarrowRow, q: usize) -> Option<LoweringPlan>
         requires column { q < width_of self.now }
         ensures room { is_some result ≡ stays_narrow q step.now self.now }
-        ensures plan { IfSome result (λ plan. IsPlan q step.now self.now plan) }
+        ensures plan { IfSome result (λ plan. IsLoweringPlan q step.now self.now plan) }
     {
         let entry = self.numbers[q];
         let common = common_divisor(entry.unsigned_abs(), step.den);
@@ -317,9 +317,9 @@ impl NarrowRow {
     pub(crate) fn divide(&mut self, columns: &[u32], q: usize)
         requires column { q < width_of self.old }
         requires nonzero { numerator_of self.old q ≢ pos 0 }
-        requires lists { Lists columns.now self.old.numbers.items }
-        ensures divided { IsDivided q self.old self.new }
-        ensures lists { Lists columns.now self.new.numbers.items }
+        requires lists { ListsNonzeros columns.now self.old.numbers.items }
+        ensures divided { IsNarrowDivided q self.old self.new }
+        ensures lists { ListsNonzeros columns.now self.new.numbers.items }
     {
         let division = self.division(columns, q);
         divide_numbers(&mut self.numbers, columns, division.by);
@@ -333,7 +333,7 @@ impl NarrowRow {
     fn division(&self, columns: &[u32], q: usize) -> Division
         requires column { q < width_of self.now }
         requires nonzero { numerator_of self.now q ≢ pos 0 }
-        requires lists { Lists columns.now self.now.numbers.items }
+        requires lists { ListsNonzeros columns.now self.now.numbers.items }
         ensures { IsDivision q self.now result }
     {
         let entry = self.numbers[q];

@@ -1,6 +1,6 @@
 //! The row that a pivot lowers others by.
 ghost use Rattle.std.specs.Prelude.{◌≡◌, ◌<◌, ◌≤◌, ◌^◌, length, take};
-ghost use Rattle.whole_rows.specs.Listed.{Lists};
+ghost use Rattle.whole_rows.specs.Listed.{ListsNonzeros};
 
 use crate::listed::note_columns;
 use crate::narrow_row::NarrowRow;
@@ -18,7 +18,7 @@ pub struct NarrowStep {
     ghost room: { length columns.items ≡ length row.numbers.items },
     ghost few: { length columns.items < 2 ^ 32 },
     ghost fits: { used ≤ length columns.items },
-    ghost lists: { Lists (take used columns.items) row.numbers.items },
+    ghost lists: { ListsNonzeros (take used columns.items) row.numbers.items },
 }
 
 impl NarrowStep {

@@ -5,7 +5,7 @@ use Rattle.solver_store.specs.declared.answer.LeafAnswer.{LeafAnswer}
 use Rattle.std_form.specs.Answers.{answer_of}
 use Rattle.tree_laws.specs.Certificate.{infeasible_duals, optimal_duals}
 use Rattle.adjoint_core.specs.CanCarry.{CanCarry}
-use Rattle.adjoint_core.specs.CarriedBack.{CarriesBack}
+use Rattle.adjoint_core.specs.CarriedBack.{CarriesAnswerBack}
 use Rattle.adjoint_core.specs.Read.{duals_by, numbers_by}
 use Rattle.adjoint_core.proofs.CarriedOver.{good_if_ok, infeasible_told, optimal_told, unbounded_told}
 use Rattle.adjoint_core.proofs.RowDuals.{rows_carried}
@@ -46,7 +46,7 @@ returns-in-Optimal-clause-carried g c =
     let x = numbers_by places c.in-Optimal.x in
     let y = duals_by places c.in-Optimal.y in
     subst (λ (a : LeafAnswer). (can : CanCarry states places m (answer_of places a))
-    → CarriesBack can.bridging (answer_of places a) r) (sym c.in-Optimal.is)
+    → CarriesAnswerBack can.bridging (answer_of places a) r) (sym c.in-Optimal.is)
     (λ can. optimal_told states places m (optimal x y) can c.objective-valid.ensures.valid y
     can.duals x r c.optimal.ensures)
 
@@ -64,7 +64,7 @@ returns-in-Infeasible-clause-carried g c =
     let r = c.infeasible.result in
     let y = duals_by places c.in-Infeasible.y in
     subst (λ (a : LeafAnswer). (can : CanCarry states places m (answer_of places a))
-    → CarriesBack can.bridging (answer_of places a) r) (sym c.in-Infeasible.is)
+    → CarriesAnswerBack can.bridging (answer_of places a) r) (sym c.in-Infeasible.is)
     (λ can. infeasible_told states places m (infeasible y) can c.objective-valid.ensures.valid y
     can.duals r c.infeasible.ensures)
 
@@ -83,7 +83,7 @@ returns-in-Unbounded-clause-carried g c =
     let x = numbers_by places c.in-Unbounded.x in
     let d = numbers_by places c.in-Unbounded.d in
     subst (λ (a : LeafAnswer). (can : CanCarry states places m (answer_of places a))
-    → CarriesBack can.bridging (answer_of places a) r) (sym c.in-Unbounded.is)
+    → CarriesAnswerBack can.bridging (answer_of places a) r) (sym c.in-Unbounded.is)
     (λ can. unbounded_told states places m (unbounded x d) can c.objective-valid.ensures.valid x d
     r c.unbounded.ensures)
 

@@ -6,7 +6,7 @@ use Rattle.cert_core.specs.Folds.{AddUp, adjoint_parts}
 use Rattle.certificates.specs.Duals.{dual_gap, rows_with}
 use Rattle.dual_laws.specs.Held.{adjoint}
 use Rattle.user_model.specs.declared.row.Row.{Row}
-use Rattle.adjoint_core.specs.CarriedBack.{GapFits, InfeasibleFits, IsUnfitInfeasible, UnfitGap, cancelled, placed}
+use Rattle.adjoint_core.specs.CarriedBack.{GapFits, InfeasibleBackFits, IsUnfitInfeasible, UnfitGap, cancelled, placed}
 use Rattle.adjoint_core.specs.Read.{duals_by}
 use Rattle.adjoint_core.specs.Told.{FirstNot}
 use Rattle.adjoint_core.specs.Walk.{IsUnfitAmong, RowDualFits, row_dual}
@@ -25,7 +25,7 @@ returns-in_err-vars g c =
     let rows = subst (RowsTold states leaf c.in_ok-rows.rows.items) c.rows.ensures.value
     c.in_ok-rows.ensures in
     told_on c.from_residual-in_err-vars.result c.in_err-vars.field-0.0 _
-    (InfeasibleFits m duals Fit Unfit) _ _ _ (IsUnfitInfeasible m duals Fit Unfit)
+    (InfeasibleBackFits m duals Fit Unfit) _ _ _ (IsUnfitInfeasible m duals Fit Unfit)
     c.from_residual-in_err-vars.ensures.1 c.in_err-vars.ensures
     (λ at h. inr (
       rows.0,
@@ -52,7 +52,7 @@ returns-in_err-gap g c =
     let rows_is : c.deref-2.result.now ≡ duals = c.deref-2.ensures.value ∙ rows.1 in
     let vars_is : c.deref-3.result.now ≡ cancelled m duals = c.deref-3.ensures.value ∙ sums.1 in
     told_on c.from_residual-in_err-gap.result c.in_err-gap.field-0.0 _
-    (InfeasibleFits m duals Fit Unfit) _ _ _ (IsUnfitInfeasible m duals Fit Unfit)
+    (InfeasibleBackFits m duals Fit Unfit) _ _ _ (IsUnfitInfeasible m duals Fit Unfit)
     c.from_residual-in_err-gap.ensures.1 c.in_err-gap.ensures
     (λ at h. inr (
       rows.0,

@@ -3,13 +3,13 @@ use Rattle.std.proofs.Common.{◌∙◌, ap, inl, inr, rules, subst}
 use Rattle.ratio_core.specs.Rational.{Rational, one_ℚ, zero_ℚ}
 use Rattle.aff_core.specs.Address.{Address}
 use Rattle.aff_core.specs.Function.{coefficient}
-use Rattle.cert_core.specs.Folds.{AddUp, CostFits, EvaluationFits, ObjectiveFits, adjoint_parts}
+use Rattle.cert_core.specs.Folds.{AddUp, CostFits, EvaluationFits, ObjectiveValueFits, adjoint_parts}
 use Rattle.certificates.specs.Duals.{reduced_cost, rows_with}
 use Rattle.certificates.specs.Points.{objective_function, objective_value, sense_of}
 use Rattle.dual_laws.specs.Held.{adjoint}
 use Rattle.user_model.specs.declared.objective.Objective.{Objective}
 use Rattle.user_model.specs.declared.row.Row.{Row}
-use Rattle.adjoint_core.specs.CarriedBack.{IsUnfitOptimal, OptimalFits, point, reduced}
+use Rattle.adjoint_core.specs.CarriedBack.{IsUnfitOptimal, OptimalBackFits, point, reduced}
 use Rattle.adjoint_core.specs.Read.{duals_by, expression_at, numbers_by}
 use Rattle.adjoint_core.specs.Told.{FirstNot}
 use Rattle.adjoint_core.specs.Walk.{IsUnfitAmong, RowDualFits, row_dual}
@@ -28,7 +28,7 @@ returns-in_err-x g c =
     let Fit = All (RowDualFits states leaf) m.rows in
     let Unfit = IsUnfitAmong states leaf m.rows in
     told_on c.from_residual-in_err-x.result c.in_err-x.field-0.0 _
-    (OptimalFits m duals Fit Unfit f x) _ _ _ (IsUnfitOptimal m duals Fit Unfit f x)
+    (OptimalBackFits m duals Fit Unfit f x) _ _ _ (IsUnfitOptimal m duals Fit Unfit f x)
     c.from_residual-in_err-x.ensures.1 c.in_err-x.ensures
     (λ at h. inl
     (move2 (λ (us : List Address) (p : Address → Rational).
@@ -50,7 +50,7 @@ returns-in_err-vars g c =
     let rows = subst (RowsTold states leaf c.in_ok-rows.rows.items) c.rows.ensures.value
     c.in_ok-rows.ensures in
     told_on c.from_residual-in_err-vars.result c.in_err-vars.field-0.0 _
-    (OptimalFits m duals Fit Unfit f x) _ _ _ (IsUnfitOptimal m duals Fit Unfit f x)
+    (OptimalBackFits m duals Fit Unfit f x) _ _ _ (IsUnfitOptimal m duals Fit Unfit f x)
     c.from_residual-in_err-vars.ensures.1 c.in_err-vars.ensures
     (λ at h. inr (
       here.0,
@@ -90,7 +90,7 @@ returns-in_err-value g c =
     ∙ rows.1) c.objective.ensures.value in
     let point_here : c.in_ok-x.x.items ≡ point m f x = here.1 ∙ point_is m f x in
     told_on c.from_residual-in_err-value.result c.in_err-value.field-0.0 _
-    (OptimalFits m duals Fit Unfit f x) _ _ _ (IsUnfitOptimal m duals Fit Unfit f x)
+    (OptimalBackFits m duals Fit Unfit f x) _ _ _ (IsUnfitOptimal m duals Fit Unfit f x)
     c.from_residual-in_err-value.ensures.1 c.in_err-value.ensures
     (λ at h. inr (
       here.0,
@@ -99,7 +99,7 @@ returns-in_err-value g c =
         inr (
           costs.0,
           (
-            subst (λ (xs : List Rational). ¬ (ObjectiveFits m one_ℚ xs))
+            subst (λ (xs : List Rational). ¬ (ObjectiveValueFits m one_ℚ xs))
                 (c.deref-2.ensures.value ∙ point_here) h.0,
             h.1,
           ),
@@ -134,6 +134,6 @@ returns g c =
     c.in_ok-value.ensures.1 ∙ ap (objective_value m) whole in
     let duals_here : c.in_ok-rows.rows.items ≡ duals = rows.1 in
     let vars : c.in_ok-vars.vars.items ≡ reduced m duals = costs.1 in (
-      (here.0, (rows.0, (costs.0, subst (ObjectiveFits m one_ℚ) whole c.in_ok-value.ensures.0))),
+      (here.0, (rows.0, (costs.0, subst (ObjectiveValueFits m one_ℚ) whole c.in_ok-value.ensures.0))),
       (cc (value, point_here, duals_here, vars)),
     )

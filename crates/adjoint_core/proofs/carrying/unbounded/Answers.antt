@@ -4,7 +4,7 @@ use Rattle.ratio_core.specs.Rational.{Rational, one_ℚ, zero_ℚ}
 use Rattle.aff_core.specs.Address.{Address}
 use Rattle.aff_core.specs.Function.{evaluated}
 use Rattle.cert_core.specs.Folds.{EvaluationFits}
-use Rattle.adjoint_core.specs.CarriedBack.{BothFit, point, ray, users}
+use Rattle.adjoint_core.specs.CarriedBack.{PointAndRayFit, point, ray, users}
 use Rattle.adjoint_core.specs.Read.{expression_at, numbers_by}
 use Rattle.adjoint_core.specs.Told.{FirstNot}
 use Rattle.adjoint_core.proofs.InOrder.{told_on}
@@ -18,7 +18,7 @@ returns-in_err-both c =
     let x = numbers_by c.args.places.now c.args.x.now in
     let d = numbers_by c.args.places.now c.args.d.now in
     told_on c.from_residual-in_err-both.result c.in_err-both.field-0.0 _
-    (All (BothFit m f x d) (users m)) _ _ _ (FirstNot (BothFit m f x d) (λ v. v) (users m))
+    (All (PointAndRayFit m f x d) (users m)) _ _ _ (FirstNot (PointAndRayFit m f x d) (λ v. v) (users m))
     c.from_residual-in_err-both.ensures.1 c.in_err-both.ensures
     (λ at h. move3 (λ (us : List Address) (p q : Address → Rational).
     FirstNot (λ v. EvaluationFits one_ℚ (f v) p × EvaluationFits zero_ℚ (f v) q) (λ v. v) us at)

@@ -2,10 +2,10 @@ use Rattle.std.specs.Prelude.{◌-◌, ◌<◌, ◌≡◌, IfSome, length, map}
 use Rattle.std.proofs.Common.{◌∙◌, ap, arith, get_or, rules, subst, sym}
 use Rattle.map_laws.specs.OptionLaws.{none_of}
 use Rattle.aff_core.specs.Address.{Address}
-use Rattle.bridge_face.specs.State.{IsDualOf, found}
+use Rattle.bridge_face.specs.BridgeState.{IsCarriedBack, found}
 use Rattle.bridge_face.specs.declared.child_rows.ChildRows.{ChildRows}
 use Rattle.adjoint_core.specs.Read.{duals_by}
-use Rattle.adjoint_core.specs.Walk.{DualFits, IsWithin, dual_at, kept_at, places_of}
+use Rattle.adjoint_core.specs.Walk.{DualBelowFits, IsRowWithin, dual_at, kept_at, places_of}
 use Rattle.adjoint_core.proofs.InOrder.{made_end, made_step}
 use Rattle.adjoint_core.proofs.WalkSteps.{back_told, child_refused, child_within, kept_of_rows, leaf_answer, opened, place_count, place_there, some_level, takes_made}
 use Rattle.adjoint_core.proofs.rows.+dual_below.Goals as goal
@@ -63,7 +63,7 @@ dual_below-requires g t c =
     (place_there at keeper.rows i c.loop-n-test.true) in
     let lt : i < length (places_of at keeper.rows) =
     omega (arith, place_count at keeper.rows, c.loop-n-test.true) in
-    let within : IsWithin states leaf (c.args.levels - 1) v =
+    let within : IsRowWithin states leaf (c.args.levels - 1) v =
     child_within states leaf c.args.levels at k.0 (places_of at keeper.rows) o i v here lt in
     let some = some_level states leaf c.args.levels at c.requires in
     search (rules, arith)
@@ -102,7 +102,7 @@ loop-n-preserved g t c =
     (place_there at keeper.rows i c.loop-n-test.true) in
     let lt : i < length (places_of at keeper.rows) =
     omega (arith, place_count at keeper.rows, c.loop-n-test.true) in
-    made_step (DualFits states leaf (c.args.levels - 1)) (λ v. v)
+    made_step (DualBelowFits states leaf (c.args.levels - 1)) (λ v. v)
     (dual_at states leaf (c.args.levels - 1)) (places_of at keeper.rows) i c.loop-n.duals.items
     c.loop-n.invariant v here lt c.in_ok-dual_below.field-0 c.push.new.self.items
     c.in_ok-dual_below.ensures.0 c.in_ok-dual_below.ensures.1 c.in_ok-push.ensures.items
@@ -118,7 +118,7 @@ back-requires g t c =
     c.in-Some.ensures.1 in
     let o = opened states leaf c.args.levels at k.0 keeper.rows c.requires
     (c.in-Some.ensures.0 ∙ k.1) k.2 in
-    let all = made_end (DualFits states leaf (c.args.levels - 1)) (λ v. v)
+    let all = made_end (DualBelowFits states leaf (c.args.levels - 1)) (λ v. v)
     (dual_at states leaf (c.args.levels - 1)) ps c.loop-n.n c.loop-n.duals.items
     c.loop-n.invariant (omega (arith, place_count at keeper.rows, c.loop-n-test.false)) in
     takes_made states leaf c.args.levels at k.0 ps o
@@ -136,9 +136,9 @@ returns g t c =
     c.in-Some.ensures.1 in
     let o = opened states leaf c.args.levels at k.0 keeper.rows c.requires
     (c.in-Some.ensures.0 ∙ k.1) k.2 in
-    let all = made_end (DualFits states leaf (c.args.levels - 1)) (λ v. v)
+    let all = made_end (DualBelowFits states leaf (c.args.levels - 1)) (λ v. v)
     (dual_at states leaf (c.args.levels - 1)) ps c.loop-n.n c.loop-n.duals.items
     c.loop-n.invariant (omega (arith, place_count at keeper.rows, c.loop-n-test.false)) in
     back_told states leaf c.args.levels at k.0 ps o c.back.result c.deref.result.now all.0
     (c.deref.ensures.value ∙ all.1)
-    (subst (λ p. IfSome p (IsDualOf c.back.result c.deref.result.now)) k.1 c.back.ensures)
+    (subst (λ p. IfSome p (IsCarriedBack c.back.result c.deref.result.now)) k.1 c.back.ensures)

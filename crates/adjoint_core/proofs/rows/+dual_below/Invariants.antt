@@ -1,6 +1,6 @@
 use Rattle.std.specs.Prelude.{◌-◌, map}
 use Rattle.adjoint_core.specs.Read.{duals_by}
-use Rattle.adjoint_core.specs.Walk.{DualFits, dual_at, places_of}
+use Rattle.adjoint_core.specs.Walk.{DualBelowFits, dual_at, places_of}
 use Rattle.adjoint_core.proofs.InOrder.{MadeInOrder}
 use Rattle.adjoint_core.proofs.rows.+dual_below.Given as goal
 
@@ -11,5 +11,5 @@ abbrev pub invariant-loop-n : goal.invariant-loop-n
 invariant-loop-n g l =
     let states = map g.B.Bridge.state l.bridges in
     let leaf = duals_by l.places l.y in
-    MadeInOrder (DualFits states leaf (l.levels - 1)) (λ v. v) (dual_at states leaf (l.levels - 1))
+    MadeInOrder (DualBelowFits states leaf (l.levels - 1)) (λ v. v) (dual_at states leaf (l.levels - 1))
     (places_of l.at l.keeper.rows) l.n l.duals.items

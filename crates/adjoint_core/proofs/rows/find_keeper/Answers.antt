@@ -1,7 +1,7 @@
 use Rattle.std.specs.Prelude.{◌+◌, false, IsNone, map}
 use Rattle.std.proofs.Common.{◌∙◌, ap, drop, refl, subst, sym}
 use Rattle.std.proofs.Math.ListN.{drop_of_length-le}
-use Rattle.bridge_face.specs.State.{found}
+use Rattle.bridge_face.specs.BridgeState.{found}
 use Rattle.map_laws.specs.LoopLaws.{next_item}
 use Rattle.adjoint_core.specs.Walk.{kept_at}
 use Rattle.adjoint_core.proofs.WalkSteps.{first_kept, passed_by}

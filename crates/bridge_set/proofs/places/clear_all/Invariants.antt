@@ -1,5 +1,5 @@
 use Rattle.std.proofs.Common.{map}
-use Rattle.bridge_face.specs.State.{all_gone}
+use Rattle.bridge_face.specs.BridgeState.{all_gone}
 use Rattle.map_laws.specs.LoopLaws.{IsPast}
 use Rattle.bridge_set.proofs.places.clear_all.Given as goal
 

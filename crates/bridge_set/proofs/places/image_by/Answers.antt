@@ -1,7 +1,7 @@
 use Rattle.std.proofs.Common.{map, arith, sym, ap, ap₂, subst, refl, ◌∙◌, true≢false}
 use Rattle.std.specs.Prelude.{slice_index_or, slice_set}
 use Rattle.std.specs.List.{list_any}
-use Rattle.bridge_face.specs.State.{tried}
+use Rattle.bridge_face.specs.BridgeState.{tried}
 use Rattle.item_core.specs.Edge.{family_eq, family_of}
 use Rattle.item_core.specs.declared.edge.EdgeEntry.{EdgeEntry}
 use Rattle.item_core.specs.declared.family.Family.{Family}

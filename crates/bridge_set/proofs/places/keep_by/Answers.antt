@@ -2,11 +2,11 @@ use Rattle.std.proofs.Common.{◌≡◌, ◌≤◌, ◌+◌, ◌<◌, length, ma
 use Rattle.std.specs.Prelude.{slice_index_or, slice_set}
 use Rattle.std.specs.List.{list_any}
 use Rattle.std.proofs.lemmas.List.{get_or-map, length-map}
-use Rattle.bridge_face.specs.State.{State, found, given, tried}
+use Rattle.bridge_face.specs.BridgeState.{BridgeState, found, given, tried}
 use Rattle.item_core.specs.Edge.{family_eq, family_of}
 use Rattle.item_core.specs.declared.edge.EdgeEntry.{EdgeEntry}
 use Rattle.item_core.specs.declared.family.Family.{Family}
-use Rattle.bridge_set.specs.Bridges.{IsChangedFor, IsFree, families_of}
+use Rattle.bridge_set.specs.Bridges.{IsAddressFree, IsChangedFor, families_of}
 use Rattle.std.specs.FinMap as finite
 use Rattle.bridge_set.specs.Turns.{turns_of}
 use Rattle.bridge_set.proofs.TurnSteps.{one_turn, turns_changed}
@@ -20,10 +20,10 @@ keep-requires-clause-free g c =
     let bs = c.loop-bridge.bridges in
     let i = c.loop-bridge.bridge-index in
     let d = c.bridge-item.result in
-    let all = subst (λ xs. IsFree c.args.node.item.at (map state xs))
+    let all = subst (λ xs. IsAddressFree c.args.node.item.at (map state xs))
     (sym c.loop-bridge.invariant.0) c.requires.free in
     let inside : i < length bs = omega arith in
-    subst (λ (s : State). found s c.args.node.item.at ≡ None)
+    subst (λ (s : BridgeState). found s c.args.node.item.at ≡ None)
     (get_or-map state bs i d (state d) inside)
     (all i (state d) (omega (arith, inside, length-map bs state)))
 
@@ -85,12 +85,12 @@ returns-then-eq-clause-families g c =
     let before = ap (λ xs. families_of (map state xs)) c.loop-bridge.invariant.0 in
     elim c.match-keep.branch [
       | in-Ok w ↦
-          same_after (λ (s : State). s.family) family (λ s. given s c.args.node) (map state bs)
+          same_after (λ (s : BridgeState). s.family) family (λ s. given s c.args.node) (map state bs)
           (map state (slice_set bs i c.keep.new.self)) (λ s. refl)
           (changed_for state family (λ s. given s c.args.node) bs i (slice_index_or bs i d) d
           c.keep.new.self (omega arith) refl same w.in-Ok.ensures.ok) ∙ before
       | in-Err w ↦
-          same_after (λ (s : State). s.family) family tried (map state bs)
+          same_after (λ (s : BridgeState). s.family) family tried (map state bs)
           (map state (slice_set bs i c.keep.new.self)) (λ s. refl)
           (changed_for state family tried bs i (slice_index_or bs i d) d c.keep.new.self
           (omega arith) refl same w.in-Err.ensures.err) ∙ before

@@ -1,12 +1,12 @@
 use Rattle.std.proofs.Common.{ap, ap₂, sym, ◌∙◌}
-use Rattle.bridge_face.specs.State.{State, found}
+use Rattle.bridge_face.specs.BridgeState.{BridgeState, found}
 use Rattle.bridge_tests.specs.RoundLaws.{gone_found, kept_here}
 use Rattle.bridge_tests.specs.SampleLaws.{here}
 use Rattle.bridge_tests.proofs.round.hold.Goals as goal
 
 pub keep-requires-clause-own : goal.keep-requires-clause-own
 keep-requires-clause-own g c =
-    c.requires.own ∙ sym (ap (λ (s : State). s.family) c.let_go.ensures.state)
+    c.requires.own ∙ sym (ap (λ (s : BridgeState). s.family) c.let_go.ensures.state)
 
 pub keep-requires-clause-free : goal.keep-requires-clause-free
 keep-requires-clause-free g c =

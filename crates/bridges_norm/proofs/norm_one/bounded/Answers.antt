@@ -6,7 +6,7 @@ use Rattle.item_core.specs.Item.{functions_of}
 use Rattle.bridge_face.specs.ComponentLaws.{variables}
 use Rattle.bridge_face.specs.Images.{first_in, function_of_body, rest_of}
 use Rattle.bridges_norm.specs.BothLaws.{others_of}
-use Rattle.bridges_norm.specs.NormOneLaws.{BoundsFit, fits_of, row_of}
+use Rattle.bridges_norm.specs.NormOneLaws.{NormOneRowsFit, fits_of, row_of}
 use Rattle.bridges_norm.proofs.norm_one.bounded.Goals as goal
 
 pub first_function-requires : goal.first_function-requires
@@ -27,7 +27,7 @@ more-requires c =
 pub returns-in_err-rest : goal.returns-in_err-rest
 returns-in_err-rest c =
     passed_on c.from_residual.result c.in_err-rest.field-0.0 _
-    (BoundsFit (function_of_body c.args.body.now) (others_of c.args.body.now)
+    (NormOneRowsFit (function_of_body c.args.body.now) (others_of c.args.body.now)
     (variables c.args.vars.now)) _ _ c.from_residual.ensures.1 c.in_err-rest.ensures
     (λ h. (subst (λ T. T) (sym (fits_of c.args.body.now c.in-AffineVec.set c.in-AffineVec.func
     c.other_functions-others.result.now c.first_function.result.now c.args.vars.now
@@ -37,7 +37,7 @@ returns-in_err-rest c =
 pub returns-in_err-less : goal.returns-in_err-less
 returns-in_err-less c =
     passed_on c.from_residual-in_err-less.result c.in_err-less.field-0.0 _
-    (BoundsFit (function_of_body c.args.body.now) (others_of c.args.body.now)
+    (NormOneRowsFit (function_of_body c.args.body.now) (others_of c.args.body.now)
     (variables c.args.vars.now)) _ _ c.from_residual-in_err-less.ensures.1 c.in_err-less.ensures
     (λ h. (subst (λ T. T) (sym (fits_of c.args.body.now c.in-AffineVec.set c.in-AffineVec.func
     c.other_functions-others.result.now c.first_function.result.now c.args.vars.now
@@ -47,7 +47,7 @@ returns-in_err-less c =
 pub returns-in_err-both : goal.returns-in_err-both
 returns-in_err-both c =
     passed_on c.from_residual-in_err-both.result c.in_err-both.field-0.0 _
-    (BoundsFit (function_of_body c.args.body.now) (others_of c.args.body.now)
+    (NormOneRowsFit (function_of_body c.args.body.now) (others_of c.args.body.now)
     (variables c.args.vars.now)) _ _ c.from_residual-in_err-both.ensures.1 c.in_err-both.ensures
     (λ h. (subst (λ T. T) (sym (fits_of c.args.body.now c.in-AffineVec.set c.in-AffineVec.func
     c.other_functions-others.result.now c.first_function.result.now c.args.vars.now

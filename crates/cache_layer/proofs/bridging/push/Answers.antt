@@ -1,7 +1,7 @@
 use Rattle.std.proofs.Common.{Err, Ok, subst, sym}
 use Rattle.lazy_bridge.specs.Pushed.{IsBridgedBy}
 use Rattle.local_laws.specs.Unlisted.{LeadBackTo}
-use Rattle.small_numbers.specs.SmallNumbers.{HasSmallNumbers}
+use Rattle.small_number_laws.specs.SmallNumbers.{HasSmallNumbers}
 use Rattle.user_model.specs.Model.{ModelValue}
 use Rattle.user_model.specs.Valid.{IsValid}
 use Rattle.cache_layer.proofs.Editing.{fault_of, never_told, told_as}

@@ -1,6 +1,6 @@
 use Rattle.std.proofs.Common.{refl, subst, sym}
 use Rattle.std.specs.Prelude.{Err}
-use Rattle.small_numbers.specs.SmallNumbers.{HasSmallNumbers}
+use Rattle.small_number_laws.specs.SmallNumbers.{HasSmallNumbers}
 use Rattle.local_laws.specs.Unlisted.{LeadBackTo}
 use Rattle.cache_layer.proofs.Editing.{edit_answer, edit_bridged, never_given, step_answer}
 use Rattle.cache_layer.proofs.FewSteps.{edit_few}

@@ -4,7 +4,7 @@ use Rattle.std.proofs.Common.{◌∙◌, ap, subst, sym, true≢false}
 use Rattle.user_model.specs.declared.undo.NextNumbers.{NextNumbers}
 use Rattle.certificates.specs.declared.certificate.Certificate.TheVariants.{Optimal, Infeasible, Unbounded}
 use Rattle.certificates.specs.Good.{IsInfeasible, IsOptimal, IsUnbounded}
-use Rattle.cert_core.specs.Answers.{TellsWhere}
+use Rattle.cert_core.specs.Answers.{TellsWhereFits}
 use Rattle.cert_core.specs.Checked.{Checks, HasEntries, HasRowDuals, model_of}
 use Rattle.cert_core.specs.Folds.{InfeasibleFits, OptimalFits, UnboundedFits}
 use Rattle.cert_core.proofs.Assembled.{ready, variable_count}
@@ -67,7 +67,7 @@ returns-in-Optimal c = λ next.
     (checks_told model r
     (Optimal c.in-Optimal.value c.in-Optimal.x c.in-Optimal.rows c.in-Optimal.vars)
     (subst (HasEntries model) c.in-Optimal.is entries)
-    (transport (λ i. TellsWhere r (OptimalFits model (x i) (ys i) (vs i))
+    (transport (λ i. TellsWhereFits r (OptimalFits model (x i) (ys i) (vs i))
     (IsOptimal model c.in-Optimal.value (x i) (ys i) (vs i))) (c.is_optimal.ensures next)))
 
 pub is_infeasible-requires-clause-ready : goal.is_infeasible-requires-clause-ready
@@ -100,7 +100,7 @@ returns-in-Infeasible c = λ next.
     subst (Checks model r) (sym c.in-Infeasible.is)
     (checks_told model r (Infeasible c.in-Infeasible.gap c.in-Infeasible.rows c.in-Infeasible.vars)
     (subst (HasEntries model) c.in-Infeasible.is entries)
-    (transport (λ i. TellsWhere r (InfeasibleFits model (ys i) (vs i))
+    (transport (λ i. TellsWhereFits r (InfeasibleFits model (ys i) (vs i))
     (IsInfeasible model c.in-Infeasible.gap (ys i) (vs i))) (c.is_infeasible.ensures next)))
 
 pub is_unbounded-requires-clause-ready : goal.is_unbounded-requires-clause-ready
@@ -134,5 +134,5 @@ returns c = λ next.
     subst (Checks model r) (sym c.in-Unbounded.is)
     (checks_told model r (Unbounded c.in-Unbounded.x c.in-Unbounded.d)
     (subst (HasEntries model) c.in-Unbounded.is entries)
-    (transport (λ i. TellsWhere r (UnboundedFits model (x i) (d i)) (IsUnbounded model (x i) (d i)))
+    (transport (λ i. TellsWhereFits r (UnboundedFits model (x i) (d i)) (IsUnbounded model (x i) (d i)))
     (c.is_unbounded.ensures next)))

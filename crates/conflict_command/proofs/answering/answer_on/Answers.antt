@@ -1,7 +1,7 @@
 use Rattle.std.proofs.Common.{◌+◌, ◌≤◌, ap, length, subst, sym}
 use Rattle.std.specs.Prelude as prelude
 use Rattle.cache_layer.specs.Cached.{state_of}
-use Rattle.cache_layer.specs.State.{State}
+use Rattle.cache_layer.specs.CacheState.{CacheState}
 use Rattle.conflict_command.proofs.Told.{says_on}
 use Rattle.conflict_command.proofs.answering.answer_on.Goals as goal
 use Rattle.model_command.specs.Alone.{standard_by}
@@ -9,8 +9,8 @@ use Rattle.user_model.specs.Limits.{LAST_NUMBER}
 
 pub sought-requires : goal.sought-requires
 sought-requires g c = record {
-  detached = ap (λ (s : State). s.attached) c.cache_of-cache.ensures;
-  room = subst (λ (s : State). s.model.next.row + length s.model.rows ≤ LAST_NUMBER + 1)
+  detached = ap (λ (s : CacheState). s.attached) c.cache_of-cache.ensures;
+  room = subst (λ (s : CacheState). s.model.next.row + length s.model.rows ≤ LAST_NUMBER + 1)
       (sym c.cache_of-cache.ensures) c.requires.room;
 }
 

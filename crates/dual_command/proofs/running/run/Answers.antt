@@ -3,9 +3,9 @@ use Rattle.std.specs.Prelude as prelude
 use Rattle.command_run.specs.RanLaws.{no_file, no_memory, ran_on_file}
 use Rattle.command_run.specs.Run.{seen}
 use Rattle.dual_command.proofs.running.run.Goals as goal
-use Rattle.dual_command.specs.Says.{Says}
+use Rattle.dual_command.specs.Says.{SaysOfDual}
 use Rattle.dual_command.specs.SaysLaws.{says_plain}
-use Rattle.dual_command.specs.declared.command.Command.{Command}
+use Rattle.dual_command.specs.declared.command.DualCommand.{DualCommand}
 use Rattle.file_command.specs.RunLaws.{never_usage}
 use Rattle.io_face.specs.Told.{told_by}
 use Rattle.model_command.specs.Alone.{standard_by}
@@ -18,7 +18,7 @@ returns-in-Ok-Some-clause-runs g c =
     (g.O.Sink.written c.args.output.now) (g.O.Sink.faults c.args.output.now) in
     let new = seen (g.H.Shelf.asked c.answer.new.shelf) (g.H.Shelf.faults c.answer.new.shelf)
     (g.O.Sink.written c.end_with.new.output) (g.O.Sink.faults c.end_with.new.output) in
-    ran_on_file (λ (said : Command). said.file) (λ said. Says setting said.task) told _
+    ran_on_file (λ (said : DualCommand). said.file) (λ said. SaysOfDual setting said.task) told _
     c.in-Ok-Some.command (sym c.in-Ok-Some.ensures.said ∙ c.in-Ok-Some.field-0-is) c.answer.result
     old new c.end_with.result
     (record {
@@ -42,7 +42,7 @@ returns-in-Ok-None-clause-runs g c =
     let told = told_by (g.H.Shelf.files c.args.shelf.now) (g.H.Shelf.sure c.args.shelf.now) in
     let old = seen (g.H.Shelf.asked c.args.shelf.now) (g.H.Shelf.faults c.args.shelf.now)
     (g.O.Sink.written c.args.output.now) (g.O.Sink.faults c.args.output.now) in
-    no_file (λ (said : Command). said.file) (λ said. Says setting said.task) told _
+    no_file (λ (said : DualCommand). said.file) (λ said. SaysOfDual setting said.task) told _
     (sym c.in-Ok-None.ensures.said ∙ c.in-Ok-None.field-0-is) old
 
 pub returns-in-Err-clause-runs : goal.returns-in-Err-clause-runs
@@ -51,5 +51,5 @@ returns-in-Err-clause-runs g c =
     let told = told_by (g.H.Shelf.files c.args.shelf.now) (g.H.Shelf.sure c.args.shelf.now) in
     let old = seen (g.H.Shelf.asked c.args.shelf.now) (g.H.Shelf.faults c.args.shelf.now)
     (g.O.Sink.written c.args.output.now) (g.O.Sink.faults c.args.output.now) in
-    no_memory (λ (said : Command). said.file) (λ said. Says setting said.task) told _
+    no_memory (λ (said : DualCommand). said.file) (λ said. SaysOfDual setting said.task) told _
     c.in-Err.ensures.of_one old

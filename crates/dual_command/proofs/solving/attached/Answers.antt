@@ -1,11 +1,11 @@
 use Rattle.std.proofs.Common.{ap, ◌∙◌}
 use Rattle.cache_layer.specs.Cached.{state_of}
-use Rattle.cache_layer.specs.State.{State}
+use Rattle.cache_layer.specs.CacheState.{CacheState}
 use Rattle.dual_command.proofs.Told.{says_attached, says_unattached}
 use Rattle.dual_command.proofs.solving.attached.Goals as goal
 
 pub optimized-requires : goal.optimized-requires
-optimized-requires g c = ap (λ (s : State). s.model) c.in-Ok.ensures.answer.2 ∙ c.requires
+optimized-requires g c = ap (λ (s : CacheState). s.model) c.in-Ok.ensures.answer.2 ∙ c.requires
 
 pub returns-in-Ok : goal.returns-in-Ok
 returns-in-Ok g c =

@@ -3,12 +3,12 @@ use Rattle.cache_layer.specs.Cached.{state_of}
 use Rattle.certificates.specs.Good.{Good}
 use Rattle.dual_command.proofs.Told.{says_given, says_not_given}
 use Rattle.dual_command.proofs.solving.optimized.Goals as goal
-use Rattle.model_store.specs.Store.{Stored}
+use Rattle.model_store.specs.Store.{StoredModel}
 use Rattle.user_model.specs.Valid.{IsValid}
 
 pub told-requires-clause-valid : goal.told-requires-clause-valid
 told-requires-clause-valid g c =
-    subst IsValid (ap (λ (s : Stored). s.model) c.model.ensures.value ∙ c.requires)
+    subst IsValid (ap (λ (s : StoredModel). s.model) c.model.ensures.value ∙ c.requires)
     c.rows-valid.ensures.valid
 
 pub told-requires-clause-good : goal.told-requires-clause-good

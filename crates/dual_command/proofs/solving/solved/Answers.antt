@@ -1,14 +1,14 @@
 use Rattle.std.proofs.Common.{ap, ◌∙◌}
 use Rattle.std.specs.Prelude as prelude
 use Rattle.cache_layer.specs.Cached.{state_of}
-use Rattle.cache_layer.specs.State.{State}
+use Rattle.cache_layer.specs.CacheState.{CacheState}
 use Rattle.dual_command.proofs.Told.{says_alone}
 use Rattle.dual_command.proofs.solving.solved.Goals as goal
 use Rattle.model_command.specs.Alone.{standard_by}
 
 pub attached-requires : goal.attached-requires
 attached-requires g c =
-    ap (λ (s : State). s.model) c.cache_of-cache.ensures ∙ c.requires.dual
+    ap (λ (s : CacheState). s.model) c.cache_of-cache.ensures ∙ c.requires.dual
 
 pub returns : goal.returns
 returns g c =

@@ -4,7 +4,7 @@ use Rattle.std.proofs.Common.{sym}
 use Rattle.certificates.specs.Good.{Good}
 use Rattle.dual_command.proofs.Told.{point_size, says_none, says_unbounded}
 use Rattle.dual_command.proofs.solving.told.Goals as goal
-use Rattle.dual_command.specs.Says.{SaysCertificate}
+use Rattle.dual_command.specs.Says.{SaysDualCertificate}
 use Rattle.dual_model.specs.DualOf.{dual_of_model}
 use Rattle.dual_model.specs.Solved.{best_duals, no_duals}
 
@@ -21,7 +21,7 @@ carried-requires-clause-best c =
 
 pub returns-in-Optimal : goal.returns-in-Optimal
 returns-in-Optimal c =
-    subst (λ d. IfOk c.carried.result (SaysCertificate c.args.model.now.model d))
+    subst (λ d. IfOk c.carried.result (SaysDualCertificate c.args.model.now.model d))
     (sym c.in-Optimal.is) c.carried.ensures
 
 pub returns-in-Infeasible : goal.returns-in-Infeasible

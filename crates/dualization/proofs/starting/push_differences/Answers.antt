@@ -3,7 +3,7 @@ use Rattle.std.proofs.Common.{arith}
 use Rattle.std.specs.Prelude.{refl}
 use Rattle.ratio_core.specs.AnsweredLaws.{overflowed}
 use Rattle.rational_laws.specs.Dot.{minus}
-use Rattle.dualization.specs.Fitting.{DifferencesFit}
+use Rattle.dualization.specs.Fitting.{EachDifferenceFits}
 use Rattle.dualization.proofs.PlaceLemmas.{difference_made, difference_unfit, differences_all, differences_none, reached}
 use Rattle.dualization.proofs.starting.push_differences.Goals as goal
 
@@ -20,7 +20,7 @@ loop-i-preserved c =
 
 pub returns-in_err-difference : goal.returns-in_err-difference
 returns-in_err-difference c =
-    overflowed c.from_residual.result _ (DifferencesFit c.args.first.now c.args.second.now)
+    overflowed c.from_residual.result _ (EachDifferenceFits c.args.first.now c.args.second.now)
     (λ _. c.loop-i.parts.items ≡ c.args.parts.now.items ++ minus c.args.first.now c.args.second.now)
     c.from_residual.ensures.1 refl
     (difference_unfit c.args.first.now c.args.second.now c.loop-i.i c.args.parts.now.items

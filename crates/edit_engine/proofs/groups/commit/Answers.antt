@@ -1,5 +1,5 @@
 use Rattle.std.proofs.Common.{List, subst}
-use Rattle.cache_layer.specs.Answers.{IsGrouped}
+use Rattle.cache_layer.specs.Answers.{IsGroupAnswer}
 use Rattle.cache_layer.specs.Cached.{state_of}
 use Rattle.edit_engine.specs.Script.{group_answer}
 use Rattle.edit_engine.proofs.FewTold.{group_told}
@@ -11,9 +11,9 @@ use Rattle.user_model.specs.declared.edit.Edit.{Edit}
 pub returns-clause-step : goal.returns-clause-step
 returns-clause-step g c =
     let old = state_of c.args.cache.now in
-    told group_answer (IsGrouped old c.args.edits.now) old (state_of c.group-made.new.self)
+    told group_answer (IsGroupAnswer old c.args.edits.now) old (state_of c.group-made.new.self)
     c.group-made.result c.tell.result
-    (subst (λ (es : List Edit). IsGrouped old es c.group-made.result
+    (subst (λ (es : List Edit). IsGroupAnswer old es c.group-made.result
     (state_of c.group-made.new.self)) c.as_slice.ensures c.group-made.ensures.answer)
     c.tell.ensures
 

@@ -1,7 +1,7 @@
 use Rattle.std.proofs.Common.{subst, sym}
 use Rattle.std.specs.Prelude.{OnOk}
 use Rattle.cache_layer.specs.Cached.{state_of}
-use Rattle.cache_layer.specs.State.{with_table}
+use Rattle.cache_layer.specs.CacheState.{with_table}
 use Rattle.lazy_bridge.specs.Few.{ChangesFew}
 use Rattle.edit_engine.proofs.FewTold.{preset_few}
 use Rattle.edit_engine.proofs.lines.preset.Goals as goal

@@ -1,6 +1,6 @@
 use Rattle.cache_layer.specs.Answers.{Becomes}
 use Rattle.cache_layer.specs.Cached.{state_of}
-use Rattle.cache_layer.specs.State.{with_table}
+use Rattle.cache_layer.specs.CacheState.{with_table}
 use Rattle.edit_engine.specs.Script.{edit_answer}
 use Rattle.edit_engine.proofs.Steps.{told}
 use Rattle.edit_engine.proofs.Untouched.{edit_untouched}

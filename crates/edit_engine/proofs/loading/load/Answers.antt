@@ -1,6 +1,6 @@
 -- For which files the shelf is asked.
 use Rattle.std.proofs.Common.{ap, refl, sym, ◌∙◌}
-use Rattle.model_store.specs.Store.{Stored}
+use Rattle.model_store.specs.Store.{StoredModel}
 use Rattle.edit_engine.proofs.Asking.{asks_attached, asks_bare, asks_full}
 use Rattle.file_answers.specs.AskingLaws.{on_fault, on_ok}
 use Rattle.edit_engine.specs.Bare.{is_bare}
@@ -19,7 +19,7 @@ returns-then-not-is_bare-clause-asks g c =
     on_ok c.refuse-then-not-is_bare.result _
     (asks_full (g.H.Shelf.asked c.args.shelf.now) c.args.cache.now.attached
     (is_bare c.args.cache.now.user.model) c.args.name.now
-    (sym (ap (λ (u : Stored). is_bare u.model) c.model.ensures.value) ∙ sym c.is_bare.ensures
+    (sym (ap (λ (u : StoredModel). is_bare u.model) c.model.ensures.value) ∙ sym c.is_bare.ensures
     ∙ c.if-not-is_bare.true))
 
 pub returns-in-Ok-clause-asks : goal.returns-in-Ok-clause-asks
@@ -28,7 +28,7 @@ returns-in-Ok-clause-asks g c =
     (asks_bare (g.H.Shelf.asked c.args.shelf.now) (g.H.Shelf.asked c.fetch_edits.new.shelf)
     c.args.cache.now.attached (is_bare c.args.cache.now.user.model) c.args.name.now
     (sym c.attached.ensures.value ∙ c.if-attached.false)
-    (sym (ap (λ (u : Stored). is_bare u.model) c.model.ensures.value) ∙ sym c.is_bare.ensures
+    (sym (ap (λ (u : StoredModel). is_bare u.model) c.model.ensures.value) ∙ sym c.is_bare.ensures
     ∙ c.if-not-is_bare.false)
     (c.fetch_edits.ensures.asks (λ e. cc (c.in-Ok.is, e))))
 
@@ -38,7 +38,7 @@ returns-in-Err-clause-asks g c =
     (λ other. asks_bare (g.H.Shelf.asked c.args.shelf.now) (g.H.Shelf.asked c.fetch_edits.new.shelf)
     c.args.cache.now.attached (is_bare c.args.cache.now.user.model) c.args.name.now
     (sym c.attached.ensures.value ∙ c.if-attached.false)
-    (sym (ap (λ (u : Stored). is_bare u.model) c.model.ensures.value) ∙ sym c.is_bare.ensures
+    (sym (ap (λ (u : StoredModel). is_bare u.model) c.model.ensures.value) ∙ sym c.is_bare.ensures
     ∙ c.if-not-is_bare.false)
     (c.fetch_edits.ensures.asks (λ e. other (cc (c.in-Err.is, e)))))
 

@@ -2,7 +2,7 @@ use Rattle.std.proofs.Common.{subst}
 use Rattle.io_face.specs.Told.{told_by}
 use Rattle.file_command.proofs.Loaded.{loads_fault, loads_made, never_read}
 use Rattle.file_command.proofs.loading.model_of.Goals as goal
-use Rattle.file_command.specs.Loading.{Makes}
+use Rattle.file_command.specs.Loading.{MakesStored}
 use Rattle.model_load.specs.Loads.{after_edits}
 use Rattle.user_model.specs.Model.{empty_model}
 
@@ -10,7 +10,7 @@ pub returns-in-Ok-clause-loads : goal.returns-in-Ok-clause-loads
 returns-in-Ok-clause-loads g c =
     loads_made (told_by (g.H.Shelf.files c.args.shelf.now) (g.H.Shelf.sure c.args.shelf.now))
     c.args.name.now c.in-Ok.edits c.model_by.result c.in-Ok.ensures.read
-    (subst (λ es. Makes (after_edits empty_model es) c.model_by.result) c.into_vec.ensures
+    (subst (λ es. MakesStored (after_edits empty_model es) c.model_by.result) c.into_vec.ensures
     c.model_by.ensures)
 
 pub returns-in-Ok-clause-cause : goal.returns-in-Ok-clause-cause

@@ -2,7 +2,7 @@ use Rattle.std.proofs.Common.{map, subst}
 use Rattle.std.specs.Option.{option_copied}
 use Rattle.fresh_bridging.specs.ModelImage.{group_item}
 use Rattle.model_bridging.specs.Kinds.{first_missing}
-use Rattle.model_bridging.specs.Outcome.{KindsOutcome}
+use Rattle.model_bridging.specs.PlanOutcome.{KindsOutcome}
 use Rattle.found_plan.proofs.MarkSteps.{same_kinds}
 use Rattle.found_plan.proofs.kinds.check_found.Goals as goal
 

@@ -2,7 +2,7 @@ use Rattle.std.proofs.Common.{◌≡◌, ap, subst, sym, ◌∙◌}
 use Rattle.std.specs.Prelude.{All}
 use Rattle.std.specs.FinMap as finite
 use Rattle.bridge_set.specs.Bridges.{families_of}
-use Rattle.bridge_face.specs.State.{State}
+use Rattle.bridge_face.specs.BridgeState.{BridgeState}
 use Rattle.bridge_set.specs.Sound.{families_stay}
 use Rattle.solver_store.specs.SolverModel.{Leaves}
 use Rattle.lazy_bridge.proofs.Empty.{its_calls, names_none, none_kept}
@@ -10,7 +10,7 @@ use Rattle.lazy_bridge.proofs.change.let_all_go.Goals as goal
 
 pub returns-clause-empty : goal.returns-clause-empty
 returns-clause-empty g c =
-    subst (All (λ (s : State). s.kept ≡ finite.empty)) (sym c.clear.ensures.states)
+    subst (All (λ (s : BridgeState). s.kept ≡ finite.empty)) (sym c.clear.ensures.states)
     (none_kept c.args.bridges.now.states)
 
 pub returns-clause-families : goal.returns-clause-families

@@ -3,7 +3,7 @@ use Rattle.std.proofs.lemmas.List.{drop_all}
 use Rattle.aff_core.specs.Address.{Address, address_eq}
 use Rattle.map_laws.specs.LoopLaws.{next_item}
 use Rattle.user_model.specs.Functions.{func_mentions}
-use Rattle.lazy_bridge.specs.Mentioned.{Notes, row_names}
+use Rattle.lazy_bridge.specs.Mentioned.{NotesPairs, row_names}
 use Rattle.lazy_bridge.proofs.Noting.{noting_done, noting_more}
 use Rattle.lazy_bridge.proofs.mentions.note_found.Goals as goal
 
@@ -18,7 +18,7 @@ loop-row-preserved c =
           row.now c.args.map.now.noted l.map.noted c.note_func.new.map.noted l.invariant.0
           (ap (map (λ r. r.now)) (next_item all all l.row-index row (λ i. all) c.row-item.is
           c.loop-row-test.true))
-          (subst (λ (a : Address). Notes (λ v at. address_eq at a
+          (subst (λ (a : Address). NotesPairs (λ v at. address_eq at a
           && func_mentions v row.now.func) c.args.noted l.map.noted c.note_func.new.map.noted)
           c.root.ensures c.in_ok-note_func.ensures.noted),
       noted.vars ∙ l.invariant.1,

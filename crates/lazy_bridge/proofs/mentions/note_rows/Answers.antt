@@ -1,7 +1,7 @@
 use Rattle.std.proofs.Common.{◌&&◌, ◌∙◌, subst, true}
 use Rattle.aff_core.specs.Address.{Address, address_eq}
 use Rattle.user_model.specs.Functions.{func_mentions}
-use Rattle.lazy_bridge.specs.Mentioned.{Notes, row_names}
+use Rattle.lazy_bridge.specs.Mentioned.{NotesPairs, row_names}
 use Rattle.lazy_bridge.proofs.Noting.{noting_done, noting_more}
 use Rattle.lazy_bridge.proofs.mentions.note_rows.Goals as goal
 
@@ -12,7 +12,7 @@ loop-row-preserved c =
       noting_more row_names true c.args.rows.now.items l.row-iterator c.next.new.self c.in-Some.row.now
           c.args.map.now.noted l.map.noted c.note_func.new.map.noted l.invariant.0
           c.in-Some.ensures.steps
-          (subst (λ (a : Address). Notes (λ v at. address_eq at a
+          (subst (λ (a : Address). NotesPairs (λ v at. address_eq at a
           && func_mentions v c.in-Some.row.now.func) true l.map.noted c.note_func.new.map.noted)
           c.root.ensures c.in_ok-note_func.ensures.noted),
       noted.vars ∙ l.invariant.1,

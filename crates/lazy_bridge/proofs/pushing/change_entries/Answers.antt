@@ -1,7 +1,7 @@
 use Rattle.std.proofs.Common.{None, Some, false, map, subst, ◌∙◌}
 use Rattle.fresh_bridging.specs.Entries.{expression_in, function_in, is_kept}
 use Rattle.lazy_bridge.specs.Expressed.{SetsAt, expr_at, is_marked}
-use Rattle.lazy_bridge.specs.Mentioned.{Notes, contents_name}
+use Rattle.lazy_bridge.specs.Mentioned.{NotesPairs, contents_name}
 use Rattle.lazy_bridge.proofs.Mapping.{mapped_alike, mapped_anew}
 use Rattle.lazy_bridge.proofs.Noting.{noted_if}
 use Rattle.touched_items.specs.Differences.{variables_in}
@@ -50,7 +50,7 @@ returns-clause-anew c =
     (is_marked c.express_groups.new.map)) c.deref-2.ensures.value
     c.in_ok-express_groups.ensures.marks)
     (noted.exprs ∙ unnoted.exprs) (noted.kept ∙ unnoted.kept)
-    (subst (λ n. Notes (contents_name d.before) false n c.note_contents.new.map.noted)
+    (subst (λ n. NotesPairs (contents_name d.before) false n c.note_contents.new.map.noted)
     (c.express_groups.ensures.noted ∙ c.forget_groups.ensures.noted)
     c.in_ok-note_contents.ensures.noted) h)
     c.note_contents-2.ensures.noted

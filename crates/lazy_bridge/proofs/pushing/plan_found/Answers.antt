@@ -3,8 +3,8 @@ use Rattle.std.specs.Prelude.{All}
 use Rattle.std.specs.Option.{option_copied}
 use Rattle.item_core.specs.Kind.{kind_count}
 use Rattle.bridge_set.specs.Bridges.{means_of}
-use Rattle.bridge_plan.specs.Adds.{Adds}
-use Rattle.bridge_plan.specs.Worked.{IsWithin, worked, worked_in}
+use Rattle.bridge_plan.specs.AddsHeld.{AddsHeld}
+use Rattle.bridge_plan.specs.Worked.{IsItemWithinLevels, worked, worked_in}
 use Rattle.fresh_bridging.specs.Entries.{put_in}
 use Rattle.lazy_bridge.proofs.Planning.{all_planned, handed_found, kinds_outcome_seen, no_kind_seen, others_can, others_overflow, others_refused, others_unfit_seen}
 use Rattle.lazy_bridge.specs.Steps.{changing_variables}
@@ -33,7 +33,7 @@ returns-in_err-check_found-clause-made g c = λ e of groups.
 pub plan_found_others-requires : goal.plan_found_others-requires
 plan_found_others-requires g c =
     let found = c.in_ok-found.found in
-    subst (λ rs. All (λ item. IsWithin (means_of c.args.bridges.now).choice kind_count
+    subst (λ rs. All (λ item. IsItemWithinLevels (means_of c.args.bridges.now).choice kind_count
     (put_in c.in_ok-further.further item))
     (found_others (map (λ r. r.now) rs) (option_copied found.objective)))
     (sym c.deref-3.ensures.value)
@@ -90,7 +90,7 @@ returns-clause-made g c = λ e of groups.
     (subst (λ rs. unfit_put (means_of c.args.bridges.now).choice kind_count c.in_ok-further.further
     (found_others (map (λ r. r.now) rs) (option_copied found.objective)) ≡ None)
     c.deref-3.ensures.value c.in_ok-plan_found_others.ensures.answer.0)
-    (subst (λ rs. Adds c.args.plan.now c.plan_found_others.new.plan [] []
+    (subst (λ rs. AddsHeld c.args.plan.now c.plan_found_others.new.plan [] []
     (worked_in (means_of c.args.bridges.now).choice (worked (means_of c.args.bridges.now).choice kind_count)
     c.in_ok-further.further (found_others (map (λ r. r.now) rs) (option_copied found.objective))))
     c.deref-3.ensures.value c.in_ok-plan_found_others.ensures.answer.1)

@@ -1,14 +1,14 @@
 use Rattle.std.proofs.Common.{◌≡◌, ◌==◌, ◌∷◌, [], ℕ, Bool, true, Option, ◌∙◌, sym, ap, subst, arith, rules}
 use Rattle.std.specs.List.{slice_split}
 use Rattle.map_file.specs.Lines.{line_read, stopped}
-use Rattle.map_file.specs.Progress.{Moves, progress_of}
+use Rattle.map_file.specs.Progress.{MovesReader, progress_of}
 use Rattle.map_file.proofs.ReadSteps.{read_last, right_line, wrong_line}
 use Rattle.map_file.proofs.reading.read.Goals as goal
 
 pub returns-then-not-branch-clause-said : goal.returns-then-not-branch-clause-said
 returns-then-not-branch-clause-said c =
     let M : Bool → Type 0 =
-    λ right. Moves right c.loop-line.reader c.line.new.self
+    λ right. MovesReader right c.loop-line.reader c.line.new.self
     (line_read c.loop-line.number (progress_of c.loop-line.reader) c.in-Some.line.now) in
     c.stopped.ensures
     ∙ wrong_line c.loop-line.number c.loop-line.reader c.line.new.self c.in-Some.line.now
@@ -19,9 +19,9 @@ returns-then-not-branch-clause-said c =
 pub loop-line-preserved : goal.loop-line-preserved
 loop-line-preserved c =
     let M : Bool → Type 0 =
-    λ right. Moves right c.loop-line.reader c.line.new.self
+    λ right. MovesReader right c.loop-line.reader c.line.new.self
     (line_read c.loop-line.number (progress_of c.loop-line.reader) c.in-Some.line.now) in
-    let moves : Moves true c.loop-line.reader c.line.new.self
+    let moves : MovesReader true c.loop-line.reader c.line.new.self
     (line_read c.loop-line.number (progress_of c.loop-line.reader) c.in-Some.line.now) =
     subst M c.if-not-branch.false c.in_ok-line.ensures in
     record {

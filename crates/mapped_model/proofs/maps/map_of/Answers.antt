@@ -1,7 +1,7 @@
 use Rattle.std.proofs.Common.{Err, ◌∙◌}
 use Rattle.mapped_model.proofs.Pairs.{lines_enough, not_fit, not_inverse, pair_as, read_right, told_bad}
 use Rattle.mapped_model.proofs.maps.map_of.Goals as goal
-use Rattle.set_map.specs.Answers.{Reads}
+use Rattle.set_map.specs.Answers.{ReadsMatrix}
 use Rattle.set_map.specs.declared.fault.MapFault.TheVariants.{NotInverse, Overflow}
 
 pub matrix-requires : goal.matrix-requires
@@ -24,7 +24,7 @@ returns-in-Ok c = (
 
 pub returns-in-Err-NotInverse : goal.returns-in-Err-NotInverse
 returns-in-Err-NotInverse c =
-    let bad : Reads c.matrix.result.now c.inverse.result.now (Err NotInverse) =
+    let bad : ReadsMatrix c.matrix.result.now c.inverse.result.now (Err NotInverse) =
     rw c.in-Err-NotInverse.field-0-is at c.in-Err-NotInverse.ensures in
     told_bad c.args.text.now c.bad_map.result
     (not_inverse c.args.text.now c.matrix.result.now c.inverse.result.now c.matrix.ensures
@@ -33,7 +33,7 @@ returns-in-Err-NotInverse c =
 
 pub returns-in-Err-Overflow : goal.returns-in-Err-Overflow
 returns-in-Err-Overflow c =
-    let bad : Reads c.matrix.result.now c.inverse.result.now (Err Overflow) =
+    let bad : ReadsMatrix c.matrix.result.now c.inverse.result.now (Err Overflow) =
     rw c.in-Err-Overflow.field-0-is at c.in-Err-Overflow.ensures in
     told_bad c.args.text.now c.bad_map-in-Err-Overflow.result
     (not_fit c.args.text.now c.matrix.result.now c.inverse.result.now c.matrix.ensures

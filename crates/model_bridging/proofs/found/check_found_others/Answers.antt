@@ -2,7 +2,7 @@ use Rattle.std.proofs.Common.{[], ap, map, subst, sym}
 use Rattle.std.specs.Option.{option_copied, option_map_or}
 use Rattle.fresh_bridging.specs.ModelImage.{objective_items}
 use Rattle.model_bridging.specs.Kinds.{first_missing, kind_by, told}
-use Rattle.model_bridging.specs.Outcome.{KindsOutcome}
+use Rattle.model_bridging.specs.PlanOutcome.{KindsOutcome}
 use Rattle.model_bridging.proofs.FoundSteps.{others_answer, rows_refuse}
 use Rattle.model_bridging.proofs.found.check_found_others.Goals as goal
 

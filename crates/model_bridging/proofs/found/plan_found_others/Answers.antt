@@ -2,7 +2,7 @@ use Rattle.std.proofs.Common.{[], Err, Ok, ap, map, subst}
 use Rattle.std.specs.Prelude.{All, Some}
 use Rattle.std.specs.Option.{option_copied, option_map_or}
 use Rattle.item_core.specs.Kind.{kind_count}
-use Rattle.bridge_plan.specs.Worked.{IsWithin}
+use Rattle.bridge_plan.specs.Worked.{IsItemWithinLevels}
 use Rattle.fresh_bridging.specs.Entries.{put_in}
 use Rattle.fresh_bridging.specs.ModelImage.{objective_items, row_item}
 use Rattle.model_bridging.specs.Found.{found_others}
@@ -27,7 +27,7 @@ plan_objective-requires g c =
     (g.R.Rewriter.means c.plan_found_rows.new.rewriter) c.plan_found_rows.new.standing
     c.plan_found_rows.ensures.means c.plan_found_rows.ensures.same
     c.in_ok-plan_found_rows.ensures.answer
-    (subst (λ o. All (λ item. IsWithin (g.R.Rewriter.means c.args.rewriter.now).choice kind_count
+    (subst (λ o. All (λ item. IsItemWithinLevels (g.R.Rewriter.means c.args.rewriter.now).choice kind_count
     (put_in c.args.standing.now item)) (found_others rows o)) (ap option_copied c.in-Some.is)
     c.requires)
 

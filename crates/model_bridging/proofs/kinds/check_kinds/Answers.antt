@@ -1,7 +1,7 @@
 use Rattle.std.proofs.Common.{◌++◌, sym, subst, map}
 use Rattle.fresh_bridging.specs.ModelImage.{group_item, objective_items, row_item}
 use Rattle.model_bridging.specs.Kinds.{first_missing, is_kept_by, kind_by, kinds_as_they_stand, told}
-use Rattle.model_bridging.specs.Outcome.{KindsOutcome}
+use Rattle.model_bridging.specs.PlanOutcome.{KindsOutcome}
 use Rattle.model_bridging.proofs.KindSteps.{answered_next, further_kinds, handed_first, row_kinds}
 use Rattle.model_bridging.proofs.kinds.check_kinds.Goals as goal
 

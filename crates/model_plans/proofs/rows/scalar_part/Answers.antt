@@ -1,6 +1,6 @@
 use Rattle.std.proofs.Common.{[], None, subst}
 use Rattle.std.proofs.lemmas.Result.{IfOk-weaker}
-use Rattle.model_plans.specs.Plans.{IsChange, HasParts, Leads, with_part}
+use Rattle.model_plans.specs.Plans.{IsChange, HasParts, LeadsToTarget, with_part}
 use Rattle.model_plans.proofs.PartEdits.{row_edited}
 use Rattle.model_plans.proofs.RowPlans.{scalar_new, scalar_same}
 use Rattle.model_plans.proofs.rows.scalar_part.Goals as goal
@@ -11,7 +11,7 @@ returns-in-Some c =
     let g = with_part c.args.part.now c.args.value in
     let f = c.args.func.now in
     let made = subst (IsChange f (g f)) c.in-Some.is c.in_ok-func.ensures in
-    IfOk-weaker c.with_function.result _ _ (λ plan p. subst (λ after. Leads model after plan)
+    IfOk-weaker c.with_function.result _ _ (λ plan p. subst (λ after. LeadsToTarget model after plan)
     (row_edited model c.args.row.now.name.now c.args.part.now c.args.value c.requires.part)
     (scalar_new model plan c.requires.consistent c.args.row.now.name.now c.args.row.now.row.now
     c.requires.row g f c.in-Some.func c.requires.affine made.0 made.1 p))
@@ -23,7 +23,7 @@ returns-in-None c =
     let g = with_part c.args.part.now c.args.value in
     let f = c.args.func.now in
     let made = subst (IsChange f (g f)) c.in-None.is c.in_ok-func.ensures in
-    subst (λ after. Leads model after c.unchanged.result)
+    subst (λ after. LeadsToTarget model after c.unchanged.result)
     (row_edited model c.args.row.now.name.now c.args.part.now c.args.value c.requires.part)
     (scalar_same model c.unchanged.result c.requires.consistent c.args.row.now.name.now
     c.args.row.now.row.now c.requires.row g f c.requires.affine made

@@ -1,7 +1,7 @@
 use Rattle.std.proofs.Common.{◌≡◌, ◌+◌, ◌∷◌, [], ◌++◌, None, drop, take, sym, ap, subst, ◌∙◌}
 use Rattle.std.specs.Prelude.{slice_get}
 use Rattle.std.proofs.lemmas.Result.{IfOk-weaker}
-use Rattle.model_plans.specs.Plans.{IsChange, HasParts, Leads, with_part}
+use Rattle.model_plans.specs.Plans.{IsChange, HasParts, LeadsToTarget, with_part}
 use Rattle.model_plans.proofs.PartEdits.{output_edited}
 use Rattle.model_plans.proofs.RowPlans.{vector_new, vector_same}
 use Rattle.model_plans.proofs.rows.vector_part.Goals as goal
@@ -17,7 +17,7 @@ returns-in_ok-funcs-in-Some c =
     (subst (λ fs. c.in_ok-funcs-in-Some.funcs ≡ take c.args.component.now.place fs
     ++ (c.in-Some.func ∷ drop (c.args.component.now.place + 1) fs)) c.as_slice-funcs.ensures
     c.in_ok-funcs-in-Some.ensures) in
-    IfOk-weaker c.with_function.result _ _ (λ plan p. subst (λ after. Leads model after plan)
+    IfOk-weaker c.with_function.result _ _ (λ plan p. subst (λ after. LeadsToTarget model after plan)
     (output_edited model c.args.row.now.name.now c.args.output c.args.part.now c.args.value
     c.requires.part) (vector_new model plan c.requires.consistent c.args.row.now.name.now
     c.args.row.now.row.now c.requires.row c.args.output g c.args.component.now.funcs.now f
@@ -31,7 +31,7 @@ returns-in-None c =
     let g = with_part c.args.part.now c.args.value in
     let f = c.args.component.now.func.now in
     let made = subst (IsChange f (g f)) c.in-None.is c.in_ok-func.ensures in
-    subst (λ after. Leads model after c.unchanged.result)
+    subst (λ after. LeadsToTarget model after c.unchanged.result)
     (output_edited model c.args.row.now.name.now c.args.output c.args.part.now c.args.value
     c.requires.part)
     (vector_same model c.unchanged.result c.requires.consistent c.args.row.now.name.now

@@ -3,11 +3,11 @@ use Rattle.std.proofs.Common.{◌≡◌, ◌+◌, [], Ok, Err, false, take, drop
 use Rattle.std.specs.Prelude.{map}
 use Rattle.std.proofs.lemmas.List.{take_all}
 use Rattle.std.proofs.lemmas.List.Elements.{All-get_or}
-use Rattle.moi_run.specs.Tally.{tally_of}
+use Rattle.moi_run.specs.RunState.{run_state_of}
 use Rattle.edit_engine.specs.Lines.{says_load}
 use Rattle.io_face.specs.Told.{told_by}
 use Rattle.moi_run.proofs.Each.{each_at_stop, each_begins, each_begins_at_stop, each_more, lines_around}
-use Rattle.moi_run.specs.declared.stop.Stop.TheVariants.{ReadFault}
+use Rattle.moi_run.specs.declared.stop.RunStop.TheVariants.{ReadFault}
 use Rattle.moi_run.proofs.Exits.{at_least, fails_within, heard_told, no_end_at_stop, reason_by, told_same}
 use Rattle.moi_run.proofs.Moving.{still}
 use Rattle.moi_run.proofs.Written.{answers_nothing}
@@ -15,7 +15,7 @@ use Rattle.moi_run.proofs.answers.answer_each.Goals as goal
 
 pub loop-line-init : goal.loop-line-init
 loop-line-init g c = record {
-  answered = answers_nothing (tally_of c.args.session.now (told_by (g.H.Shelf.files c.args.shelf.now) (g.H.Shelf.sure c.args.shelf.now)) (g.H.Shelf.asked c.args.shelf.now))
+  answered = answers_nothing (run_state_of c.args.session.now (told_by (g.H.Shelf.files c.args.shelf.now) (g.H.Shelf.sure c.args.shelf.now)) (g.H.Shelf.asked c.args.shelf.now))
       (g.O.Sink.written c.args.output.now);
   pivots = refl;
   files = refl;
@@ -33,8 +33,8 @@ returns-in-Err-clause-outcome g c =
     let same = told_same _ _ _ _ c.loop-line.invariant.files c.loop-line.invariant.sure in
     each_at_stop c.in-Err.stop c.from.result (map (λ line. line.now) lines)
     (map (λ line. line.now) (take i lines)) _ (map (λ line. line.now) (drop (i + 1) lines))
-    (tally_of c.args.session.now told (g.H.Shelf.asked c.args.shelf.now)) (tally_of c.loop-line.session told (g.H.Shelf.asked c.loop-line.shelf))
-    (tally_of c.answer_line.new.session told (g.H.Shelf.asked c.answer_line.new.shelf)) c.loop-line.any_refused
+    (run_state_of c.args.session.now told (g.H.Shelf.asked c.args.shelf.now)) (run_state_of c.loop-line.session told (g.H.Shelf.asked c.loop-line.shelf))
+    (run_state_of c.answer_line.new.session told (g.H.Shelf.asked c.answer_line.new.shelf)) c.loop-line.any_refused
     (g.O.Sink.written c.args.output.now) (g.O.Sink.written c.loop-line.output)
     (g.O.Sink.written c.answer_line.new.output) c.from.ensures
     (lines_around (λ line. line.now) lines i _ c.loop-line-test.true) c.loop-line.invariant.answered
@@ -50,8 +50,8 @@ returns-in-Err-clause-prefix g c =
     let same = told_same _ _ _ _ c.loop-line.invariant.files c.loop-line.invariant.sure in
     each_begins_at_stop c.in-Err.stop c.from.result (map (λ line. line.now) lines)
     (map (λ line. line.now) (take i lines)) _ (map (λ line. line.now) (drop (i + 1) lines))
-    (tally_of c.args.session.now told (g.H.Shelf.asked c.args.shelf.now)) (tally_of c.loop-line.session told (g.H.Shelf.asked c.loop-line.shelf))
-    (tally_of c.answer_line.new.session told (g.H.Shelf.asked c.answer_line.new.shelf)) c.loop-line.any_refused
+    (run_state_of c.args.session.now told (g.H.Shelf.asked c.args.shelf.now)) (run_state_of c.loop-line.session told (g.H.Shelf.asked c.loop-line.shelf))
+    (run_state_of c.answer_line.new.session told (g.H.Shelf.asked c.answer_line.new.shelf)) c.loop-line.any_refused
     (g.O.Sink.written c.args.output.now) (g.O.Sink.written c.loop-line.output)
     (g.O.Sink.written c.answer_line.new.output) c.from.ensures
     (lines_around (λ line. line.now) lines i _ c.loop-line-test.true) c.loop-line.invariant.answered
@@ -78,8 +78,8 @@ loop-line-preserved g c =
     record {
       answered =
           each_more (λ line. line.now) lines i _ c.loop-line-test.true
-          (tally_of c.args.session.now told (g.H.Shelf.asked c.args.shelf.now)) (tally_of c.loop-line.session told (g.H.Shelf.asked c.loop-line.shelf))
-          (tally_of c.answer_line.new.session told (g.H.Shelf.asked c.answer_line.new.shelf))
+          (run_state_of c.args.session.now told (g.H.Shelf.asked c.args.shelf.now)) (run_state_of c.loop-line.session told (g.H.Shelf.asked c.loop-line.shelf))
+          (run_state_of c.answer_line.new.session told (g.H.Shelf.asked c.answer_line.new.shelf))
           c.loop-line.any_refused c.is_refused-any_refused.result _
           (g.O.Sink.written c.args.output.now) (g.O.Sink.written c.loop-line.output)
           (g.O.Sink.written c.answer_line.new.output)
@@ -100,8 +100,8 @@ returns-clause-prefix g c =
     let i = c.loop-line.line-index in
     let all = take_all i lines c.loop-line-test.false in
     each_begins c.loop-line.any_refused c.ended.result (map (λ line. line.now) lines)
-    (map (λ line. line.now) (take i lines)) [] (tally_of c.args.session.now told (g.H.Shelf.asked c.args.shelf.now))
-    (tally_of c.loop-line.session told (g.H.Shelf.asked c.loop-line.shelf)) (tally_of c.loop-line.session told (g.H.Shelf.asked c.loop-line.shelf))
+    (map (λ line. line.now) (take i lines)) [] (run_state_of c.args.session.now told (g.H.Shelf.asked c.args.shelf.now))
+    (run_state_of c.loop-line.session told (g.H.Shelf.asked c.loop-line.shelf)) (run_state_of c.loop-line.session told (g.H.Shelf.asked c.loop-line.shelf))
     (g.O.Sink.written c.args.output.now) (g.O.Sink.written c.loop-line.output)
     (ap (map (λ line. line.now)) (sym all)
     ∙ sym (append-nil (map (λ line. line.now) (take i lines)))) c.loop-line.invariant.answered

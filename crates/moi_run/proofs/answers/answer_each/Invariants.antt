@@ -1,7 +1,7 @@
 -- The lines so far were answered, and what the shelf tells is as it was.
 use Rattle.std.proofs.Common.{◌≡◌, false, take}
 use Rattle.std.specs.Prelude.{All, map}
-use Rattle.moi_run.specs.Tally.{tally_of}
+use Rattle.moi_run.specs.RunState.{run_state_of}
 use Rattle.edit_engine.specs.Lines.{says_load}
 use Rattle.io_face.specs.Sink.{Adds}
 use Rattle.io_face.specs.Told.{told_by}
@@ -10,10 +10,10 @@ use Rattle.moi_run.proofs.answers.answer_each.Given as goal
 
 abbrev pub invariant-loop-line : goal.invariant-loop-line
 invariant-loop-line g l = record {
-  answered : WritesAnswers (tally_of l.initial.session (told_by (g.H.Shelf.files l.initial.shelf)
+  answered : WritesAnswers (run_state_of l.initial.session (told_by (g.H.Shelf.files l.initial.shelf)
       (g.H.Shelf.sure l.initial.shelf)) (g.H.Shelf.asked l.initial.shelf)) (map (λ line. line.now) (take l.line-index l.lines))
       l.any_refused
-      (tally_of l.session (told_by (g.H.Shelf.files l.initial.shelf)
+      (run_state_of l.session (told_by (g.H.Shelf.files l.initial.shelf)
       (g.H.Shelf.sure l.initial.shelf)) (g.H.Shelf.asked l.shelf)) (Adds (g.O.Sink.written l.initial.output)
       (g.O.Sink.written l.output));
   pivots : l.session.pivots ≡ l.initial.session.pivots;

@@ -5,15 +5,15 @@ use Rattle.moi_run.proofs.Answering.{heard_sound, line_heard}
 use Rattle.moi_run.proofs.Exits.{line_fails}
 use Rattle.moi_run.proofs.Moving.{moved}
 use Rattle.moi_run.proofs.answers.answer_line.Goals as goal
-use Rattle.moi_run.specs.Tally.{tally_of}
+use Rattle.moi_run.specs.RunState.{run_state_of}
 
 pub returns-clause-heard : goal.returns-clause-heard
 returns-clause-heard g c =
     let told = told_by (g.H.Shelf.files c.args.shelf.now) (g.H.Shelf.sure c.args.shelf.now) in
     let asked = g.H.Shelf.asked c.args.shelf.now in
     let asked_now = g.H.Shelf.asked c.line-answer.new.shelf in
-    line_heard c.write_answer.result (tally_of c.args.session.now told asked)
-    (tally_of c.line-answer.new.self told asked_now) c.args.line.now c.line-answer.result _ _
+    line_heard c.write_answer.result (run_state_of c.args.session.now told asked)
+    (run_state_of c.line-answer.new.self told asked_now) c.args.line.now c.line-answer.result _ _
     (moved c.args.session.now c.line-answer.new.self told asked asked_now c.args.line.now
     c.line-answer.result c.line-answer.ensures.step c.line-answer.ensures.few
     c.line-answer.ensures.asks)

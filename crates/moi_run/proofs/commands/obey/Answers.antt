@@ -5,7 +5,7 @@ use Rattle.edit_engine.specs.Held.{machine_of}
 use Rattle.edit_engine.specs.Lines.{says_load}
 use Rattle.io_face.specs.Sink.{Adds, AddsPrefix}
 use Rattle.io_face.specs.Told.{told_by}
-use Rattle.moi_run.specs.Tally.{tally_of}
+use Rattle.moi_run.specs.RunState.{run_state_of}
 use Rattle.moi_run.specs.Generated.{BeginsSummary, EndsWithSummary}
 use Rattle.moi_run.proofs.Summaries.{generated_stops, of_command, summary_begins, summary_ends}
 use Rattle.moi_run.proofs.PlanLine.{one_line, plan_loads_nothing}
@@ -24,7 +24,7 @@ returns-in-Plan-clause-runs g c =
     command_runs (sym c.in-Plan.is)
     (runs_plan c.in-Plan.setup c.answer_with.result (g.I.Source.left c.args.input.now)
     (g.I.Source.left c.args.input.now) told _ _
-    (tally_of c.args.session.now told (g.H.Shelf.asked c.args.shelf.now)) (tally_of c.answer_with.new.session told (g.H.Shelf.asked c.answer_with.new.shelf)) _ _
+    (run_state_of c.args.session.now told (g.H.Shelf.asked c.args.shelf.now)) (run_state_of c.answer_with.new.session told (g.H.Shelf.asked c.answer_with.new.shelf)) _ _
     c.answer_with.ensures.runs stops.0 stops.1)
 
 pub returns-in-Plan-clause-unasked : goal.returns-in-Plan-clause-unasked
@@ -43,7 +43,7 @@ returns-in-Solve-clause-runs g c =
     command_runs (sym c.in-Solve.is)
     (runs_solve c.in-Solve.setup c.in-Solve.model c.answer_solve.result
     (g.I.Source.left c.args.input.now) (g.I.Source.left c.args.input.now) told _ _ _
-    (tally_of c.args.session.now told (g.H.Shelf.asked c.args.shelf.now)) (tally_of c.answer_solve.new.session told (g.H.Shelf.asked c.answer_solve.new.shelf)) _ _ refl
+    (run_state_of c.args.session.now told (g.H.Shelf.asked c.args.shelf.now)) (run_state_of c.answer_solve.new.session told (g.H.Shelf.asked c.answer_solve.new.shelf)) _ _ refl
     c.answer_solve.ensures.runs c.answer_solve.ensures.read_fault)
 
 pub returns-in-Check-clause-runs : goal.returns-in-Check-clause-runs
@@ -52,8 +52,8 @@ returns-in-Check-clause-runs g c =
     command_runs (sym c.in-Check.is)
     (runs_check c.in-Check.model c.in-Check.certificate c.answer_check.result
     (g.I.Source.left c.args.input.now) (g.I.Source.left c.args.input.now) told _ _ _
-    (tally_of c.args.session.now told (g.H.Shelf.asked c.args.shelf.now))
-    (tally_of c.args.session.now told (g.H.Shelf.asked c.answer_check.new.shelf)) _ _
+    (run_state_of c.args.session.now told (g.H.Shelf.asked c.args.shelf.now))
+    (run_state_of c.args.session.now told (g.H.Shelf.asked c.answer_check.new.shelf)) _ _
     c.answer_check.ensures.outcome c.answer_check.ensures.asks)
 
 pub returns-in-Generate-clause-runs : goal.returns-in-Generate-clause-runs
@@ -62,8 +62,8 @@ returns-in-Generate-clause-runs g c =
     command_runs (sym c.in-Generate.is)
     (runs_generated c.in-Generate.recipe c.answer_generated.result
     (g.I.Source.left c.args.input.now) (g.I.Source.left c.args.input.now) told _ _
-    (tally_of c.args.session.now told (g.H.Shelf.asked c.args.shelf.now))
-    (tally_of c.answer_generated.new.session told
+    (run_state_of c.args.session.now told (g.H.Shelf.asked c.args.shelf.now))
+    (run_state_of c.answer_generated.new.session told
     (g.H.Shelf.asked c.answer_generated.new.shelf)) _ _
     c.answer_generated.ensures.pivots (generated_stops c.in-Generate.recipe _ _ _ _
     c.answer_generated.result c.answer_generated.ensures.outcome))

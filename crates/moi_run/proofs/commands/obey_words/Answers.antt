@@ -1,7 +1,7 @@
 -- What holds of the command holds of the one that the words say.
 use Rattle.std.proofs.Common.{◌≡◌, sym, ◌∙◌, subst, refl}
 use Rattle.command_words.specs.declared.words.Invocation.{Invocation}
-use Rattle.moi_run.specs.Tally.{tally_of}
+use Rattle.moi_run.specs.RunState.{run_state_of}
 use Rattle.edit_engine.specs.Held.{machine_of}
 use Rattle.io_face.specs.Sink.{Adds, AddsPrefix}
 use Rattle.io_face.specs.Told.{told_by}
@@ -67,7 +67,7 @@ pub returns-in-None-clause-runs : goal.returns-in-None-clause-runs
 returns-in-None-clause-runs g c = said_runs (sym c.in-None.is ∙ c.in-Ok.ensures.said)
     (runs_of_none (g.I.Source.left c.args.input.now) (told_by (g.H.Shelf.files c.args.shelf.now)
     (g.H.Shelf.sure c.args.shelf.now)) _ _
-    (tally_of c.args.session.now (told_by (g.H.Shelf.files c.args.shelf.now)
+    (run_state_of c.args.session.now (told_by (g.H.Shelf.files c.args.shelf.now)
     (g.H.Shelf.sure c.args.shelf.now)) (g.H.Shelf.asked c.args.shelf.now)) (g.O.Sink.written c.args.output.now))
 
 pub returns-in-None-clause-idle : goal.returns-in-None-clause-idle
@@ -89,7 +89,7 @@ returns-in-Err-clause-runs g c =
     let told = told_by (g.H.Shelf.files c.args.shelf.now) (g.H.Shelf.sure c.args.shelf.now) in
     runs_without_memory _ (g.I.Source.left c.args.input.now)
     (g.I.Source.left c.args.input.now) told _ _
-    (tally_of c.args.session.now told (g.H.Shelf.asked c.args.shelf.now)) (tally_of c.args.session.now told (g.H.Shelf.asked c.args.shelf.now))
+    (run_state_of c.args.session.now told (g.H.Shelf.asked c.args.shelf.now)) (run_state_of c.args.session.now told (g.H.Shelf.asked c.args.shelf.now))
     (g.O.Sink.written c.args.output.now)
 
 pub returns-in-Err-clause-idle : goal.returns-in-Err-clause-idle

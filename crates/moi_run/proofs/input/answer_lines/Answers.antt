@@ -1,13 +1,13 @@
 -- Each exit says what the text written so far is of the script's.
 use Rattle.std.proofs.Common.{◌≡◌, ◌||◌, Ok, Err, refl, sym, ◌∙◌, ap, subst, arith}
-use Rattle.moi_run.specs.Tally.{tally_of}
+use Rattle.moi_run.specs.RunState.{run_state_of}
 use Rattle.io_face.specs.Fault.{HasFaulted}
 use Rattle.io_face.specs.FaultLaws.{HasFaulted-within}
 use Rattle.io_face.specs.Told.{told_by}
 use Rattle.moi_run.specs.Answering.{HearsBy, is_quit}
 use Rattle.moi_run.specs.Status.{status_of}
-use Rattle.moi_run.specs.declared.stop.Stop.{Stop}
-use Rattle.moi_run.specs.declared.stop.Stop.TheVariants as stop
+use Rattle.moi_run.specs.declared.stop.RunStop.{RunStop}
+use Rattle.moi_run.specs.declared.stop.RunStop.TheVariants as stop
 use Rattle.moi_run.proofs.Exits as exits
 use Rattle.moi_run.proofs.Standing.{ends_at_end, ends_at_last, standing_at_start, stops_at_fault, stops_at_limit, taken_in_all}
 use Rattle.moi_run.proofs.Turns as turns
@@ -18,7 +18,7 @@ use Rattle.report_core.specs.declared.answer.Answer.TheVariants.{ReadFault, TooL
 
 pub answering-init : goal.answering-init
 answering-init g c = record {
-  standing = standing_at_start (tally_of c.args.session.now (told_by (g.H.Shelf.files c.args.shelf.now) (g.H.Shelf.sure c.args.shelf.now)) (g.H.Shelf.asked c.args.shelf.now))
+  standing = standing_at_start (run_state_of c.args.session.now (told_by (g.H.Shelf.files c.args.shelf.now) (g.H.Shelf.sure c.args.shelf.now)) (g.H.Shelf.asked c.args.shelf.now))
       c.args.reader.now (g.I.Source.left c.args.input.now) (g.O.Sink.written c.args.output.now)
       c.requires.held c.requires.room;
   pivots = refl;
@@ -39,36 +39,36 @@ returns-in-Err-clause-outcome g c =
     (g.I.Source.faults c.next_line.new.input) in
     exits.outcome_at_read source _ c.in-Err.reason c.from-in-Err.result
     (g.I.Source.left c.args.input.now) (g.I.Source.left c.next_line.new.input)
-    (tally_of c.args.session.now told (g.H.Shelf.asked c.args.shelf.now)) (tally_of c.answering.session told (g.H.Shelf.asked c.answering.shelf)) _
+    (run_state_of c.args.session.now told (g.H.Shelf.asked c.args.shelf.now)) (run_state_of c.answering.session told (g.H.Shelf.asked c.answering.shelf)) _
     (c.from-in-Err.ensures ∙ ap status_of c.from.ensures)
     (λ is. HasFaulted-within _ _ _ _ (exits.at_least _ _ c.answering.invariant.reads) (omega arith)
     (c.in-Err.ensures.read_fault (ap Err is)).1)
     (λ is. stops_at_fault (g.I.Source.left c.args.input.now)
-    (tally_of c.args.session.now told (g.H.Shelf.asked c.args.shelf.now)) c.answering.reader (g.I.Source.left c.answering.input)
-    (g.I.Source.left c.next_line.new.input) (tally_of c.answering.session told (g.H.Shelf.asked c.answering.shelf))
+    (run_state_of c.args.session.now told (g.H.Shelf.asked c.args.shelf.now)) c.answering.reader (g.I.Source.left c.answering.input)
+    (g.I.Source.left c.next_line.new.input) (run_state_of c.answering.session told (g.H.Shelf.asked c.answering.shelf))
     c.answering.any_refused (g.O.Sink.written c.args.output.now)
     (g.O.Sink.written c.answering.output) standing (c.in-Err.ensures.read_fault (ap Err is)).0)
     (λ is. stops_at_limit (g.I.Source.left c.args.input.now)
-    (tally_of c.args.session.now told (g.H.Shelf.asked c.args.shelf.now)) c.answering.reader (g.I.Source.left c.answering.input)
-    (tally_of c.answering.session told (g.H.Shelf.asked c.answering.shelf)) c.answering.any_refused
+    (run_state_of c.args.session.now told (g.H.Shelf.asked c.args.shelf.now)) c.answering.reader (g.I.Source.left c.answering.input)
+    (run_state_of c.answering.session told (g.H.Shelf.asked c.answering.shelf)) c.answering.any_refused
     (g.O.Sink.written c.args.output.now) (g.O.Sink.written c.answering.output) standing
     (c.in-Err.ensures.too_long (ap Err is)))
 
 pub returns-in-Err-clause-prefix : goal.returns-in-Err-clause-prefix
 returns-in-Err-clause-prefix g c =
     let told = told_by (g.H.Shelf.files c.args.shelf.now) (g.H.Shelf.sure c.args.shelf.now) in
-    turns.begins_so_far (g.I.Source.left c.args.input.now) (tally_of c.args.session.now told (g.H.Shelf.asked c.args.shelf.now))
-    c.answering.reader (g.I.Source.left c.answering.input) (tally_of c.answering.session told (g.H.Shelf.asked c.answering.shelf))
-    (tally_of c.answering.session told (g.H.Shelf.asked c.answering.shelf)) c.answering.any_refused
+    turns.begins_so_far (g.I.Source.left c.args.input.now) (run_state_of c.args.session.now told (g.H.Shelf.asked c.args.shelf.now))
+    c.answering.reader (g.I.Source.left c.answering.input) (run_state_of c.answering.session told (g.H.Shelf.asked c.answering.shelf))
+    (run_state_of c.answering.session told (g.H.Shelf.asked c.answering.shelf)) c.answering.any_refused
     (g.O.Sink.written c.args.output.now) (g.O.Sink.written c.answering.output)
     c.from-in-Err.result c.answering.invariant.standing (λ _. still _)
 
 pub returns-in-Err-clause-taken : goal.returns-in-Err-clause-taken
 returns-in-Err-clause-taken g c =
     taken_in_all (g.I.Source.left c.args.input.now)
-    (tally_of c.args.session.now (told_by (g.H.Shelf.files c.args.shelf.now)
+    (run_state_of c.args.session.now (told_by (g.H.Shelf.files c.args.shelf.now)
     (g.H.Shelf.sure c.args.shelf.now)) (g.H.Shelf.asked c.args.shelf.now)) c.answering.reader (g.I.Source.left c.answering.input)
-    (g.I.Source.left c.next_line.new.input) (tally_of c.answering.session (told_by (g.H.Shelf.files c.args.shelf.now) (g.H.Shelf.sure c.args.shelf.now)) (g.H.Shelf.asked c.answering.shelf))
+    (g.I.Source.left c.next_line.new.input) (run_state_of c.answering.session (told_by (g.H.Shelf.files c.args.shelf.now) (g.H.Shelf.sure c.args.shelf.now)) (g.H.Shelf.asked c.answering.shelf))
     c.answering.any_refused (g.O.Sink.written c.args.output.now)
     (g.O.Sink.written c.answering.output) c.answering.invariant.standing c.in-Err.ensures.taken
 
@@ -90,10 +90,10 @@ returns-in-End-clause-outcome g c =
     let told = told_by (g.H.Shelf.files c.args.shelf.now) (g.H.Shelf.sure c.args.shelf.now) in
     exits.outcome_at_end _ _ c.answering.any_refused c.ended.result
     (g.I.Source.left c.args.input.now) (g.I.Source.left c.next_line.new.input)
-    (tally_of c.args.session.now told (g.H.Shelf.asked c.args.shelf.now)) (tally_of c.answering.session told (g.H.Shelf.asked c.answering.shelf)) _ c.ended.ensures
-    (ends_at_end (g.I.Source.left c.args.input.now) (tally_of c.args.session.now told (g.H.Shelf.asked c.args.shelf.now))
+    (run_state_of c.args.session.now told (g.H.Shelf.asked c.args.shelf.now)) (run_state_of c.answering.session told (g.H.Shelf.asked c.answering.shelf)) _ c.ended.ensures
+    (ends_at_end (g.I.Source.left c.args.input.now) (run_state_of c.args.session.now told (g.H.Shelf.asked c.args.shelf.now))
     c.answering.reader (g.I.Source.left c.answering.input)
-    (g.I.Source.left c.next_line.new.input) (tally_of c.answering.session told (g.H.Shelf.asked c.answering.shelf))
+    (g.I.Source.left c.next_line.new.input) (run_state_of c.answering.session told (g.H.Shelf.asked c.answering.shelf))
     c.answering.any_refused (g.O.Sink.written c.args.output.now)
     (g.O.Sink.written c.answering.output) c.answering.invariant.standing
     (c.in-Ok.ensures.end (ap Ok c.in-End.is)))
@@ -101,18 +101,18 @@ returns-in-End-clause-outcome g c =
 pub returns-in-End-clause-prefix : goal.returns-in-End-clause-prefix
 returns-in-End-clause-prefix g c =
     let told = told_by (g.H.Shelf.files c.args.shelf.now) (g.H.Shelf.sure c.args.shelf.now) in
-    turns.begins_so_far (g.I.Source.left c.args.input.now) (tally_of c.args.session.now told (g.H.Shelf.asked c.args.shelf.now))
-    c.answering.reader (g.I.Source.left c.answering.input) (tally_of c.answering.session told (g.H.Shelf.asked c.answering.shelf))
-    (tally_of c.answering.session told (g.H.Shelf.asked c.answering.shelf)) c.answering.any_refused
+    turns.begins_so_far (g.I.Source.left c.args.input.now) (run_state_of c.args.session.now told (g.H.Shelf.asked c.args.shelf.now))
+    c.answering.reader (g.I.Source.left c.answering.input) (run_state_of c.answering.session told (g.H.Shelf.asked c.answering.shelf))
+    (run_state_of c.answering.session told (g.H.Shelf.asked c.answering.shelf)) c.answering.any_refused
     (g.O.Sink.written c.args.output.now) (g.O.Sink.written c.answering.output) c.ended.result
     c.answering.invariant.standing (λ _. still _)
 
 pub returns-in-End-clause-taken : goal.returns-in-End-clause-taken
 returns-in-End-clause-taken g c =
     taken_in_all (g.I.Source.left c.args.input.now)
-    (tally_of c.args.session.now (told_by (g.H.Shelf.files c.args.shelf.now)
+    (run_state_of c.args.session.now (told_by (g.H.Shelf.files c.args.shelf.now)
     (g.H.Shelf.sure c.args.shelf.now)) (g.H.Shelf.asked c.args.shelf.now)) c.answering.reader (g.I.Source.left c.answering.input)
-    (g.I.Source.left c.next_line.new.input) (tally_of c.answering.session (told_by (g.H.Shelf.files c.args.shelf.now) (g.H.Shelf.sure c.args.shelf.now)) (g.H.Shelf.asked c.answering.shelf))
+    (g.I.Source.left c.next_line.new.input) (run_state_of c.answering.session (told_by (g.H.Shelf.files c.args.shelf.now) (g.H.Shelf.sure c.args.shelf.now)) (g.H.Shelf.asked c.answering.shelf))
     c.answering.any_refused (g.O.Sink.written c.args.output.now)
     (g.O.Sink.written c.answering.output) c.answering.invariant.standing c.in-Ok.ensures.taken
 
@@ -136,42 +136,42 @@ returns-in-Err-answer_line-clause-outcome g c =
     (g.O.Sink.written c.answer_line.new.output) same c.in-Err-answer_line.ensures.heard in
     let turn = turns.gives_by c.in_default.not-End c.in-Ok.ensures.line c.in-Ok.ensures.last_line
     c.deref.ensures.value in
-    let at_stop : (stop : Stop) → c.in-Err-answer_line.stop ≡ stop
-    → HearsBy (Err stop) (tally_of c.answering.session told (g.H.Shelf.asked c.answering.shelf)) c.deref.result.now (tally_of c.answer_line.new.session told (g.H.Shelf.asked c.answer_line.new.shelf)) (g.O.Sink.written c.answering.output)
+    let at_stop : (stop : RunStop) → c.in-Err-answer_line.stop ≡ stop
+    → HearsBy (Err stop) (run_state_of c.answering.session told (g.H.Shelf.asked c.answering.shelf)) c.deref.result.now (run_state_of c.answer_line.new.session told (g.H.Shelf.asked c.answer_line.new.shelf)) (g.O.Sink.written c.answering.output)
     (g.O.Sink.written c.answer_line.new.output) =
-    λ (stop : Stop) (is : c.in-Err-answer_line.stop ≡ stop). subst
-    (λ s. HearsBy (Err s) (tally_of c.answering.session told (g.H.Shelf.asked c.answering.shelf)) c.deref.result.now
-    (tally_of c.answer_line.new.session told (g.H.Shelf.asked c.answer_line.new.shelf)) (g.O.Sink.written c.answering.output)
+    λ (stop : RunStop) (is : c.in-Err-answer_line.stop ≡ stop). subst
+    (λ s. HearsBy (Err s) (run_state_of c.answering.session told (g.H.Shelf.asked c.answering.shelf)) c.deref.result.now
+    (run_state_of c.answer_line.new.session told (g.H.Shelf.asked c.answer_line.new.shelf)) (g.O.Sink.written c.answering.output)
     (g.O.Sink.written c.answer_line.new.output)) is heard in
     exits.outcome_at_stop _ _ c.in-Err-answer_line.stop c.from-in-Err-answer_line.result
     (g.I.Source.left c.args.input.now) (g.I.Source.left c.next_line.new.input)
-    (tally_of c.args.session.now told (g.H.Shelf.asked c.args.shelf.now)) (tally_of c.answer_line.new.session told (g.H.Shelf.asked c.answer_line.new.shelf)) _
+    (run_state_of c.args.session.now told (g.H.Shelf.asked c.args.shelf.now)) (run_state_of c.answer_line.new.session told (g.H.Shelf.asked c.answer_line.new.shelf)) _
     c.from-in-Err-answer_line.ensures
     (λ is. exits.fails_within told _ _ _ _ same (exits.at_least _ _ c.answering.invariant.fetches)
     (c.in-Err-answer_line.ensures.read_fault (ap Err is)))
     (λ is. let h = at_stop stop.ReadFault is in
     turns.stops_in_turn c.in-Ok.next (g.I.Source.left c.args.input.now)
-    (tally_of c.args.session.now told (g.H.Shelf.asked c.args.shelf.now)) c.answering.reader c.next_line.new.self
+    (run_state_of c.args.session.now told (g.H.Shelf.asked c.args.shelf.now)) c.answering.reader c.next_line.new.self
     (g.I.Source.left c.answering.input) (g.I.Source.left c.next_line.new.input)
-    (tally_of c.answering.session told (g.H.Shelf.asked c.answering.shelf)) (tally_of c.answer_line.new.session told (g.H.Shelf.asked c.answer_line.new.shelf))
+    (run_state_of c.answering.session told (g.H.Shelf.asked c.answering.shelf)) (run_state_of c.answer_line.new.session told (g.H.Shelf.asked c.answer_line.new.shelf))
     c.answering.any_refused (g.O.Sink.written c.args.output.now)
     (g.O.Sink.written c.answering.output) (g.O.Sink.written c.answer_line.new.output)
     c.next_line.new.line.items c.deref.result.now ReadFault turn
     c.answering.invariant.standing h.0 h.1)
     (λ is. let h = at_stop stop.WriteFault is in
     turns.cut_in_turn c.in-Ok.next (g.I.Source.left c.args.input.now)
-    (tally_of c.args.session.now told (g.H.Shelf.asked c.args.shelf.now)) c.answering.reader c.next_line.new.self
+    (run_state_of c.args.session.now told (g.H.Shelf.asked c.args.shelf.now)) c.answering.reader c.next_line.new.self
     (g.I.Source.left c.answering.input) (g.I.Source.left c.next_line.new.input)
-    (tally_of c.answering.session told (g.H.Shelf.asked c.answering.shelf)) (tally_of c.answer_line.new.session told (g.H.Shelf.asked c.answer_line.new.shelf))
+    (run_state_of c.answering.session told (g.H.Shelf.asked c.answering.shelf)) (run_state_of c.answer_line.new.session told (g.H.Shelf.asked c.answer_line.new.shelf))
     c.answering.any_refused h.0 (g.O.Sink.written c.args.output.now)
     (g.O.Sink.written c.answering.output) (g.O.Sink.written c.answer_line.new.output)
     c.next_line.new.line.items c.deref.result.now turn
     c.answering.invariant.standing h.1)
     (λ is. let h = at_stop stop.TooLong is in
     turns.stops_in_turn c.in-Ok.next (g.I.Source.left c.args.input.now)
-    (tally_of c.args.session.now told (g.H.Shelf.asked c.args.shelf.now)) c.answering.reader c.next_line.new.self
+    (run_state_of c.args.session.now told (g.H.Shelf.asked c.args.shelf.now)) c.answering.reader c.next_line.new.self
     (g.I.Source.left c.answering.input) (g.I.Source.left c.next_line.new.input)
-    (tally_of c.answering.session told (g.H.Shelf.asked c.answering.shelf)) (tally_of c.answer_line.new.session told (g.H.Shelf.asked c.answer_line.new.shelf))
+    (run_state_of c.answering.session told (g.H.Shelf.asked c.answering.shelf)) (run_state_of c.answer_line.new.session told (g.H.Shelf.asked c.answer_line.new.shelf))
     c.answering.any_refused (g.O.Sink.written c.args.output.now)
     (g.O.Sink.written c.answering.output) (g.O.Sink.written c.answer_line.new.output)
     c.next_line.new.line.items c.deref.result.now TooLong turn
@@ -186,10 +186,10 @@ returns-in-Err-answer_line-clause-prefix g c =
     (g.H.Shelf.asked c.answer_line.new.shelf) c.deref.result.now (g.O.Sink.written c.answering.output)
     (g.O.Sink.written c.answer_line.new.output) same c.in-Err-answer_line.ensures.heard in
     turns.begins_at_stop c.in-Err-answer_line.stop c.from-in-Err-answer_line.result c.in-Ok.next
-    (g.I.Source.left c.args.input.now) (tally_of c.args.session.now told (g.H.Shelf.asked c.args.shelf.now)) c.answering.reader
+    (g.I.Source.left c.args.input.now) (run_state_of c.args.session.now told (g.H.Shelf.asked c.args.shelf.now)) c.answering.reader
     c.next_line.new.self
     (g.I.Source.left c.answering.input) (g.I.Source.left c.next_line.new.input)
-    (tally_of c.answering.session told (g.H.Shelf.asked c.answering.shelf)) (tally_of c.answer_line.new.session told (g.H.Shelf.asked c.answer_line.new.shelf))
+    (run_state_of c.answering.session told (g.H.Shelf.asked c.answering.shelf)) (run_state_of c.answer_line.new.session told (g.H.Shelf.asked c.answer_line.new.shelf))
     c.answering.any_refused (g.O.Sink.written c.args.output.now)
     (g.O.Sink.written c.answering.output) (g.O.Sink.written c.answer_line.new.output)
     c.next_line.new.line.items c.deref.result.now c.from-in-Err-answer_line.ensures heard
@@ -199,9 +199,9 @@ returns-in-Err-answer_line-clause-prefix g c =
 pub returns-in-Err-answer_line-clause-taken : goal.returns-in-Err-answer_line-clause-taken
 returns-in-Err-answer_line-clause-taken g c =
     taken_in_all (g.I.Source.left c.args.input.now)
-    (tally_of c.args.session.now (told_by (g.H.Shelf.files c.args.shelf.now)
+    (run_state_of c.args.session.now (told_by (g.H.Shelf.files c.args.shelf.now)
     (g.H.Shelf.sure c.args.shelf.now)) (g.H.Shelf.asked c.args.shelf.now)) c.answering.reader (g.I.Source.left c.answering.input)
-    (g.I.Source.left c.next_line.new.input) (tally_of c.answering.session (told_by (g.H.Shelf.files c.args.shelf.now) (g.H.Shelf.sure c.args.shelf.now)) (g.H.Shelf.asked c.answering.shelf))
+    (g.I.Source.left c.next_line.new.input) (run_state_of c.answering.session (told_by (g.H.Shelf.files c.args.shelf.now) (g.H.Shelf.sure c.args.shelf.now)) (g.H.Shelf.asked c.answering.shelf))
     c.answering.any_refused (g.O.Sink.written c.args.output.now)
     (g.O.Sink.written c.answering.output) c.answering.invariant.standing c.in-Ok.ensures.taken
 
@@ -235,12 +235,12 @@ returns-in-Quit-clause-outcome g c =
     c.in-Ok-answer_line.ensures.heard in
     exits.outcome_at_end _ _ (c.answering.any_refused || was) c.ended-in-Quit.result
     (g.I.Source.left c.args.input.now) (g.I.Source.left c.next_line.new.input)
-    (tally_of c.args.session.now told (g.H.Shelf.asked c.args.shelf.now)) (tally_of c.answer_line.new.session told (g.H.Shelf.asked c.answer_line.new.shelf)) _
+    (run_state_of c.args.session.now told (g.H.Shelf.asked c.args.shelf.now)) (run_state_of c.answer_line.new.session told (g.H.Shelf.asked c.answer_line.new.shelf)) _
     c.ended-in-Quit.ensures
     (turns.ends_in_turn c.in-Ok.next (g.I.Source.left c.args.input.now)
-    (tally_of c.args.session.now told (g.H.Shelf.asked c.args.shelf.now)) c.answering.reader c.next_line.new.self
+    (run_state_of c.args.session.now told (g.H.Shelf.asked c.args.shelf.now)) c.answering.reader c.next_line.new.self
     (g.I.Source.left c.answering.input) (g.I.Source.left c.next_line.new.input)
-    (tally_of c.answering.session told (g.H.Shelf.asked c.answering.shelf)) (tally_of c.answer_line.new.session told (g.H.Shelf.asked c.answer_line.new.shelf))
+    (run_state_of c.answering.session told (g.H.Shelf.asked c.answering.shelf)) (run_state_of c.answer_line.new.session told (g.H.Shelf.asked c.answer_line.new.shelf))
     c.answering.any_refused was (g.O.Sink.written c.args.output.now)
     (g.O.Sink.written c.answering.output) (g.O.Sink.written c.answer_line.new.output)
     c.next_line.new.line.items c.deref.result.now
@@ -259,10 +259,10 @@ returns-in-Quit-clause-prefix g c =
     (g.O.Sink.written c.answer_line.new.output) was same c.is_refused-any_refused.ensures
     c.in-Ok-answer_line.ensures.heard in
     turns.begins_in_turn c.in-Ok.next (g.I.Source.left c.args.input.now)
-    (tally_of c.args.session.now told (g.H.Shelf.asked c.args.shelf.now)) c.answering.reader c.next_line.new.self
+    (run_state_of c.args.session.now told (g.H.Shelf.asked c.args.shelf.now)) c.answering.reader c.next_line.new.self
     (g.I.Source.left c.answering.input) (g.I.Source.left c.next_line.new.input)
-    (tally_of c.answering.session told (g.H.Shelf.asked c.answering.shelf)) (tally_of c.answer_line.new.session told (g.H.Shelf.asked c.answer_line.new.shelf))
-    (tally_of c.answer_line.new.session told (g.H.Shelf.asked c.answer_line.new.shelf)) c.answering.any_refused was
+    (run_state_of c.answering.session told (g.H.Shelf.asked c.answering.shelf)) (run_state_of c.answer_line.new.session told (g.H.Shelf.asked c.answer_line.new.shelf))
+    (run_state_of c.answer_line.new.session told (g.H.Shelf.asked c.answer_line.new.shelf)) c.answering.any_refused was
     (g.O.Sink.written c.args.output.now) (g.O.Sink.written c.answering.output)
     (g.O.Sink.written c.answer_line.new.output) c.next_line.new.line.items c.deref.result.now
     c.ended-in-Quit.result
@@ -273,9 +273,9 @@ returns-in-Quit-clause-prefix g c =
 pub returns-in-Quit-clause-taken : goal.returns-in-Quit-clause-taken
 returns-in-Quit-clause-taken g c =
     taken_in_all (g.I.Source.left c.args.input.now)
-    (tally_of c.args.session.now (told_by (g.H.Shelf.files c.args.shelf.now)
+    (run_state_of c.args.session.now (told_by (g.H.Shelf.files c.args.shelf.now)
     (g.H.Shelf.sure c.args.shelf.now)) (g.H.Shelf.asked c.args.shelf.now)) c.answering.reader (g.I.Source.left c.answering.input)
-    (g.I.Source.left c.next_line.new.input) (tally_of c.answering.session (told_by (g.H.Shelf.files c.args.shelf.now) (g.H.Shelf.sure c.args.shelf.now)) (g.H.Shelf.asked c.answering.shelf))
+    (g.I.Source.left c.next_line.new.input) (run_state_of c.answering.session (told_by (g.H.Shelf.files c.args.shelf.now) (g.H.Shelf.sure c.args.shelf.now)) (g.H.Shelf.asked c.answering.shelf))
     c.answering.any_refused (g.O.Sink.written c.args.output.now)
     (g.O.Sink.written c.answering.output) c.answering.invariant.standing c.in-Ok.ensures.taken
 
@@ -301,12 +301,12 @@ returns-in-LastLine-clause-outcome g c =
     c.in-Ok-answer_line.ensures.heard in
     exits.outcome_at_end _ _ (c.answering.any_refused || was) c.ended-in-LastLine.result
     (g.I.Source.left c.args.input.now) (g.I.Source.left c.next_line.new.input)
-    (tally_of c.args.session.now told (g.H.Shelf.asked c.args.shelf.now)) (tally_of c.answer_line.new.session told (g.H.Shelf.asked c.answer_line.new.shelf)) _
+    (run_state_of c.args.session.now told (g.H.Shelf.asked c.args.shelf.now)) (run_state_of c.answer_line.new.session told (g.H.Shelf.asked c.answer_line.new.shelf)) _
     c.ended-in-LastLine.ensures
-    (ends_at_last (g.I.Source.left c.args.input.now) (tally_of c.args.session.now told (g.H.Shelf.asked c.args.shelf.now))
+    (ends_at_last (g.I.Source.left c.args.input.now) (run_state_of c.args.session.now told (g.H.Shelf.asked c.args.shelf.now))
     c.answering.reader (g.I.Source.left c.answering.input)
     (g.I.Source.left c.next_line.new.input)
-    (tally_of c.answering.session told (g.H.Shelf.asked c.answering.shelf)) (tally_of c.answer_line.new.session told (g.H.Shelf.asked c.answer_line.new.shelf))
+    (run_state_of c.answering.session told (g.H.Shelf.asked c.answering.shelf)) (run_state_of c.answer_line.new.session told (g.H.Shelf.asked c.answer_line.new.shelf))
     c.answering.any_refused was (g.O.Sink.written c.args.output.now)
     (g.O.Sink.written c.answering.output) (g.O.Sink.written c.answer_line.new.output)
     c.next_line.new.line.items c.deref.result.now
@@ -324,10 +324,10 @@ returns-in-LastLine-clause-prefix g c =
     (g.O.Sink.written c.answer_line.new.output) was same c.is_refused-any_refused.ensures
     c.in-Ok-answer_line.ensures.heard in
     turns.begins_in_turn c.in-Ok.next (g.I.Source.left c.args.input.now)
-    (tally_of c.args.session.now told (g.H.Shelf.asked c.args.shelf.now)) c.answering.reader c.next_line.new.self
+    (run_state_of c.args.session.now told (g.H.Shelf.asked c.args.shelf.now)) c.answering.reader c.next_line.new.self
     (g.I.Source.left c.answering.input) (g.I.Source.left c.next_line.new.input)
-    (tally_of c.answering.session told (g.H.Shelf.asked c.answering.shelf)) (tally_of c.answer_line.new.session told (g.H.Shelf.asked c.answer_line.new.shelf))
-    (tally_of c.answer_line.new.session told (g.H.Shelf.asked c.answer_line.new.shelf)) c.answering.any_refused was
+    (run_state_of c.answering.session told (g.H.Shelf.asked c.answering.shelf)) (run_state_of c.answer_line.new.session told (g.H.Shelf.asked c.answer_line.new.shelf))
+    (run_state_of c.answer_line.new.session told (g.H.Shelf.asked c.answer_line.new.shelf)) c.answering.any_refused was
     (g.O.Sink.written c.args.output.now) (g.O.Sink.written c.answering.output)
     (g.O.Sink.written c.answer_line.new.output) c.next_line.new.line.items c.deref.result.now
     c.ended-in-LastLine.result
@@ -338,9 +338,9 @@ returns-in-LastLine-clause-prefix g c =
 pub returns-in-LastLine-clause-taken : goal.returns-in-LastLine-clause-taken
 returns-in-LastLine-clause-taken g c =
     taken_in_all (g.I.Source.left c.args.input.now)
-    (tally_of c.args.session.now (told_by (g.H.Shelf.files c.args.shelf.now)
+    (run_state_of c.args.session.now (told_by (g.H.Shelf.files c.args.shelf.now)
     (g.H.Shelf.sure c.args.shelf.now)) (g.H.Shelf.asked c.args.shelf.now)) c.answering.reader (g.I.Source.left c.answering.input)
-    (g.I.Source.left c.next_line.new.input) (tally_of c.answering.session (told_by (g.H.Shelf.files c.args.shelf.now) (g.H.Shelf.sure c.args.shelf.now)) (g.H.Shelf.asked c.answering.shelf))
+    (g.I.Source.left c.next_line.new.input) (run_state_of c.answering.session (told_by (g.H.Shelf.files c.args.shelf.now) (g.H.Shelf.sure c.args.shelf.now)) (g.H.Shelf.asked c.answering.shelf))
     c.answering.any_refused (g.O.Sink.written c.args.output.now)
     (g.O.Sink.written c.answering.output) c.answering.invariant.standing c.in-Ok.ensures.taken
 
@@ -367,9 +367,9 @@ answering-preserved g c =
     record {
       standing =
           turns.standing_after_turn c.in-Ok.next (g.I.Source.left c.args.input.now)
-          (tally_of c.args.session.now told (g.H.Shelf.asked c.args.shelf.now)) c.answering.reader c.next_line.new.self
+          (run_state_of c.args.session.now told (g.H.Shelf.asked c.args.shelf.now)) c.answering.reader c.next_line.new.self
           (g.I.Source.left c.answering.input) (g.I.Source.left c.next_line.new.input)
-          (tally_of c.answering.session told (g.H.Shelf.asked c.answering.shelf)) (tally_of c.answer_line.new.session told (g.H.Shelf.asked c.answer_line.new.shelf))
+          (run_state_of c.answering.session told (g.H.Shelf.asked c.answering.shelf)) (run_state_of c.answer_line.new.session told (g.H.Shelf.asked c.answer_line.new.shelf))
           c.answering.any_refused was (g.O.Sink.written c.args.output.now)
           (g.O.Sink.written c.answering.output) (g.O.Sink.written c.answer_line.new.output)
           c.next_line.new.line.items c.deref.result.now

@@ -1,6 +1,6 @@
 -- The lines so far were answered, and what is left is read.
 use Rattle.std.proofs.Common.{◌≡◌}
-use Rattle.moi_run.specs.Tally.{tally_of}
+use Rattle.moi_run.specs.RunState.{run_state_of}
 use Rattle.io_face.specs.Told.{told_by}
 use Rattle.moi_run.proofs.Standing.{Standing}
 use Rattle.moi_run.proofs.input.answer_lines.Given as goal
@@ -9,9 +9,9 @@ use Rattle.line_reader.specs.Reading.{allowance}
 abbrev pub invariant-answering : goal.invariant-answering
 invariant-answering g l = record {
   standing : Standing (g.I.Source.left l.initial.input)
-      (tally_of l.initial.session (told_by (g.H.Shelf.files l.initial.shelf)
+      (run_state_of l.initial.session (told_by (g.H.Shelf.files l.initial.shelf)
       (g.H.Shelf.sure l.initial.shelf)) (g.H.Shelf.asked l.initial.shelf)) l.reader (g.I.Source.left l.input)
-      (tally_of l.session (told_by (g.H.Shelf.files l.initial.shelf)
+      (run_state_of l.session (told_by (g.H.Shelf.files l.initial.shelf)
       (g.H.Shelf.sure l.initial.shelf)) (g.H.Shelf.asked l.shelf)) l.any_refused (g.O.Sink.written l.initial.output)
       (g.O.Sink.written l.output);
   pivots : l.session.pivots ≡ l.initial.session.pivots;

@@ -6,16 +6,16 @@ use Rattle.io_face.specs.Told.{told_by}
 use Rattle.model_command.specs.Alone.{standard_by}
 use Rattle.setmap_command.proofs.Fetched.{asks_both, asks_one}
 use Rattle.setmap_command.proofs.answering.answer.Goals as goal
-use Rattle.setmap_command.specs.Files.{Says}
+use Rattle.setmap_command.specs.Files.{SaysOfMaps}
 
 pub returns-in-Ok-clause-answers : goal.returns-in-Ok-clause-answers
 returns-in-Ok-clause-answers g c = λ not.
     let setting = standard_by (prelude.map g.B.Bridge.state c.args.bridges.items) in
     let told = told_by (g.H.Shelf.files c.args.shelf.now) (g.H.Shelf.sure c.args.shelf.now) in
     let maps = c.args.command.now.maps in
-    answered_with (Says setting told maps) told c.args.command.now.model c.in-Ok.model
+    answered_with (SaysOfMaps setting told maps) told c.args.command.now.model c.in-Ok.model
     c.answer_on.result c.in-Ok.ensures.loads
-    (subst (λ t. Says setting t maps c.in-Ok.model.model c.answer_on.result)
+    (subst (λ t. SaysOfMaps setting t maps c.in-Ok.model.model c.answer_on.result)
     (ap₂ told_by c.in-Ok.ensures.files c.in-Ok.ensures.sure) (c.answer_on.ensures.says not))
 
 pub returns-in-Ok-clause-cause : goal.returns-in-Ok-clause-cause
@@ -39,7 +39,7 @@ pub returns-in-Err-clause-answers : goal.returns-in-Err-clause-answers
 returns-in-Err-clause-answers g c = λ not.
     let setting = standard_by (prelude.map g.B.Bridge.state c.args.bridges.items) in
     let told = told_by (g.H.Shelf.files c.args.shelf.now) (g.H.Shelf.sure c.args.shelf.now) in
-    answered_without (Says setting told c.args.command.now.maps) told c.args.command.now.model
+    answered_without (SaysOfMaps setting told c.args.command.now.maps) told c.args.command.now.model
     c.in-Err.answer c.in-Err.ensures.loads not
 
 pub returns-in-Err-clause-cause : goal.returns-in-Err-clause-cause

@@ -3,11 +3,11 @@ use Rattle.std.specs.Prelude as prelude
 use Rattle.model_command.specs.Alone.{standard_by}
 use Rattle.setmap_command.proofs.Told.{never_failed, says_mapped, says_unmapped}
 use Rattle.setmap_command.proofs.answering.answer_maps.Goals as goal
-use Rattle.setmap_command.specs.Says.{StandsFrom}
+use Rattle.setmap_command.specs.Says.{StandsForMapped}
 
 pub solved-requires-clause-stands : goal.solved-requires-clause-stands
 solved-requires-clause-stands g c =
-    subst (λ f. StandsFrom f c.map_rows.new.model.model) (sym c.in-Ok.ensures.maps.1)
+    subst (λ f. StandsForMapped f c.map_rows.new.model.model) (sym c.in-Ok.ensures.maps.1)
     (c.args.model.model, c.in-Ok.ensures.stands)
 
 pub solved-requires-clause-settled : goal.solved-requires-clause-settled

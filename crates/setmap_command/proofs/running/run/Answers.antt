@@ -9,8 +9,8 @@ use Rattle.io_face.specs.Told.{told_by}
 use Rattle.model_command.specs.Alone.{standard_by}
 use Rattle.setmap_command.proofs.Fetched.{both_end_well}
 use Rattle.setmap_command.proofs.running.run.Goals as goal
-use Rattle.setmap_command.specs.Files.{AsksFiles, CanBothBeFetched, Says}
-use Rattle.setmap_command.specs.declared.command.Command.{Command}
+use Rattle.setmap_command.specs.Files.{AsksModelAndMaps, CanBothBeFetched, SaysOfMaps}
+use Rattle.setmap_command.specs.declared.command.MappedCommand.{MappedCommand}
 
 pub returns-in-Ok-Some-clause-runs : goal.returns-in-Ok-Some-clause-runs
 returns-in-Ok-Some-clause-runs g c =
@@ -21,8 +21,8 @@ returns-in-Ok-Some-clause-runs g c =
     let new = seen (g.H.Shelf.asked c.answer.new.shelf) (g.H.Shelf.faults c.answer.new.shelf)
     (g.O.Sink.written c.end_with.new.output) (g.O.Sink.faults c.end_with.new.output) in
     let command = c.in-Ok-Some.command in
-    ran (λ (said : Command). AnswersFile (Says setting told said.maps) told said.model)
-    (λ said before after. AsksFiles told said.model said.maps (AsksFor before after))
+    ran (λ (said : MappedCommand). AnswersFile (SaysOfMaps setting told said.maps) told said.model)
+    (λ said before after. AsksModelAndMaps told said.model said.maps (AsksFor before after))
     (λ said. CanBothBeFetched told said.model said.maps) _ c.in-Ok-Some.command
     (sym c.in-Ok-Some.ensures.said ∙ c.in-Ok-Some.field-0-is) c.answer.result old new
     c.end_with.result
@@ -49,8 +49,8 @@ returns-in-Ok-None-clause-runs g c =
     let told = told_by (g.H.Shelf.files c.args.shelf.now) (g.H.Shelf.sure c.args.shelf.now) in
     let old = seen (g.H.Shelf.asked c.args.shelf.now) (g.H.Shelf.faults c.args.shelf.now)
     (g.O.Sink.written c.args.output.now) (g.O.Sink.faults c.args.output.now) in
-    no_command (λ (said : Command). AnswersFile (Says setting told said.maps) told said.model)
-    (λ said before after. AsksFiles told said.model said.maps (AsksFor before after))
+    no_command (λ (said : MappedCommand). AnswersFile (SaysOfMaps setting told said.maps) told said.model)
+    (λ said before after. AsksModelAndMaps told said.model said.maps (AsksFor before after))
     (λ said. CanBothBeFetched told said.model said.maps) _
     (sym c.in-Ok-None.ensures.said ∙ c.in-Ok-None.field-0-is) old
 
@@ -60,6 +60,6 @@ returns-in-Err-clause-runs g c =
     let told = told_by (g.H.Shelf.files c.args.shelf.now) (g.H.Shelf.sure c.args.shelf.now) in
     let old = seen (g.H.Shelf.asked c.args.shelf.now) (g.H.Shelf.faults c.args.shelf.now)
     (g.O.Sink.written c.args.output.now) (g.O.Sink.faults c.args.output.now) in
-    out_of_memory (λ (said : Command). AnswersFile (Says setting told said.maps) told said.model)
-    (λ said before after. AsksFiles told said.model said.maps (AsksFor before after))
+    out_of_memory (λ (said : MappedCommand). AnswersFile (SaysOfMaps setting told said.maps) told said.model)
+    (λ said before after. AsksModelAndMaps told said.model said.maps (AsksFor before after))
     (λ said. CanBothBeFetched told said.model said.maps) _ c.in-Err.ensures.of_one old

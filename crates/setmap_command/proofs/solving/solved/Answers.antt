@@ -1,23 +1,23 @@
 use Rattle.std.proofs.Common.{ap, subst, sym}
 use Rattle.std.specs.Prelude.{IfOk}
 use Rattle.cache_layer.specs.Cached.{state_of}
-use Rattle.cache_layer.specs.State.{State}
+use Rattle.cache_layer.specs.CacheState.{CacheState}
 use Rattle.mapped_model.specs.Stands.{StandsFor}
 use Rattle.mapped_model.specs.Uses.{uses_in}
 use Rattle.setmap_command.proofs.solving.solved.Goals as goal
-use Rattle.setmap_command.specs.Says.{SaysSolved, StandsFrom}
+use Rattle.setmap_command.specs.Says.{SaysMappedSolved, StandsForMapped}
 
 pub attached-requires : goal.attached-requires
 attached-requires g c =
-    subst (StandsFrom c.args.rows.now) (sym (ap (λ (s : State). s.model) c.cache_of-cache.ensures))
+    subst (StandsForMapped c.args.rows.now) (sym (ap (λ (s : CacheState). s.model) c.cache_of-cache.ensures))
     c.requires.stands
 
 pub returns : goal.returns
 returns g c = λ old stands.
-    let is = ap (λ (s : State). s.model) c.cache_of-cache.ensures in
-    subst (λ s. IfOk c.attached.result (SaysSolved old c.args.rows.now c.args.model.model s))
+    let is = ap (λ (s : CacheState). s.model) c.cache_of-cache.ensures in
+    subst (λ s. IfOk c.attached.result (SaysMappedSolved old c.args.rows.now c.args.model.model s))
     c.cache_of-cache.ensures
-    (subst (λ m. IfOk c.attached.result (SaysSolved old c.args.rows.now m
+    (subst (λ m. IfOk c.attached.result (SaysMappedSolved old c.args.rows.now m
     (state_of c.cache_of-cache.result))) is
     (c.attached.ensures old
     (subst (StandsFor old (uses_in old c.args.rows.now)) (sym is) stands)))

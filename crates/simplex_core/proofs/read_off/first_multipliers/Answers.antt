@@ -1,6 +1,6 @@
 use Rattle.std.proofs.Common.{arith, length}
 use Rattle.ratio_core.specs.Rational.{neg_ℚ, one_ℚ, sum_fits}
-use Rattle.tableau_core.specs.Contents.{readings_of}
+use Rattle.tableau_core.specs.BoardContents.{readings_of}
 use Rattle.simplex_core.proofs.Choices.{passed_at}
 use Rattle.simplex_core.proofs.Comparisons.{ok_from_fits}
 use Rattle.simplex_core.proofs.read_off.first_multipliers.Goals as goal

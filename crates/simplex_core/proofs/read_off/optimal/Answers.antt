@@ -2,7 +2,7 @@ use Rattle.std.proofs.Common.{◌∙◌, ◌<◌, refl, subst}
 use Rattle.ratio_core.specs.Rational.{neg_ℚ}
 use Rattle.simplex_form.specs.Board.{multiplier}
 use Rattle.simplex_form.specs.Form.{second_cost}
-use Rattle.tableau_core.specs.Contents.{readings_of}
+use Rattle.tableau_core.specs.BoardContents.{readings_of}
 use Rattle.simplex_core.specs.Placed.{artificial}
 use Rattle.simplex_core.proofs.Multipliers.{second_multiplier}
 use Rattle.tableau_core.specs.ListLaws.{lists_same}

@@ -1,14 +1,14 @@
 use Rattle.std.proofs.Common.{◌≡◌, length}
 use Rattle.simplex_form.specs.Form.{Form}
-use Rattle.simplex_form.specs.Basis.{IsBasis, State, basic}
+use Rattle.simplex_form.specs.Basis.{BasisState, IsBasis, basic}
 use Rattle.simplex_form.specs.Board.{right_side}
-use Rattle.tableau_core.specs.Contents.{IsBoardOf}
+use Rattle.tableau_core.specs.BoardContents.{IsBoardOf}
 use Rattle.simplex_core.proofs.Placing.{IsPlacedTo}
 use Rattle.simplex_core.proofs.read_off.point.Given as goal
 
 abbrev pub invariant-loop-i : goal.invariant-loop-i
 invariant-loop-i g l = record {
   long : length l.x.items ≡ l.c;
-  placed : (F : Form) (s : State) → IsBasis F s → IsBoardOf F s (g.T.Tableau.contents l.board)
+  placed : (F : Form) (s : BasisState) → IsBasis F s → IsBoardOf F s (g.T.Tableau.contents l.board)
       → IsPlacedTo l.c l.i (basic s) (right_side F s) l.x.items;
 }

@@ -1,7 +1,7 @@
 use Rattle.std.proofs.Common.{◌+◌, ◌-◌}
 use Rattle.ratio_core.specs.Rational.{neg_ℚ}
 use Rattle.tableau_core.specs.Start.{IsListOf}
-use Rattle.tableau_core.specs.Contents.{readings_of}
+use Rattle.tableau_core.specs.BoardContents.{readings_of}
 use Rattle.simplex_core.proofs.read_off.second_multipliers.Given as goal
 
 abbrev pub invariant-loop-j : goal.invariant-loop-j

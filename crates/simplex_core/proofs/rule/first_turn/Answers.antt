@@ -1,7 +1,7 @@
 use Rattle.std.proofs.Common.{◌≡◌, Bool, None, ap, sym, ◌∙◌, true, false, if◌then◌else◌}
 use Rattle.simplex_form.specs.Readings.{Readings}
 use Rattle.simplex_form.specs.Turns as bland
-use Rattle.tableau_core.specs.Contents.{readings_of}
+use Rattle.tableau_core.specs.BoardContents.{readings_of}
 use Rattle.simplex_core.proofs.rule.first_turn.Goals as goal
 
 -- the turn where no column enters, by the two tests

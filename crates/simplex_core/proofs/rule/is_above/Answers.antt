@@ -3,7 +3,7 @@ use Rattle.std.proofs.lemmas.Bool.{le-leb}
 use Rattle.ratio_core.specs.Rational.{zero_ℚ}
 use Rattle.simplex_form.specs.Readings.{basic_at}
 use Rattle.simplex_form.specs.Turns.{is_below}
-use Rattle.tableau_core.specs.Contents.{readings_of}
+use Rattle.tableau_core.specs.BoardContents.{readings_of}
 use Rattle.simplex_core.proofs.rule.is_above.Goals as goal
 
 pub returns-then-basis-i : goal.returns-then-basis-i

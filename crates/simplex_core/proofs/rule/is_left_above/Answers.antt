@@ -1,6 +1,6 @@
 use Rattle.std.proofs.Common.{arith, length, sym, ◌∙◌}
 use Rattle.simplex_form.specs.Turns.{is_above}
-use Rattle.tableau_core.specs.Contents.{readings_of}
+use Rattle.tableau_core.specs.BoardContents.{readings_of}
 use Rattle.simplex_core.proofs.Choices.{some_found, some_more}
 use Rattle.simplex_core.proofs.rule.is_left_above.Goals as goal
 

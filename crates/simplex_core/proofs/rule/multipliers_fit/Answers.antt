@@ -1,6 +1,6 @@
 use Rattle.std.proofs.Common.{length, ap, arith, not, sym, ◌∙◌}
 use Rattle.ratio_core.specs.Rational.{neg_ℚ, one_ℚ, sum_fits}
-use Rattle.tableau_core.specs.Contents.{readings_of}
+use Rattle.tableau_core.specs.BoardContents.{readings_of}
 use Rattle.simplex_core.proofs.Choices.{passed_all, passed_failed, passed_more, passed_none}
 use Rattle.simplex_core.proofs.Comparisons.{difference_fits}
 use Rattle.simplex_core.proofs.rule.multipliers_fit.Goals as goal

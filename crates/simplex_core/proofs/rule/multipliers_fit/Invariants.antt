@@ -1,7 +1,7 @@
 use Rattle.std.proofs.Common.{◌≡◌, ◌+◌, ◌-◌, true}
 use Rattle.ratio_core.specs.Rational.{neg_ℚ, one_ℚ, sum_fits}
 use Rattle.simplex_form.specs.Search.{all_below}
-use Rattle.tableau_core.specs.Contents.{readings_of}
+use Rattle.tableau_core.specs.BoardContents.{readings_of}
 use Rattle.simplex_core.proofs.rule.multipliers_fit.Given as goal
 
 abbrev pub invariant-loop-j : goal.invariant-loop-j

@@ -1,6 +1,6 @@
 use Rattle.std.proofs.Common.{length, arith, slice_index, slice_index_or, subst, sym, ◌∙◌, ◌≤◌}
 use Rattle.simplex_form.specs.Turns.{swept_column, swept_in}
-use Rattle.tableau_core.specs.Contents.{readings_of}
+use Rattle.tableau_core.specs.BoardContents.{readings_of}
 use Rattle.simplex_core.proofs.Choices.{row_found}
 use Rattle.simplex_core.proofs.Comparisons.{artificial_row}
 use Rattle.simplex_core.proofs.rule.swept.Goals as goal

@@ -1,6 +1,6 @@
 use Rattle.simplex_form.specs.Basis.{start}
 use Rattle.simplex_form.specs.Form.{Form, IsStandard}
-use Rattle.tableau_core.specs.Contents.{IsBoardOf}
+use Rattle.tableau_core.specs.BoardContents.{IsBoardOf}
 use Rattle.simplex_core.specs.Phases.{IsInPhase}
 use Rattle.simplex_core.proofs.Running.{IsAtStep}
 use Rattle.simplex_core.proofs.run.run.Given as goal

@@ -1,6 +1,6 @@
 use Rattle.std.proofs.Common.{ap, sym, ◌∙◌}
 use Rattle.simplex_form.specs.Fit.{pivot_fits}
-use Rattle.tableau_core.specs.Contents.{readings_of}
+use Rattle.tableau_core.specs.BoardContents.{readings_of}
 use Rattle.simplex_core.proofs.Running.{on_ok_then}
 use Rattle.simplex_core.proofs.run.step.Goals as goal
 

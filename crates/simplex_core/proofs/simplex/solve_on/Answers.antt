@@ -2,7 +2,7 @@ use Rattle.std.proofs.Common.{◌≡◌, Err, ap, false, subst, true}
 use Rattle.simplex_form.specs.Basis.{start}
 use Rattle.simplex_form.specs.Fit.{start_fits}
 use Rattle.simplex_laws.specs.OutcomeLaws.{outcome_is}
-use Rattle.tableau_core.specs.Contents.{IsBoardOf}
+use Rattle.tableau_core.specs.BoardContents.{IsBoardOf}
 use Rattle.tableau_core.specs.Start.{form_of}
 use Rattle.simplex_core.specs.StdForm.{equality_form}
 use Rattle.simplex_core.proofs.Right.{standard_form, tells_all, tells_right, tells_start}

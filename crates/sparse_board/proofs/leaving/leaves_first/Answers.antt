@@ -2,7 +2,7 @@ use Rattle.std.proofs.Common.{◌≡◌, ◌+◌, ◌<◌, ◌∙◌, ap, arith,
 use Rattle.ratio_core.specs.Rational.{zero_ℚ, ◌/ℚ◌, ◌‹ℚ◌}
 use Rattle.simplex_form.specs.Turns.{is_below}
 use Rattle.tableau_core.specs.Leaving.{comes_before}
-use Rattle.sparse_board.specs.Leaving.{IsCandidate, leaves_before, may_leave}
+use Rattle.sparse_board.specs.Leaving.{IsSparseCandidate, leaves_before, may_leave}
 use Rattle.sparse_board.proofs.LeavingSteps.{better_none, better_some, item_number, item_width, passed_better}
 use Rattle.sparse_board.proofs.leaving.leaves_first.Goals as goal
 use Rattle.sparse_board.proofs.leaving.leaves_first.Goals.{After-is_entry_positive, After-index-rows-k}
@@ -30,9 +30,9 @@ returns-then-not-is_entry_positive-clause-value c =
     ∙ c.if-not-is_entry_positive.true)
 
 -- the best so far
-candidate : (c : After-index-rows-k) → IsCandidate c.args.rows.now c.args.q c.in-Some.k
+candidate : (c : After-index-rows-k) → IsSparseCandidate c.args.rows.now c.args.q c.in-Some.k
 candidate c =
-    subst (λ o. IfSome o (λ k. IsCandidate c.args.rows.now c.args.q k)) c.in-Some.is
+    subst (λ o. IfSome o (λ k. IsSparseCandidate c.args.rows.now c.args.q k)) c.in-Some.is
     c.requires.best
 
 pub leaves_sooner-requires-clause-width : goal.leaves_sooner-requires-clause-width

@@ -1,7 +1,7 @@
 use Rattle.std.proofs.Common.{arith, subst, sym, ◌∙◌, ◌≤◌, ◌<◌}
 use Rattle.ratio_core.specs.Rational.{Fits}
-use Rattle.sparse_board.specs.Sparse.{IsBelow}
-use Rattle.sparse_board.specs.Numbers.{Adds, row_columns, width_of}
+use Rattle.sparse_board.specs.Sparse.{AreColumnsBelow}
+use Rattle.sparse_board.specs.Numbers.{AppendsNumber, row_columns, width_of}
 use Rattle.sparse_board.proofs.LoweringSteps.{copied_all, copied_more, copied_none, copied_split, copy_above}
 use Rattle.sparse_board.proofs.RowSteps.{column_is, columns_long, row_place, value_is}
 use Rattle.sparse_board.proofs.lowering.copy_below.Goals as goal
@@ -29,7 +29,7 @@ loop-end-preserved c =
     c.index-in-loop-end.result.now.value c.push.new.self
     (value_is c.args.row.now c.loop-end.end c.index-in-loop-end.result.now b
     c.index-in-loop-end.ensures)
-    (subst (λ x. Adds x c.index-in-loop-end.result.now.value c.loop-end.next c.push.new.self) is
+    (subst (λ x. AppendsNumber x c.index-in-loop-end.result.now.value c.loop-end.next c.push.new.self) is
     c.push.ensures)
 
 pub returns-clause-copied : goal.returns-clause-copied
@@ -74,7 +74,7 @@ push-requires-clause-above c =
     let b = row_place row c.len-end-end.result c.loop-end.end c.len-end-end.ensures
     c.loop-end-test.true in
     let is = column_is row c.loop-end.end c.index.result.now b c.index.ensures in
-    subst (λ x. IsBelow x (row_columns c.loop-end.next)) (sym is)
+    subst (λ x. AreColumnsBelow x (row_columns c.loop-end.next)) (sym is)
     (copy_above row c.args.i c.args.column c.args.next.now c.loop-end.next c.loop-end.end
     c.loop-end.invariant b (subst (λ x. x < c.args.column) is c.if-next_column-column.false))
 

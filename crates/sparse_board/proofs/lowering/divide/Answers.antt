@@ -1,6 +1,6 @@
 use Rattle.std.proofs.Common.{subst, sym, ◌∙◌, ◌<◌}
 use Rattle.tableau_core.specs.LoweringLaws.{is_ok-err}
-use Rattle.sparse_board.specs.Numbers.{Adds, width_of}
+use Rattle.sparse_board.specs.Numbers.{AppendsNumber, width_of}
 use Rattle.sparse_board.proofs.LoweringSteps.{divided_all, divided_fit, divided_more, divided_none, divided_refused}
 use Rattle.sparse_board.proofs.RowSteps.{column_is, row_end, row_place, value_is}
 use Rattle.sparse_board.proofs.lowering.divide.Goals as goal
@@ -29,7 +29,7 @@ loop-k-preserved c =
     c.index-entry.result.now.value (value_is c.args.row.now c.loop-k.k c.index-entry.result.now
     b c.index-entry.ensures) c.in_ok-quotient.quotient c.push_any.new.self
     c.in_ok-quotient.ensures.exact.0.1 c.in_ok-quotient.ensures.exact.1
-    (subst (λ x. Adds x c.in_ok-quotient.quotient c.loop-k.next c.push_any.new.self) is
+    (subst (λ x. AppendsNumber x c.in_ok-quotient.quotient c.loop-k.next c.push_any.new.self) is
     c.push_any.ensures)
 
 pub returns-clause-fits : goal.returns-clause-fits

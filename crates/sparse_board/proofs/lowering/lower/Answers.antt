@@ -4,7 +4,7 @@ use Rattle.ratio_core.specs.Rational.{◌*ℚ◌, ◌-ℚ◌}
 use Rattle.simplex_form.specs.Fit.{lowered_fits}
 use Rattle.tableau_core.specs.LoweringLaws.{is_ok-err}
 use Rattle.sparse_board.specs.declared.entry.Entry.{Entry}
-use Rattle.sparse_board.specs.Sparse.{IsSplit, columns_in, values_in}
+use Rattle.sparse_board.specs.Sparse.{AreColumnsSplit, columns_in, values_in}
 use Rattle.sparse_board.specs.Numbers.{CopiesTo, number_of, row_columns}
 use Rattle.sparse_board.proofs.LoweringSteps.{lowered_all, lowered_fit, lowered_more, lowered_none, lowered_refused}
 use Rattle.sparse_board.proofs.RowSteps.{column_of, value_of}
@@ -46,7 +46,7 @@ loop-k-preserved c =
     c.in_ok-i.ensures.width
     (subst (λ x. lowered_fits (number_of row x) c.args.by.now unit.value ≡ true) at
     (sym c.in_ok-i.ensures.fits))
-    (subst (λ x. IsSplit (x + 1) c.in_ok-i.i (row_columns row)) at c.in_ok-i.ensures.split)
+    (subst (λ x. AreColumnsSplit (x + 1) c.in_ok-i.i (row_columns row)) at c.in_ok-i.ensures.split)
     (subst (λ x. CopiesTo row c.loop-k.i x (number_of row x -ℚ c.args.by.now *ℚ unit.value)
     c.loop-k.next c.lower_at.new.next) at c.in_ok-i.ensures.copied)
 

@@ -1,6 +1,6 @@
 use Rattle.std.proofs.Common.{◌<◌, ◌≡◌, Some, ap, slice_index_or, subst, sym, ◌∙◌}
 use Rattle.ratio_core.specs.Rational.{◌/ℚ◌}
-use Rattle.tableau_core.specs.Numbers.{quotients_fit}
+use Rattle.tableau_core.specs.BoardNumbers.{quotients_fit}
 use Rattle.sparse_board.specs.Mixed as mixed
 use Rattle.sparse_board.specs.Rows.{now_at, numbers, width_at}
 use Rattle.sparse_board.proofs.RowSteps.{on_ok_then}

@@ -1,7 +1,7 @@
 use Rattle.std.proofs.Common.{◌≡◌, ◌<◌, arith, false, subst, sym, true, ◌∙◌}
-use Rattle.tableau_core.specs.Numbers.{quotients_fit}
+use Rattle.tableau_core.specs.BoardNumbers.{quotients_fit}
 use Rattle.tableau_core.specs.TestLaws.{costs-decide, others-refused}
-use Rattle.sparse_board.specs.Marking.{AreMarked}
+use Rattle.sparse_board.specs.Marking.{AreNumbersMarked}
 use Rattle.sparse_board.specs.Mixed.{units_of, width_of}
 use Rattle.sparse_board.specs.Rows.{number_in_row, numbers_in, rows_fit}
 use Rattle.sparse_board.proofs.TestSteps.{left_fails, refused_on, test_same}
@@ -61,7 +61,7 @@ prepare_rows-requires-clause-count c =
 
 pub prepare_rows-requires-clause-marked : goal.prepare_rows-requires-clause-marked
 prepare_rows-requires-clause-marked c =
-    subst (λ n. AreMarked n c.unmark_zeros-has_wide.new.marks c.args.rows.now)
+    subst (λ n. AreNumbersMarked n c.unmark_zeros-has_wide.new.marks c.args.rows.now)
     (sym c.in_ok-divide_row.ensures.width)
     (c.unmark_zeros-has_wide.ensures.marked c.args.step.now.width c.requires.marked)
 

@@ -1,7 +1,7 @@
 use Rattle.std.proofs.Common.{◌<◌, ◌≡◌, ◌∙◌, ap, arith, slice_index_or, subst, sym}
 use Rattle.sparse_board.specs.Mixed.{units_of}
 use Rattle.sparse_board.specs.Mixed as mixed
-use Rattle.sparse_board.specs.Rows.{AreWide, width_at}
+use Rattle.sparse_board.specs.Rows.{AreSparseRowsWide, width_at}
 use Rattle.sparse_board.proofs.MarkingSteps.{marked_after}
 use Rattle.sparse_board.proofs.PivotSteps.{settled-all, settled-wide}
 use Rattle.sparse_board.proofs.RowsSteps.{row_is}
@@ -29,7 +29,7 @@ returns-clause-settled c = λ w long first second.
     settled-all c.args.rows.now c.settle_rows.new.rows c.args.r step c.exchange.new.self
     c.settle_rows.auto.rows c.requires.row
     w c.args.q c.args.costs.now c.settle.new.self
-    (subst (λ n. AreWide n c.args.rows.now) long c.requires.wide) long c.args.marks.now
+    (subst (λ n. AreSparseRowsWide n c.args.rows.now) long c.requires.wide) long c.args.marks.now
     c.requires.ready
     (λ j b. c.exchange.ensures.now j (subst (λ n. j < n) (sym (row_width c ∙ long)) b))
     c.settle_rows.ensures.lowered first second

@@ -1,5 +1,5 @@
 use Rattle.std.proofs.Common.{◌+◌, ◌<◌, ◌≤◌, arith, length, subst, sym}
-use Rattle.sparse_board.specs.Lowering.{IsReady}
+use Rattle.sparse_board.specs.Lowering.{IsMixedReady}
 use Rattle.sparse_board.proofs.RowsSteps.{AreChangedTo, changed-all, changed-more, changed-none, changed-past, changed-pivot, prepared_read}
 use Rattle.sparse_board.proofs.rows.ready_rows.Goals as goal
 use Rattle.sparse_board.proofs.rows.ready_rows.Goals.{then-i-r, else-i-r}
@@ -10,8 +10,8 @@ loop-i-init c =
     let before = c.args.rows.now in
     let to = c.next_row-i.result in
     record {
-      changed = changed-past (IsReady c.args.q step) c.args.r c.args.q c.args.marks.now before before 0 to
-          (changed-none (IsReady c.args.q step) c.args.r c.args.q c.args.marks.now before) (omega arith)
+      changed = changed-past (IsMixedReady c.args.q step) c.args.r c.args.q c.args.marks.now before before 0 to
+          (changed-none (IsMixedReady c.args.q step) c.args.r c.args.q c.args.marks.now before) (omega arith)
           (subst (λ n. to ≤ n) c.requires.count c.next_row-i.ensures.within)
           c.next_row-i.ensures.passed;
       here = λ b. c.next_row-i.ensures.marked (subst (λ n. to < n) (sym c.requires.count) b);
@@ -22,7 +22,7 @@ ready-requires c =
     let step = c.args.step.now in
     let below : c.loop-i.i < length c.args.rows.now =
     subst (λ n. c.loop-i.i < n) c.loop-i.invariant.changed.long c.loop-i-test.true in
-    prepared_read (IsReady c.args.q step) c.args.r c.args.q step c.args.marks.now c.args.rows.now c.loop-i.rows c.loop-i.i
+    prepared_read (IsMixedReady c.args.q step) c.args.r c.args.q step c.args.marks.now c.args.rows.now c.loop-i.rows c.loop-i.i
     c.index-rows-i.result c.loop-i.invariant.changed below c.if-i-r.true
     (c.loop-i.invariant.here below) c.requires.ready
 
@@ -48,22 +48,22 @@ loop-i-preserved c =
     let to = c.next_row-i-in-loop-i.result in
     let below : i < length before =
     subst (λ n. i < n) c.loop-i.invariant.changed.long c.loop-i-test.true in
-    let here : AreChangedTo (IsReady c.args.q step) c.args.r c.args.q marks before c.if-i-r.rows (i + 1) =
+    let here : AreChangedTo (IsMixedReady c.args.q step) c.args.r c.args.q marks before c.if-i-r.rows (i + 1) =
     elim c.if-i-r.branch [
       | then-i-r k ↦
-          subst (λ rows. AreChangedTo (IsReady c.args.q step) c.args.r c.args.q marks before rows (i + 1))
+          subst (λ rows. AreChangedTo (IsMixedReady c.args.q step) c.args.r c.args.q marks before rows (i + 1))
           (sym k.rows-is)
-          (changed-more (IsReady c.args.q step) c.args.r c.args.q marks before c.loop-i.rows i
+          (changed-more (IsMixedReady c.args.q step) c.args.r c.args.q marks before c.loop-i.rows i
           k.index-rows-i.result k.ready.new.self c.loop-i.invariant.changed below k.if-i-r.true
           (c.loop-i.invariant.here below) k.ready.ensures)
       | else-i-r k ↦
-          subst (λ rows. AreChangedTo (IsReady c.args.q step) c.args.r c.args.q marks before rows (i + 1))
+          subst (λ rows. AreChangedTo (IsMixedReady c.args.q step) c.args.r c.args.q marks before rows (i + 1))
           (sym k.rows-is)
-          (changed-pivot (IsReady c.args.q step) c.args.r c.args.q marks before c.loop-i.rows i
+          (changed-pivot (IsMixedReady c.args.q step) c.args.r c.args.q marks before c.loop-i.rows i
           c.loop-i.invariant.changed below k.if-i-r.false)
     ] in
     record {
-      changed = changed-past (IsReady c.args.q step) c.args.r c.args.q marks before c.if-i-r.rows (i + 1) to here
+      changed = changed-past (IsMixedReady c.args.q step) c.args.r c.args.q marks before c.if-i-r.rows (i + 1) to here
           c.next_row-i-in-loop-i.ensures.from
           (subst (λ n. to ≤ n) c.requires.count c.next_row-i-in-loop-i.ensures.within)
           c.next_row-i-in-loop-i.ensures.passed;
@@ -73,6 +73,6 @@ loop-i-preserved c =
 
 pub returns : goal.returns
 returns c =
-    changed-all (IsReady c.args.q c.args.step.now) c.args.r c.args.q c.args.marks.now c.args.rows.now c.loop-i.rows
+    changed-all (IsMixedReady c.args.q c.args.step.now) c.args.r c.args.q c.args.marks.now c.args.rows.now c.loop-i.rows
     c.loop-i.i c.loop-i.invariant.changed
     (omega (arith, c.loop-i.invariant.changed.long, c.loop-i-test.false))

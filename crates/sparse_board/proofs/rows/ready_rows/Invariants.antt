@@ -1,12 +1,12 @@
 use Rattle.std.specs.Prelude.{◌≡◌, ◌-◌, ◌<◌, length, true}
-use Rattle.sparse_board.specs.Lowering.{IsReady}
+use Rattle.sparse_board.specs.Lowering.{IsMixedReady}
 use Rattle.sparse_board.specs.Marks.{has}
 use Rattle.sparse_board.proofs.RowsSteps.{AreChangedTo}
 use Rattle.sparse_board.proofs.rows.ready_rows.Given as goal
 
 abbrev pub invariant-loop-i : goal.invariant-loop-i
 invariant-loop-i l = record {
-  changed : AreChangedTo (IsReady l.q l.step) l.r l.q l.marks l.fn.rows l.rows l.i;
+  changed : AreChangedTo (IsMixedReady l.q l.step) l.r l.q l.marks l.fn.rows l.rows l.i;
   here : l.i < length l.fn.rows → has l.marks l.q l.i ≡ true;
 }
 

@@ -1,6 +1,6 @@
 use Rattle.std.proofs.Common.{rules, sym, subst, ap, arith, ◌∙◌, ◌≡◌, ◌+◌, ◌-◌, ◌<◌, ◌≤◌, ℕ, length, drop, take, slice_index_or}
 use Rattle.ratio_core.specs.Rational.{zero_ℚ}
-use Rattle.sparse_ratios.specs.Terms.{AreTerms, HaveNoZeros, IsSplit, number_at, numbers_of}
+use Rattle.sparse_ratios.specs.Terms.{AreTerms, AreTermsSplit, HaveNoZeros, number_at, numbers_of}
 use Rattle.sparse_ratios.specs.TermLaws.{nonzero_taken, number_taken, terms_taken}
 use Rattle.sparse_ratios.proofs.ratios.below.Goals as goal
 

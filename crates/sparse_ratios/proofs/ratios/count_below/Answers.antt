@@ -1,6 +1,6 @@
 use Rattle.std.proofs.Common.{rules, sym, subst, ap, arith, ◌∙◌, ◌≡◌, ◌+◌, ◌-◌, ◌<◌, ◌≤◌, ℕ, length, drop, take, slice_index_or}
 use Rattle.ratio_core.specs.Rational.{zero_ℚ}
-use Rattle.sparse_ratios.specs.Terms.{AreTerms, HaveNoZeros, IsSplit, number_at, numbers_of}
+use Rattle.sparse_ratios.specs.Terms.{AreTerms, AreTermsSplit, HaveNoZeros, number_at, numbers_of}
 use Rattle.std.proofs.Common.{nat_lt, of_calls}
 use Rattle.std.proofs.lemmas.Bool.{lt-ltb, ltb-false, ltb-true}
 use Rattle.std.proofs.lemmas.Fn.{always_returns_same}

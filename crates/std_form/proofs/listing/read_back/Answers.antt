@@ -7,14 +7,14 @@ use Rattle.simplex_core.specs.Answer.{IsRightAnswer}
 use Rattle.simplex_core.specs.StdForm.{equality_form}
 use Rattle.std_form.specs.Answers.{answer_of, read_by_index}
 use Rattle.std_form.specs.Indexed.{form_of}
-use Rattle.std_form.specs.Listed.{Listed}
+use Rattle.std_form.specs.ListedLeaves.{ListedLeaves}
 use Rattle.std_form.specs.Readable.{IsReadable}
 use Rattle.std_form.specs.Told.{TellsAnswer}
 use Rattle.std_form.proofs.listing.read_back.Goals as goal
 
 pub read_back-requires : goal.read_back-requires
 read_back-requires c =
-    c.requires ∙ ap (λ (l : Listed). form_of l.map l.leaves) (sym c.in_ok-listing.ensures)
+    c.requires ∙ ap (λ (l : ListedLeaves). form_of l.map l.leaves) (sym c.in_ok-listing.ensures)
 
 pub returns : goal.returns
 returns c =
@@ -23,11 +23,11 @@ returns c =
     let a = c.args.a.now in
     let r = c.read_back.result in
     record {
-      by_index = subst (λ (l : Listed). IfOk r (λ answer.
+      by_index = subst (λ (l : ListedLeaves). IfOk r (λ answer.
           answer ≡ read_by_index l.map l.leaves form.flips a)) is c.read_back.ensures.by_index;
-      told = subst (λ (l : Listed). (at : Address)
+      told = subst (λ (l : ListedLeaves). (at : Address)
           → TellsAnswer l.map (read_through l.map l.leaves at) a r) is c.read_back.ensures.told;
-      right = subst (λ (l : Listed). (at : Address) → IsReadable l.map l.leaves
+      right = subst (λ (l : ListedLeaves). (at : Address) → IsReadable l.map l.leaves
           → IsRightAnswer (equality_form form) a → IfOk r (λ answer.
           IsRight (read_through l.map l.leaves at) (answer_of l.map answer))) is
           c.read_back.ensures.right;

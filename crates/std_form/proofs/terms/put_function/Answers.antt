@@ -2,7 +2,7 @@ use Rattle.std.specs.Prelude.{OnOk}
 use Rattle.std.proofs.Common.{ap, subst, sym, [], ◌∷◌, ◌≡◌, ◌∙◌}
 use Rattle.ratio_core.specs.Rational.{zero_ℚ}
 use Rattle.sparse_ratios.specs.Terms.{number_at}
-use Rattle.sparse_lists.specs.Across.{ArePutAcross, Rise}
+use Rattle.sparse_lists.specs.Across.{ArePutAcross, PlacesRise}
 use Rattle.sparse_lists.specs.GrowthLaws.{put_same}
 use Rattle.aff_core.specs.Function.{coefficient, terms_of}
 use Rattle.equality_form.specs.Equations.{flipped}
@@ -14,7 +14,7 @@ use Rattle.std_form.proofs.terms.put_function.Goals as goal
 
 pub put_across-requires-in-Affine-clause-rise : goal.put_across-requires-in-Affine-clause-rise
 put_across-requires-in-Affine-clause-rise c =
-    subst Rise (sym c.terms.ensures.all)
+    subst PlacesRise (sym c.terms.ensures.all)
     (terms_rise (terms_of c.in-Affine.f.now) c.terms.ensures.rising)
 
 pub returns-in-Zero : goal.returns-in-Zero

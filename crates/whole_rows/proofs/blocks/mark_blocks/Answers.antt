@@ -1,5 +1,5 @@
 use Rattle.std.proofs.Common.{◌∙◌, ap, length, subst, sym}
-use Rattle.whole_rows.specs.Blocks.{Covers}
+use Rattle.whole_rows.specs.Blocks.{BlocksCover}
 use Rattle.whole_rows.proofs.BlockSteps.{column_block, joins_cover, joins_keep, marked_covers}
 use Rattle.whole_rows.proofs.blocks.mark_blocks.Goals as goal
 
@@ -26,4 +26,4 @@ returns-clause-covers c =
     let row = c.args.row.now in
     joins_cover c.deref.result.now c.args.blocks.now c.join_blocks.new.blocks c.join_blocks.ensures
     (ap length c.deref.ensures.value ∙ c.requires.long) row.numbers.items
-    (subst (λ l. Covers l row.numbers.items) (sym c.deref.ensures.value) row.covers)
+    (subst (λ l. BlocksCover l row.numbers.items) (sym c.deref.ensures.value) row.covers)

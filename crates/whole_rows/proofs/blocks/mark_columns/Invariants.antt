@@ -1,5 +1,5 @@
-use Rattle.whole_rows.specs.Blocks.{AreMarked}
+use Rattle.whole_rows.specs.Blocks.{AreBlocksMarked}
 use Rattle.whole_rows.proofs.blocks.mark_columns.Given as goal
 
 abbrev pub invariant-loop-k : goal.invariant-loop-k
-invariant-loop-k l = AreMarked l.columns l.k l.fn.blocks l.blocks
+invariant-loop-k l = AreBlocksMarked l.columns l.k l.fn.blocks l.blocks

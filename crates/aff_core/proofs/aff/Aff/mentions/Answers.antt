@@ -4,10 +4,10 @@ use Rattle.std.specs.FinMap.{contains_key}
 use Rattle.ratio_core.specs.Rational.{zero_ℚ}
 use Rattle.aff_core.specs.Address.{Address}
 use Rattle.aff_core.specs.Function.{Function}
-use Rattle.aff_core.specs.Kept.{IsPlaceOf, IsAbsent}
+use Rattle.aff_core.specs.Kept.{IsTermPlace, IsAbsent}
 use Rattle.aff_core.proofs.aff.Aff.mentions.Goals as goal
 
-is_ok-place : (f : Function) (at : Address) (r : Result ℕ ℕ) → IfOk r (IsPlaceOf f at)
+is_ok-place : (f : Function) (at : Address) (r : Result ℕ ℕ) → IfOk r (IsTermPlace f at)
     → OnErr r (IsAbsent f at) → is_ok r ≡ contains_key f.terms at
 is_ok-place f at (Ok n) h k = sym (ap is_some (h.found (at, zero_ℚ)))
 is_ok-place f at (Err n) h k = sym (ap is_some k.absent)

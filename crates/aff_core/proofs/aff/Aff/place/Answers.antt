@@ -5,7 +5,7 @@ use Rattle.std.specs.List.Sorted.{IsBinarySearchResult, IsSearchInRange}
 use Rattle.std.proofs.lemmas.Fn.{always_returns_same}
 use Rattle.aff_core.specs.Address.{Address, address_cmp, address_total}
 use Rattle.aff_core.specs.Function.{Function, terms_of}
-use Rattle.aff_core.specs.Kept.{IsPlaceOf, IsAbsent}
+use Rattle.aff_core.specs.Kept.{IsTermPlace, IsAbsent}
 use Rattle.aff_core.proofs.Changed.{span_found}
 use Rattle.map_laws.specs.EntryLaws.{searched}
 use Rattle.aff_core.proofs.aff.Aff.place.Goals as goal
@@ -14,7 +14,7 @@ use Rattle.aff_core.proofs.aff.Aff.place.Goals.{After-binary_search_by}
 -- what a search among the terms finds
 placed : (f : Function) (at : Address) (r : Result ℕ ℕ) → IsSearchInRange r (length (terms_of f))
     → IsBinarySearchResult (λ t. address_cmp t.0 at) (terms_of f) r
-    → IfOk r (IsPlaceOf f at) × OnErr r (IsAbsent f at)
+    → IfOk r (IsTermPlace f at) × OnErr r (IsAbsent f at)
 placed f at (Ok n) range found = (
   record {
     in_range = range;

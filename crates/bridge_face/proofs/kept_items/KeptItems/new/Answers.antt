@@ -1,5 +1,5 @@
 use Rattle.std.proofs.Common.{sym, subst}
-use Rattle.bridge_face.specs.State.{AllKept}
+use Rattle.bridge_face.specs.BridgeState.{AllKept}
 use Rattle.bridge_face.proofs.KeptLemmas.{kept_none}
 use Rattle.bridge_face.proofs.kept_items.KeptItems.new.Goals as goal
 

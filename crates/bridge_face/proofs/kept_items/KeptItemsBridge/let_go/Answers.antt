@@ -1,5 +1,5 @@
 use Rattle.std.proofs.Common.{sym, subst}
-use Rattle.bridge_face.specs.State.{AllKept}
+use Rattle.bridge_face.specs.BridgeState.{AllKept}
 use Rattle.bridge_face.proofs.KeptLemmas.{kept_removed}
 use Rattle.bridge_face.proofs.kept_items.KeptItemsBridge.let_go.Goals as goal
 

@@ -4,7 +4,7 @@ use Rattle.std.specs.Prelude.{IfSome, Option, is_some}
 use Rattle.std.specs.Option.{option_copied}
 use Rattle.std.specs.FinMap as finite
 use Rattle.bridge_face.specs.declared.kept_item.KeptItem.{KeptItem}
-use Rattle.bridge_face.specs.State.{kept_item}
+use Rattle.bridge_face.specs.BridgeState.{kept_item}
 use Rattle.bridge_face.proofs.kept_map.KeptMap.replace.Goals as goal
 use Rattle.bridge_face.proofs.kept_map.KeptMap.replace.Goals.{After-replace}
 

@@ -1,6 +1,6 @@
 use Rattle.std.proofs.Common.{◌≡◌, ◌≤◌, ◌+◌, List, ◌++◌, IsTrue, length, map, drop, take, arith, sym, ap, subst, ◌∙◌}
 use Rattle.std.proofs.lemmas.Result.{on_err_weaker, on_ok_weaker}
-use Rattle.bridge_face.specs.State.{State, given, tried}
+use Rattle.bridge_face.specs.BridgeState.{BridgeState, given, tried}
 use Rattle.item_core.specs.Edge.{family_of}
 use Rattle.bridge_set.specs.Bridges.{Bridges, at_family, families_of, occur_once}
 use Rattle.bridge_set.specs.Turns.{turns_of}
@@ -42,7 +42,7 @@ returns-clause-ok g c =
     let v = c.self.inside.bridges in
     let new = c.keep_by.new.bridges in
     let family = family_of c.args.node.edge in
-    let change = λ (s : State). given s c.args.node in
+    let change = λ (s : BridgeState). given s c.args.node in
     let same = ap length c.deref_mut.ensures.value in
     let back = items_back v.len new v.items (omega (arith, same, c.keep_by.auto.bridges))
     (omega (arith, v.ok.0)) in
@@ -83,5 +83,5 @@ returns-clause-turns g c =
     (omega (arith, v.ok.0)) in
     let was : map state c.deref_mut.result.now ≡ c.args.self.now.states =
     ap (map state) c.deref_mut.ensures.value ∙ ap (λ (b : Bridges). b.states) c.self.view_is in
-    subst (λ (p : List State × List State). turns_of p.0 ≤ turns_of p.1 + 1)
+    subst (λ (p : List BridgeState × List BridgeState). turns_of p.0 ≤ turns_of p.1 + 1)
     (λ i. (sym (ap (map state) back) i, was i)) c.keep_by.ensures.turns

@@ -1,5 +1,5 @@
 use Rattle.std.proofs.Common.{◌≡◌, ◌++◌, List, length, map, drop, take, arith, sym, ap, subst, ◌∙◌}
-use Rattle.bridge_face.specs.State.{State}
+use Rattle.bridge_face.specs.BridgeState.{BridgeState}
 use Rattle.bridge_set.specs.Bridges.{Bridges, families_of}
 use Rattle.bridge_set.specs.Letting.{AreReleased}
 use Rattle.bridge_set.proofs.Made.{items_back, sound_still}
@@ -21,7 +21,7 @@ released g c =
     (omega (arith, v.ok.0)) in
     let was : map state c.deref_mut.result.now ≡ c.args.self.now.states =
     ap (map state) c.deref_mut.ensures.value ∙ ap (λ (b : Bridges). b.states) c.self.view_is in
-    subst (λ (p : List State × List State). AreReleased c.args.found.now p.0 p.1)
+    subst (λ (p : List BridgeState × List BridgeState). AreReleased c.args.found.now p.0 p.1)
     (λ i. (was i, sym (ap (map state) back) i)) c.let_found_go_by.ensures
 
 pub invariant_of-self : goal.invariant_of-self

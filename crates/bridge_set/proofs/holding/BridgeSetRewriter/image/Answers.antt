@@ -3,7 +3,7 @@ use Rattle.std.specs.List.{list_any}
 use Rattle.ratio_core.specs.Answers.{ExactWhere}
 use Rattle.ratio_core.specs.AnsweredLaws.{exact_as}
 use Rattle.bridge_face.specs.ImageOf.{ImageFits, image_of}
-use Rattle.bridge_face.specs.State.{State, tried}
+use Rattle.bridge_face.specs.BridgeState.{BridgeState, tried}
 use Rattle.bridge_plan.specs.Means.{AreSound}
 use Rattle.item_core.specs.declared.edge.Edge.{Edge}
 use Rattle.item_core.specs.Edge.{family_eq, family_of}
@@ -41,7 +41,7 @@ invariant_of-self g c =
     sound_still c.self.inside.table c.self.inside.choices (map state v.items)
     (map state (take v.len (new ++ drop (length new) v.items))) c.self.inside.graph
     (ap (λ bs. families_of (map state bs)) back
-    ∙ same_after (λ (s : State). s.family) (family_of c.edge_of.result) tried
+    ∙ same_after (λ (s : BridgeState). s.family) (family_of c.edge_of.result) tried
     (map state c.deref_mut.result.now) (map state new) (λ s. refl) c.image_by.ensures.states
     ∙ ap (λ bs. families_of (map state bs)) c.deref_mut.ensures.value)
     c.self.invariant
@@ -71,9 +71,9 @@ returns-clause-means g c =
     (omega (arith, v.ok.0)) in
     ap (λ bs. means_of (bridges_of t cs (map state bs))) back
     ∙ means_same t cs (map state old) (map state new)
-    (same_after (λ (s : State). s.family) (family_of c.edge_of.result) tried
+    (same_after (λ (s : BridgeState). s.family) (family_of c.edge_of.result) tried
     (map state old) (map state new) (λ s. refl) c.image_by.ensures.states)
-    (same_after (λ (s : State). (s.family, s.kept)) (family_of c.edge_of.result) tried
+    (same_after (λ (s : BridgeState). (s.family, s.kept)) (family_of c.edge_of.result) tried
     (map state old) (map state new) (λ s. refl) c.image_by.ensures.states)
     ∙ ap (λ bs. means_of (bridges_of t cs (map state bs))) c.deref_mut.ensures.value
     ∙ ap means_of c.self.view_is
@@ -88,7 +88,7 @@ returns-clause-turns g c =
     (omega (arith, v.ok.0)) in
     let was : map state c.deref_mut.result.now ≡ c.args.self.now.states =
     ap (map state) c.deref_mut.ensures.value ∙ ap (λ (b : Bridges). b.states) c.self.view_is in
-    subst (λ (p : List State × List State). turns_of p.0 ≤ turns_of p.1 + 1)
+    subst (λ (p : List BridgeState × List BridgeState). turns_of p.0 ≤ turns_of p.1 + 1)
     (λ i. (sym (ap (map state) back) i, was i))
     (turns_changed (family_of c.edge_of.result) tried (λ s. one_turn s s.kept)
     (map state c.deref_mut.result.now) (map state new) c.image_by.ensures.states)

@@ -7,7 +7,7 @@ use Rattle.bridge_face.specs.ImageOf.{ImageFits}
 use Rattle.bridge_face.specs.Images.{function_of_body}
 use Rattle.bridges_norm.specs.BothLaws.{others_of}
 use Rattle.bridge_face.specs.FamilyLaws.{source_is}
-use Rattle.bridges_norm.specs.NormOneLaws.{BoundsFit, bounded_row, fits_made, image_made, others_count, rule}
+use Rattle.bridges_norm.specs.NormOneLaws.{NormOneRowsFit, bounded_row, fits_made, image_made, others_count, rule}
 use Rattle.bridges_norm.proofs.norm_one.NormOneRuleRewriting.image.Goals as goal
 
 pub bounded-requires-clause-cone : goal.bounded-requires-clause-cone
@@ -28,7 +28,7 @@ bounded-requires-clause-count c =
 
 pub returns : goal.returns
 returns c = (
-  subst (λ T. T) (ap (λ vs. BoundsFit (function_of_body c.args.item.now.body)
+  subst (λ T. T) (ap (λ vs. NormOneRowsFit (function_of_body c.args.item.now.body)
       (others_of c.args.item.now.body) (variables vs)) c.as_slice.ensures
       ∙ fits_made c.args._edge c.requires.own c.args.item.now c.requires.suits
       (c.component_count-count.result - 1) c.in_ok-vars.vars
@@ -49,10 +49,10 @@ returns c = (
 pub returns-in_err-row : goal.returns-in_err-row
 returns-in_err-row c =
     passed_on c.from_residual-in_err-row.result c.in_err-row.field-0.0
-    (BoundsFit (function_of_body c.args.item.now.body) (others_of c.args.item.now.body)
+    (NormOneRowsFit (function_of_body c.args.item.now.body) (others_of c.args.item.now.body)
     (variables c.as_slice.result.now)) (ImageFits c.args._edge c.args.item.now) _ _
     c.from_residual-in_err-row.ensures.1 c.in_err-row.ensures
-    (λ h. subst (λ T. T) (sym (ap (λ vs. BoundsFit (function_of_body c.args.item.now.body)
+    (λ h. subst (λ T. T) (sym (ap (λ vs. NormOneRowsFit (function_of_body c.args.item.now.body)
     (others_of c.args.item.now.body) (variables vs)) c.as_slice.ensures
     ∙ fits_made c.args._edge c.requires.own c.args.item.now c.requires.suits
     (c.component_count-count.result - 1) c.in_ok-vars.vars

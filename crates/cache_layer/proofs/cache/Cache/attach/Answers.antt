@@ -1,6 +1,6 @@
 use Rattle.std.proofs.Common.{subst, sym}
-use Rattle.small_numbers.specs.SmallNumbers.{HasSmallNumbers}
-use Rattle.cache_layer.specs.Cached.{Cached, Stands, model_in}
+use Rattle.small_number_laws.specs.SmallNumbers.{HasSmallNumbers}
+use Rattle.cache_layer.specs.Cached.{Cached, StandsAttached, model_in}
 use Rattle.cache_layer.proofs.Editing.{attach_answer, attach_done, never_attached, still_in_step}
 use Rattle.cache_layer.proofs.FewSteps.{attach_few}
 use Rattle.cache_layer.specs.FewCalls.{AttachesFew}
@@ -9,7 +9,7 @@ use Rattle.cache_layer.proofs.cache.Cache.attach.Goals as goal
 
 pub fill-requires : goal.fill-requires
 fill-requires g c =
-    subst (λ b. Stands b c.self.inside.lazy c.self.inside.user.model) c.if-self.false
+    subst (λ b. StandsAttached b c.self.inside.lazy c.self.inside.user.model) c.if-self.false
     c.self.invariant.stands
 
 pub invariant_of-self : goal.invariant_of-self

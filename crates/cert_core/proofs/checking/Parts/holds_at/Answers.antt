@@ -3,7 +3,7 @@ use Rattle.ratio_core.specs.AnsweredLaws.{passed_on}
 use Rattle.aff_core.specs.Points.{spread}
 use Rattle.cert_core.specs.Checked.{model_of}
 use Rattle.cert_core.specs.Folds.{PointFits}
-use Rattle.cert_core.specs.Holding.{HoldsAt}
+use Rattle.cert_core.specs.Holding.{ModelHoldsAt}
 use Rattle.cert_core.specs.Points.{numbers_in}
 use Rattle.cert_core.specs.Readings.{one_of}
 use Rattle.certificates.specs.Points.{all_addresses}
@@ -19,7 +19,7 @@ returns-in_err-rows c = λ next.
     let one = one_of c.args.reading in
     let model = model_of groups rows c.args.self.now.objective.now next in
     passed_on c.from_residual.result c.in_err-rows.field-0.0 _ (PointFits model one x)
-    (λ holds. IsTrue holds ↔ HoldsAt model one x) _ c.from_residual.ensures.1
+    (λ holds. IsTrue holds ↔ ModelHoldsAt model one x) _ c.from_residual.ensures.1
     (rows_told groups c.args.self.now.variables c.requires.ready.variables x
     (numbers_in c.new-at.result) c.new-at.ensures (Err c.in_err-rows.field-0.0) rows one
     c.in_err-rows.ensures) (λ fits. fits.rows)
@@ -35,7 +35,7 @@ returns-in_err-groups c = λ next.
     let x_is = numbers_of_model groups rows c.args.self.now.variables x c.requires.ready
     c.requires.size in
     passed_on c.from_residual-in_err-groups.result c.in_err-groups.field-0.0 _
-    (PointFits model one x) (λ holds. IsTrue holds ↔ HoldsAt model one x) _
+    (PointFits model one x) (λ holds. IsTrue holds ↔ ModelHoldsAt model one x) _
     c.from_residual-in_err-groups.ensures.1 (c.in_err-groups.ensures point x_is)
     (λ fits. fits.groups)
 

@@ -1,6 +1,6 @@
 -- The draws before the line are made at once.
 use Rattle.std.proofs.Common.{◌<◌, ap, arith}
-use Rattle.generated_script.specs.Numbers.{Numbers}
+use Rattle.generated_script.specs.ScriptNumbers.{ScriptNumbers}
 use Rattle.generated_script.specs.Parts.{line_count}
 use Rattle.generated_script.proofs.Moving.{line_is, starts_at}
 use Rattle.generated_script.proofs.numbers.Recipe.line.Goals as goal
@@ -14,6 +14,6 @@ returns c =
     c.part_at-part.ensures.value
     (starts_at c.args.self c.args.k c.part_at-part.result c.draws_before.result
     c.self.inside.seed c.after-generator.result.state c.part_at-part.ensures.value
-    c.draws_before.ensures (ap (λ (n : Numbers). n.seed) c.self.view_is)
+    c.draws_before.ensures (ap (λ (n : ScriptNumbers). n.seed) c.self.view_is)
     c.after-generator.ensures)
     c.new-line.ensures.items c.in_ok-push_line.ensures.text c.from_vec.ensures

@@ -1,12 +1,12 @@
 use Rattle.std.proofs.Common.{sym, ap, subst, ◌∙◌}
 use Rattle.numbered_list.specs.Numbered.{find}
-use Rattle.item_map.specs.ItemLists.{HasRoom, IsSetAt, item_number, items_of}
+use Rattle.item_map.specs.ItemLists.{HasRoomAt, IsSetAt, item_number, items_of}
 use Rattle.item_map.proofs.RootLaws.{set_variables, set_groups, set_rows, set_objectives}
 use Rattle.item_map.proofs.roots.ByRoot.exchange.Goals as goal
 
 pub exchange-requires-clause-room : goal.exchange-requires-clause-room
 exchange-requires-clause-room g c = λ some.
-    subst (λ r. HasRoom c.args.self.now r c.args.number) c.in-Variable.is (c.requires.room some)
+    subst (λ r. HasRoomAt c.args.self.now r c.args.number) c.in-Variable.is (c.requires.room some)
 
 pub returns-in-Variable-clause-before : goal.returns-in-Variable-clause-before
 returns-in-Variable-clause-before g c =
@@ -22,7 +22,7 @@ returns-in-Variable-clause-set g c =
 
 pub exchange-requires-in-Group-clause-room : goal.exchange-requires-in-Group-clause-room
 exchange-requires-in-Group-clause-room g c = λ some.
-    subst (λ r. HasRoom c.args.self.now r c.args.number) c.in-Group.is (c.requires.room some)
+    subst (λ r. HasRoomAt c.args.self.now r c.args.number) c.in-Group.is (c.requires.room some)
 
 pub returns-in-Group-clause-before : goal.returns-in-Group-clause-before
 returns-in-Group-clause-before g c =
@@ -38,7 +38,7 @@ returns-in-Group-clause-set g c =
 
 pub exchange-requires-in-Row-clause-room : goal.exchange-requires-in-Row-clause-room
 exchange-requires-in-Row-clause-room g c = λ some.
-    subst (λ r. HasRoom c.args.self.now r c.args.number) c.in-Row.is (c.requires.room some)
+    subst (λ r. HasRoomAt c.args.self.now r c.args.number) c.in-Row.is (c.requires.room some)
 
 pub returns-in-Row-clause-before : goal.returns-in-Row-clause-before
 returns-in-Row-clause-before g c =
@@ -54,7 +54,7 @@ returns-in-Row-clause-set g c =
 
 pub exchange-requires-in-Objective-clause-room : goal.exchange-requires-in-Objective-clause-room
 exchange-requires-in-Objective-clause-room g c = λ some.
-    subst (λ r. HasRoom c.args.self.now r c.args.number) c.in-Objective.is (c.requires.room some)
+    subst (λ r. HasRoomAt c.args.self.now r c.args.number) c.in-Objective.is (c.requires.room some)
 
 pub returns-in-Objective-clause-before : goal.returns-in-Objective-clause-before
 returns-in-Objective-clause-before g c =

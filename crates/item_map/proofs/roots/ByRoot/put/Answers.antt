@@ -1,6 +1,6 @@
 use Rattle.std.proofs.Common.{sym, subst, ◌∙◌}
 use Rattle.numbered_list.specs.Numbered.{IsAt}
-use Rattle.item_map.specs.ItemLists.{HasRoom, IsItemWith, IsSetAt, item_number}
+use Rattle.item_map.specs.ItemLists.{HasRoomAt, IsItemWith, IsSetAt, item_number}
 use Rattle.item_map.proofs.ChangeLaws.{put_changed, put_order, put_room}
 use Rattle.item_map.proofs.roots.ByRoot.put.Goals as goal
 use Rattle.item_map.proofs.roots.ByRoot.put.Goals.{After-exchange}
@@ -12,8 +12,8 @@ exchange-requires-clause-own g c =
 
 pub exchange-requires-clause-room : goal.exchange-requires-clause-room
 exchange-requires-clause-room g c = λ some.
-    subst (λ r. HasRoom c.args.self.now r c.number-2.result) (sym c.kind.ensures)
-    (subst (λ n. HasRoom c.args.self.now c.args.at.now.root n) (sym c.number-2.ensures)
+    subst (λ r. HasRoomAt c.args.self.now r c.number-2.result) (sym c.kind.ensures)
+    (subst (λ n. HasRoomAt c.args.self.now c.args.at.now.root n) (sym c.number-2.ensures)
     c.requires.room)
 
 with : (g : _) (c : After-exchange g)

@@ -1,7 +1,7 @@
 use Rattle.std.proofs.Common.{◌≡◌, subst, sym}
 use Rattle.std.specs.Prelude.{All, IsTrue}
 use Rattle.std.specs.FinMap as finite
-use Rattle.bridge_face.specs.State.{State}
+use Rattle.bridge_face.specs.BridgeState.{BridgeState}
 use Rattle.lazy_bridge.proofs.Empty.{names_none}
 use Rattle.lazy_bridge.specs.Native.{supports_native}
 use Rattle.lazy_bridge.proofs.lazy.Lazy.new.Goals as goal
@@ -20,6 +20,6 @@ returns-clause-nothing g c = record {
   exprs = c.requires.exprs;
   noted = c.requires.noted;
   marks = c.requires.marks;
-  kept = subst (All (λ (s : State). s.kept ≡ finite.empty)) (sym c.new.ensures.states)
+  kept = subst (All (λ (s : BridgeState). s.kept ≡ finite.empty)) (sym c.new.ensures.states)
       c.requires.kept;
 }

@@ -1,6 +1,6 @@
 use Rattle.std.proofs.Common.{arith, ap, map, subst, ◌∙◌}
 use Rattle.bridge_set.specs.Bridges.{keeping}
-use Rattle.leaf_model.specs.LeafModel.{IsChanged}
+use Rattle.leaf_model.specs.LeafModel.{IsChangeCount}
 use Rattle.lazy_bridge.specs.Few.{ChangesFew}
 use Rattle.lazy_bridge.specs.Owned.{Owned, leaf_model_in}
 use Rattle.lazy_bridge.proofs.lazy.Lazy.put.Goals as goal
@@ -26,7 +26,7 @@ returns-in-Ok-clause-holds g c =
       },
       (
         c.in-Ok.changed,
-        subst (λ (o : Owned). IsChanged (leaf_model_in o) (leaf_model_in new) c.in-Ok.changed)
+        subst (λ (o : Owned). IsChangeCount (leaf_model_in o) (leaf_model_in new) c.in-Ok.changed)
             c.self.view_is changed.counted,
         c.capped.ensures,
       ),

@@ -2,7 +2,7 @@ use Rattle.std.proofs.Common.{◌≡◌, sym, ap, subst, ◌∙◌}
 use Rattle.user_model.specs.Model.{ModelValue}
 use Rattle.user_model.specs.Undone.{before}
 use Rattle.user_model.specs.Valid.{HasValidParts}
-use Rattle.model_store.specs.Store.{Stored}
+use Rattle.model_store.specs.Store.{StoredModel}
 use Rattle.model_store.proofs.RoomLaws.{entry_room, entry_taken, exchange_of, parked_less}
 use Rattle.model_store.proofs.store.UserModel.take_back.Goals as goal
 
@@ -24,7 +24,7 @@ pub invariant_of-self : goal.invariant_of-self
 invariant_of-self c =
     let model : c.exchange.new.self.model ≡ before c.args.self.now.model c.args.undo =
     c.exchange.ensures.model ∙ (ap (before c.self.inside.catalog.model) c.from.ensures ∙ ap
-    (λ (s : Stored). before s.model c.args.undo) c.self.view_is) in
+    (λ (s : StoredModel). before s.model c.args.undo) c.self.view_is) in
     record {
       room = parked_less c.self.inside c.self.invariant c.take_last.new.parked.items
           c.take_last.result c.take_last.ensures.last c.take_last.new.names

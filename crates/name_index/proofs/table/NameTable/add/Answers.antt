@@ -3,7 +3,7 @@ use Rattle.std.specs.FinMap as map
 use Rattle.std.specs.Str.{bytes_eq}
 use Rattle.indexmap.specs.IndexSet.{insert_key}
 use Rattle.indexmap.proofs.CallerLemmas.{insert_entry-new}
-use Rattle.name_index.specs.NameTable.{IsFree}
+use Rattle.name_index.specs.NameTable.{IsNumberFree}
 use Rattle.name_index.proofs.TableLemmas.{numbers_of, get-numbers_of, add_in_step, numbers-add, one_to_one}
 use Rattle.name_index.proofs.table.NameTable.add.Goals as goal
 
@@ -15,7 +15,7 @@ invariant_of-self-in-Ok c =
     let es = c.self.inside.numbers.entries in
     let name_free : map.get (numbers_of es) c.args.name ≡ None =
     rw (← c.self.view_is) at c.requires.name_free in
-    let id_free : IsFree (numbers_of es) c.args.id = rw (← c.self.view_is) at c.requires.id_free in
+    let id_free : IsNumberFree (numbers_of es) c.args.id = rw (← c.self.view_is) at c.requires.id_free in
     let absent = sym (get-numbers_of es c.args.name) ∙ name_free in
     let entries = c.in-Ok.ensures.entries ∙ insert_entry-new bytes_eq c.self.inside.numbers
     c.args.name c.args.id absent in

@@ -1,6 +1,6 @@
 use Rattle.std.proofs.Common.{ap, sym, ◌∙◌}
 use Rattle.simplex_form.specs.Turns.{entering}
-use Rattle.tableau_core.specs.Contents.{prices_of, readings_of}
+use Rattle.tableau_core.specs.BoardContents.{prices_of, readings_of}
 use Rattle.sparse_board.proofs.BoardSteps.{first_entering, second_entering}
 use Rattle.sparse_board.proofs.board.BoardTableau.entering.Goals as goal
 

@@ -2,8 +2,8 @@ use Rattle.std.proofs.Common.{◌+◌, ◌≡◌, ◌∙◌, ap, length, subst, 
 use Rattle.simplex_form.specs.Search.{best_below}
 use Rattle.sparse_board.specs.Kept.{columns_of}
 use Rattle.sparse_board.specs.Leaving.{leaves_before, may_leave}
-use Rattle.sparse_board.specs.Marking.{AreMarked}
-use Rattle.sparse_board.specs.Rows.{AreWide}
+use Rattle.sparse_board.specs.Marking.{AreNumbersMarked}
+use Rattle.sparse_board.specs.Rows.{AreSparseRowsWide}
 use Rattle.sparse_board.proofs.BoardSteps.{column_within, leaving_is, leaving_row, vec_count}
 use Rattle.sparse_board.proofs.board.BoardTableau.leaving.Goals as goal
 use Rattle.sparse_board.proofs.board.BoardTableau.leaving.Goals.{After-deref-2}
@@ -14,8 +14,8 @@ side_is c =
 
 pub leaving-requires-clause-wide : goal.leaving-requires-clause-wide
 leaving-requires-clause-wide c =
-    subst (λ l. AreWide (c.self.inside.reals + c.len.result + 1) l) (sym c.deref.ensures.value)
-    (subst (λ n. AreWide (n + 1) c.self.inside.rows.items)
+    subst (λ l. AreSparseRowsWide (c.self.inside.reals + c.len.result + 1) l) (sym c.deref.ensures.value)
+    (subst (λ n. AreSparseRowsWide (n + 1) c.self.inside.rows.items)
     (sym (side_is (goal.at.leaving-requires-clause-wide c).After-deref-2)) c.self.invariant.wide)
 
 pub leaving-requires-clause-columns : goal.leaving-requires-clause-columns
@@ -30,8 +30,8 @@ leaving-requires-clause-count c =
 pub leaving-requires-clause-marked : goal.leaving-requires-clause-marked
 leaving-requires-clause-marked c =
     let a = c.self.inside in
-    subst (AreMarked (a.reals + c.len.result + 1) a.marks) (sym c.deref.ensures.value)
-    (subst (λ n. AreMarked (n + 1) a.marks a.rows.items)
+    subst (AreNumbersMarked (a.reals + c.len.result + 1) a.marks) (sym c.deref.ensures.value)
+    (subst (λ n. AreNumbersMarked (n + 1) a.marks a.rows.items)
     (sym (side_is (goal.at.leaving-requires-clause-marked c).After-deref-2))
     c.self.invariant.marked)
 

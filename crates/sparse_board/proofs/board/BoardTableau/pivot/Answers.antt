@@ -2,10 +2,10 @@ use Rattle.std.proofs.Common.{◌+◌, ◌∙◌, ap, arith, length, refl, subst
 use Rattle.std.proofs.lemmas.List.{length-set, with_items_is}
 use Rattle.std.specs.Vec.{with_item, with_items}
 use Rattle.sparse_board.proofs.TestSteps.{barred}
-use Rattle.tableau_core.specs.Numbers.{IsSettled, numbers_fit}
+use Rattle.tableau_core.specs.BoardNumbers.{IsSettled, numbers_fit}
 use Rattle.sparse_board.specs.Mixed.{width_of}
-use Rattle.sparse_board.specs.Rows.{AreWide, now_at, number_in_row, numbers_in}
-use Rattle.sparse_board.specs.Marking.{AreMarked}
+use Rattle.sparse_board.specs.Rows.{AreSparseRowsWide, now_at, number_in_row, numbers_in}
+use Rattle.sparse_board.specs.Marking.{AreNumbersMarked}
 use Rattle.sparse_board.specs.Kept.{columns_of}
 use Rattle.tableau_core.specs.KeptLaws.{refused}
 use Rattle.sparse_board.proofs.MarkingSteps.{sizes_more}
@@ -27,8 +27,8 @@ prepare_pivot-requires-clause-column c =
 
 pub prepare_pivot-requires-clause-wide : goal.prepare_pivot-requires-clause-wide
 prepare_pivot-requires-clause-wide c =
-    subst (λ n. AreWide n c.deref_mut.result.now) (sym c.self.invariant.spare)
-    (subst (AreWide (columns_of c.self.inside + 1)) (sym c.deref_mut.ensures.value)
+    subst (λ n. AreSparseRowsWide n c.deref_mut.result.now) (sym c.self.invariant.spare)
+    (subst (AreSparseRowsWide (columns_of c.self.inside + 1)) (sym c.deref_mut.ensures.value)
     c.self.invariant.wide)
 
 pub prepare_pivot-requires-clause-columns : goal.prepare_pivot-requires-clause-columns
@@ -42,17 +42,17 @@ prepare_pivot-requires-clause-count c =
 pub prepare_pivot-requires-clause-marked : goal.prepare_pivot-requires-clause-marked
 prepare_pivot-requires-clause-marked c =
     let a = c.self.inside in
-    subst (λ n. AreMarked n a.marks c.deref_mut.result.now) (sym c.self.invariant.spare)
-    (subst (AreMarked (columns_of a + 1) a.marks) (sym c.deref_mut.ensures.value)
+    subst (λ n. AreNumbersMarked n a.marks c.deref_mut.result.now) (sym c.self.invariant.spare)
+    (subst (AreNumbersMarked (columns_of a + 1) a.marks) (sym c.deref_mut.ensures.value)
     c.self.invariant.marked)
 
 -- the marks that are left, of the rows as they stood
 left_marked : (c : After-prepare_pivot)
-    → AreMarked (columns_of c.self.inside + 1) c.prepare_pivot.new.marks c.self.inside.rows.items
+    → AreNumbersMarked (columns_of c.self.inside + 1) c.prepare_pivot.new.marks c.self.inside.rows.items
 left_marked c =
-    subst (AreMarked (columns_of c.self.inside + 1) c.prepare_pivot.new.marks)
+    subst (AreNumbersMarked (columns_of c.self.inside + 1) c.prepare_pivot.new.marks)
     c.deref_mut.ensures.value
-    (subst (λ n. AreMarked n c.prepare_pivot.new.marks c.deref_mut.result.now)
+    (subst (λ n. AreNumbersMarked n c.prepare_pivot.new.marks c.deref_mut.result.now)
     c.self.invariant.spare c.prepare_pivot.ensures.marked)
 
 pub returns-in_err-prepare_pivot-clause-overflow : goal.returns-in_err-prepare_pivot-clause-overflow
@@ -114,7 +114,7 @@ settle_pivot-requires-clause-wide c =
     let a = c.self.inside in
     let rows = c.deref_mut-2.ensures.value ∙ with_items_is a.rows c.prepare_pivot.new.rows
     (c.prepare_pivot.auto.rows ∙ c.deref_mut.ensures.len) in
-    subst (λ n. AreWide n c.deref_mut-2.result.now) (sym (c.prepare_pivot.ensures.step_wide
+    subst (λ n. AreSparseRowsWide n c.deref_mut-2.result.now) (sym (c.prepare_pivot.ensures.step_wide
     ∙ c.self.invariant.spare))
     (wide_after a.rows.items c.deref_mut-2.result.now (columns_of a + 1) (ap length rows
     ∙ c.prepare_pivot.auto.rows ∙ ap length c.deref_mut.ensures.value)
@@ -139,7 +139,7 @@ settle_pivot-requires-clause-marked c =
     let a = c.self.inside in
     let rows = c.deref_mut-2.ensures.value ∙ with_items_is a.rows c.prepare_pivot.new.rows
     (c.prepare_pivot.auto.rows ∙ c.deref_mut.ensures.len) in
-    subst (λ n. AreMarked n c.prepare_pivot.new.marks c.deref_mut-2.result.now)
+    subst (λ n. AreNumbersMarked n c.prepare_pivot.new.marks c.deref_mut-2.result.now)
     (sym (c.prepare_pivot.ensures.step_wide ∙ c.self.invariant.spare))
     (marked_same (columns_of a + 1) c.prepare_pivot.new.marks a.rows.items
     c.deref_mut-2.result.now
@@ -169,16 +169,16 @@ invariant_of-self-2 c =
     (c.settle_pivot.auto.rows ∙ c.deref_mut-2.ensures.len) in
     kept_after a _ refl (ap length last ∙ c.settle_pivot.auto.rows ∙ ap length rows
     ∙ c.prepare_pivot.auto.rows ∙ ap length c.deref_mut.ensures.value) c.self.invariant
-    (subst (AreWide (columns_of a + 1)) (sym last)
-    (subst (λ n. AreWide n settled.rows) wide c.settle_pivot.ensures.wide))
+    (subst (AreSparseRowsWide (columns_of a + 1)) (sym last)
+    (subst (λ n. AreSparseRowsWide n settled.rows) wide c.settle_pivot.ensures.wide))
     (c.settle_pivot.ensures.first_wide ∙ ap width_of c.prepare_pivot.ensures.first_stays)
     (c.settle_pivot.ensures.second_wide ∙ ap width_of c.prepare_pivot.ensures.second_stays)
     (c.settle_pivot.ensures.step_wide ∙ c.prepare_pivot.ensures.step_wide)
     (length-set a.basis.items c.args.r c.args.q)
     (sizes_more a.marks prepared.marks settled.marks c.prepare_pivot.ensures.sizes
     c.settle_pivot.ensures.sizes)
-    (subst (AreMarked (columns_of a + 1) settled.marks) (sym last)
-    (subst (λ n. AreMarked n settled.marks settled.rows) wide c.settle_pivot.ensures.marked))
+    (subst (AreNumbersMarked (columns_of a + 1) settled.marks) (sym last)
+    (subst (λ n. AreNumbersMarked n settled.marks settled.rows) wide c.settle_pivot.ensures.marked))
 
 pub returns-clause-board : goal.returns-clause-board
 returns-clause-board c =

@@ -1,5 +1,5 @@
 use Rattle.std.proofs.Common.{ap, sym, ◌∙◌}
-use Rattle.tableau_core.specs.Contents.{prices_of}
+use Rattle.tableau_core.specs.BoardContents.{prices_of}
 use Rattle.sparse_board.proofs.BoardSteps.{first_is, second_is}
 use Rattle.sparse_board.proofs.board.BoardTableau.price.Goals as goal
 

@@ -6,7 +6,7 @@ use Rattle.simplex_form.specs.Form.{Form, first_cost, second_cost}
 use Rattle.tableau_core.specs.KeptLaws.{started_read}
 use Rattle.tableau_core.specs.Start.{IsListOf, form_of}
 use Rattle.sparse_board.specs.declared.board.Board.TheInside.{Inside}
-use Rattle.sparse_board.specs.Marking.{AreMarked}
+use Rattle.sparse_board.specs.Marking.{AreNumbersMarked}
 use Rattle.sparse_board.specs.Kept.{contents_of}
 use Rattle.sparse_board.proofs.BoardSteps.{numbers_of, value_agrees}
 use Rattle.sparse_board.proofs.StartSteps.{costs_are, start-kept}
@@ -62,7 +62,7 @@ invariant_of-result c =
     (ap length c.in_ok-basis.ensures ∙ length-range_with_len c.args.c c.args.m)
     c.in_ok-marks.ensures.columns
     (c.in_ok-marks.ensures.rows ∙ ap length c.deref-3.ensures.value)
-    (subst (AreMarked (c.args.c + c.args.m + 1) c.in_ok-marks.marks) c.deref-3.ensures.value
+    (subst (AreNumbersMarked (c.args.c + c.args.m + 1) c.in_ok-marks.marks) c.deref-3.ensures.value
     c.in_ok-marks.ensures.marked)
 
 pub returns-clause-board : goal.returns-clause-board

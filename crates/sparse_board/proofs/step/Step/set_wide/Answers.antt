@@ -1,6 +1,6 @@
 use Rattle.std.proofs.Common.{ap, sym, ◌∙◌}
 use Rattle.ratio_core.specs.Rational.{◌/ℚ◌}
-use Rattle.tableau_core.specs.Numbers.{quotients_fit}
+use Rattle.tableau_core.specs.BoardNumbers.{quotients_fit}
 use Rattle.sparse_board.specs.Numbers.{number_of, width_of}
 use Rattle.sparse_board.proofs.TestSteps.{overflow_on}
 use Rattle.sparse_board.proofs.step.Step.set_wide.Goals as goal

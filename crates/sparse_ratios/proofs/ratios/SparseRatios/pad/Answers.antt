@@ -1,6 +1,6 @@
 use Rattle.std.proofs.Common.{rules, sym, subst, ap, arith, ◌∙◌, ◌≡◌, ◌+◌, ◌-◌, ◌<◌, ◌≤◌, ℕ, length, slice_index_or}
 use Rattle.ratio_core.specs.Rational.{zero_ℚ}
-use Rattle.sparse_ratios.specs.Terms.{AreTerms, HaveNoZeros, IsSplit, number_at, numbers_of}
+use Rattle.sparse_ratios.specs.Terms.{AreTerms, AreTermsSplit, HaveNoZeros, number_at, numbers_of}
 use Rattle.sparse_ratios.specs.TermLaws.{terms_wider}
 use Rattle.sparse_ratios.proofs.KeptSteps.{kept_below, kept_padded}
 use Rattle.sparse_ratios.proofs.ratios.SparseRatios.pad.Goals as goal

@@ -3,10 +3,10 @@ use Rattle.std.proofs.Common.{length, sym, ap, subst, ◌+◌, ◌∙◌, refl}
 use Rattle.std.proofs.lemmas.List.{with_items_is}
 use Rattle.std.specs.Vec.{with_item, with_items}
 use Rattle.std.proofs.lemmas.List.{length-set}
-use Rattle.tableau_core.specs.Places.{Covers}
+use Rattle.tableau_core.specs.Places.{CoversNonzeros}
 use Rattle.tableau_core.specs.Row.{AllFit}
 use Rattle.tableau_core.specs.Rows.{AreWide, now_at, numbers_in}
-use Rattle.tableau_core.specs.Numbers.{IsSettled, numbers_fit}
+use Rattle.tableau_core.specs.BoardNumbers.{IsSettled, numbers_fit}
 use Rattle.tableau_core.specs.Kept.{width_of}
 use Rattle.tableau_core.specs.Pivoting.{IsReady}
 use Rattle.tableau_core.specs.KeptLaws.{refused}
@@ -102,9 +102,9 @@ settle_pivot-requires-clause-covers c =
     ∙ c.deref_mut-2.ensures.len) in
     let places = c.deref.ensures.value ∙ with_items_is c.self.inside.places
     c.prepare_pivot.new.places (c.prepare_pivot.auto.places ∙ c.deref_mut-3.ensures.len) in
-    subst (λ l. Covers (take c.in_ok-used.used l)
+    subst (λ l. CoversNonzeros (take c.in_ok-used.used l)
     (with_items c.self.inside.step c.prepare_pivot.new.step).items) (sym places)
-    (subst (Covers (take c.in_ok-used.used c.prepare_pivot.new.places))
+    (subst (CoversNonzeros (take c.in_ok-used.used c.prepare_pivot.new.places))
     (sym step) c.in_ok-used.ensures.covers)
 
 pub invariant_of-self-2 : goal.invariant_of-self-2

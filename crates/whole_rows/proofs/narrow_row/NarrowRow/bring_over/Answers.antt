@@ -1,7 +1,7 @@
 use Rattle.std.proofs.Common.{◌∙◌, FitsSigned, ap, length, pos, refl, rules, subst, sym, w64}
 use Rattle.std.proofs.lemmas.Int.{to_z-of_z}
 use Rattle.std.proofs.lemmas.List.{with_items_is}
-use Rattle.whole_rows.specs.Blocks.{Covers}
+use Rattle.whole_rows.specs.Blocks.{BlocksCover}
 use Rattle.whole_rows.proofs.CoverSteps.{long_kept, scaled_covers}
 use Rattle.whole_rows.proofs.PlanSteps.{planned_above, planned_ready, planned_side, planned_small, scaled_within}
 use Rattle.whole_rows.proofs.narrow_row.NarrowRow.bring_over.Goals as goal
@@ -69,7 +69,7 @@ returns-clause-ready c =
     (c.scale_numbers.auto.numbers ∙ c.deref_mut.ensures.len))
     (to_z-of_z w64 c.multiplied-self.result result_fits ∙ c.multiplied-self.ensures) _ _ refl refl
     refl refl
-    (subst (λ l. Covers l c.args.step.now.numbers.items)
+    (subst (λ l. BlocksCover l c.args.step.now.numbers.items)
     (sym (with_items_is row.blocks c.mark_blocks.new.blocks
     (c.mark_blocks.auto.blocks ∙ c.deref_mut-2.ensures.len)))
     c.mark_blocks.ensures.covers) (to_z-of_z w64 c.in-Some.plan.by by_fits)

@@ -1,8 +1,8 @@
 use Rattle.std.proofs.Common.{◌∙◌, ◌<◌, ◌≤◌, FitsSigned, ap, length, rules, of_z, subst, subst₂, sym, to_z, unsigned_abs, w64}
 use Rattle.std.proofs.lemmas.Int.{to_z-of_z}
 use Rattle.std.proofs.lemmas.List.{with_items_is}
-use Rattle.whole_rows.specs.Blocks.{Covers}
-use Rattle.whole_rows.specs.Numerators.{AreWithin}
+use Rattle.whole_rows.specs.Blocks.{BlocksCover}
+use Rattle.whole_rows.specs.Numerators.{AreNumeratorsWithin}
 use Rattle.whole_rows.proofs.CoverSteps.{copied_numerators, long_kept}
 use Rattle.whole_rows.proofs.DivisionSteps.{from_item}
 use Rattle.whole_rows.specs.Rows.{numerator_of}
@@ -13,7 +13,7 @@ invariant_of-self-clause-within c =
     let row = c.args.row.now in
     let side = to_z w64 (of_z w64 c.numerator-self.result) in
     let side_fits : FitsSigned w64 c.numerator-self.result = search rules in
-    subst (λ xs. AreWithin row.bound xs side)
+    subst (λ xs. AreNumeratorsWithin row.bound xs side)
     (sym (with_items_is c.args.self.now.numbers c.copy_marked.new.numbers
     (c.copy_marked.auto.numbers ∙ c.deref_mut.ensures.len)))
     (record {
@@ -28,7 +28,7 @@ invariant_of-self-clause-within c =
 
 pub invariant_of-self-clause-covers : goal.invariant_of-self-clause-covers
 invariant_of-self-clause-covers c =
-    subst₂ Covers
+    subst₂ BlocksCover
     (sym (with_items_is c.args.self.now.blocks c.copy_marked.new.blocks
     (c.copy_marked.auto.blocks ∙ c.deref_mut-2.ensures.len)))
     (sym (with_items_is c.args.self.now.numbers c.copy_marked.new.numbers

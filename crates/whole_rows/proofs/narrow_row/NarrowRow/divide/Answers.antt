@@ -1,11 +1,11 @@
 use Rattle.std.proofs.Common.{◌<◌, ◌^◌, ◌∙◌, ◌*ℤ◌, ℕ, FitsSigned, ap, arith, length, pos, refl, rules, slice_index_or, subst, subst₂, sym, unsigned_abs, w64, to_z, of_z}
 use Rattle.std.proofs.lemmas.Int.{to_z-of_z}
 use Rattle.std.proofs.lemmas.List.{with_items_is}
-use Rattle.whole_rows.specs.Blocks.{Covers}
+use Rattle.whole_rows.specs.Blocks.{BlocksCover}
 use Rattle.whole_rows.proofs.BlockSteps.{column_block, listed_covers}
 use Rattle.whole_rows.proofs.CoverSteps.{long_kept}
 use Rattle.whole_rows.proofs.ListedDividingSteps.{lists_divided}
-use Rattle.whole_rows.specs.Listed.{Lists}
+use Rattle.whole_rows.specs.Listed.{ListsNonzeros}
 use Rattle.whole_rows.proofs.DivisionSteps.{at_item, division_divided, division_within, exact_items, exact_side, numerator_small, side_is_lem, side_of}
 use Rattle.whole_rows.proofs.narrow_row.NarrowRow.divide.Goals as goal
 use Rattle.whole_rows.proofs.narrow_row.NarrowRow.divide.Goals.{After-divide_numbers}
@@ -68,14 +68,15 @@ returns-clause-divided c =
     c.requires.nonzero _ refl refl refl
 
 -- the columns of the row that is divided are those listed
-lists_lem : (c : After-divide_numbers) → Lists c.args.columns.now c.divide_numbers.new.numbers
+lists_lem : (c : After-divide_numbers)
+    → ListsNonzeros c.args.columns.now c.divide_numbers.new.numbers
 lists_lem c =
     let by_fits : FitsSigned w64 c.division-division.result.by = search rules in
     lists_divided (to_z w64 (of_z w64 c.division-division.result.by)) c.args.columns.now
     c.deref_mut.result.now c.divide_numbers.new.numbers
     (λ z. c.division-division.ensures.nonzero
     (sym (to_z-of_z w64 c.division-division.result.by by_fits) ∙ z))
-    (subst (Lists c.args.columns.now) (sym c.deref_mut.ensures.value) c.requires.lists)
+    (subst (ListsNonzeros c.args.columns.now) (sym c.deref_mut.ensures.value) c.requires.lists)
     c.divide_numbers.ensures
 
 pub remark_blocks-requires : goal.remark_blocks-requires
@@ -87,7 +88,7 @@ remark_blocks-requires c = λ k b.
 pub invariant_of-self-clause-covers : goal.invariant_of-self-clause-covers
 invariant_of-self-clause-covers c =
     let row = c.args.self.now in
-    subst₂ Covers
+    subst₂ BlocksCover
     (sym (with_items_is row.blocks c.remark_blocks.new.blocks
     (c.remark_blocks.auto.blocks ∙ c.deref_mut-2.ensures.len)))
     (sym (with_items_is row.numbers c.divide_numbers.new.numbers
@@ -98,11 +99,11 @@ invariant_of-self-clause-covers c =
 
 pub divide_numbers-requires-clause-lists : goal.divide_numbers-requires-clause-lists
 divide_numbers-requires-clause-lists c =
-    subst (Lists c.args.columns.now) (sym c.deref_mut.ensures.value) c.requires.lists
+    subst (ListsNonzeros c.args.columns.now) (sym c.deref_mut.ensures.value) c.requires.lists
 
 pub returns-clause-lists : goal.returns-clause-lists
 returns-clause-lists c =
-    subst (Lists c.args.columns.now)
+    subst (ListsNonzeros c.args.columns.now)
     (sym (with_items_is c.args.self.now.numbers c.divide_numbers.new.numbers
     (c.divide_numbers.auto.numbers ∙ c.deref_mut.ensures.len)))
     (lists_lem (goal.at.returns-clause-lists c).After-divide_numbers)

@@ -2,7 +2,7 @@ use Rattle.std.proofs.Common.{◌∙◌, FitsSigned, ap, length, pos, ◌*ℤ◌
 use Rattle.std.proofs.lemmas.Int.{to_z-of_z}
 use Rattle.std.proofs.lemmas.List.{with_items_is}
 use Rattle.whole_rows.proofs.DivisionSteps.{side_is_lem}
-use Rattle.whole_rows.specs.Blocks.{Covers}
+use Rattle.whole_rows.specs.Blocks.{BlocksCover}
 use Rattle.whole_rows.proofs.CoverSteps.{long_kept, shrunk_covers}
 use Rattle.whole_rows.proofs.LongSteps.{common_small, long_above, long_fits, long_lowered, long_side_exact, long_side_small, long_within}
 use Rattle.whole_rows.proofs.narrow_row.NarrowRow.lower_long.Goals as goal
@@ -83,7 +83,7 @@ invariant_of-self-clause-covers c =
     (with_items_is c.args.self.now.blocks c.mark_blocks.new.blocks
     (c.mark_blocks.auto.blocks ∙ c.deref_mut-2.ensures.len))
     c.mark_blocks.ensures.kept
-    (subst (Covers c.mark_blocks.new.blocks) (sym c.deref.ensures.value)
+    (subst (BlocksCover c.mark_blocks.new.blocks) (sym c.deref.ensures.value)
     c.mark_blocks.ensures.covers)
     c.in-Some.plan.over _ c.in-Some.plan.common c.in-Some.ensures.divides.positive
     c.shrink_numbers.ensures

@@ -1,6 +1,6 @@
 use Rattle.std.proofs.Common.{FitsSigned, rules, subst, sym, w64}
 use Rattle.std.proofs.lemmas.Int.{to_z-of_z}
-use Rattle.whole_rows.specs.Rows.{CanLower, IsReady}
+use Rattle.whole_rows.specs.Rows.{CanLower, IsNarrowReady}
 use Rattle.whole_rows.proofs.OnceSteps.{ready_lowered}
 use Rattle.whole_rows.proofs.narrow_row.NarrowRow.lower_short.Goals as goal
 
@@ -15,6 +15,6 @@ returns-clause-lowered c t =
     let by_fits : FitsSigned w64 c.in-Some.by = search rules in
     ready_lowered c.args.q c.args.step.now.row c.args.self.now c.bring_over.new.self
     c.lower_by.new.self _
-    (subst (IsReady c.args.q c.args.step.now.row c.args.self.now c.bring_over.new.self)
+    (subst (IsNarrowReady c.args.q c.args.step.now.row c.args.self.now c.bring_over.new.self)
     (sym (to_z-of_z w64 c.in-Some.by by_fits)) c.in-Some.ensures.ready)
     c.lower_by.ensures.width c.lower_by.ensures.numbers
