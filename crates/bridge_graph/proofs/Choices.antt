@@ -1,10 +1,10 @@
 -- The choice and the cost that a plan gives.
 use Rattle.std.proofs.Common.{◌≡◌, ℕ, zero, suc, ◌+◌, ◌≤◌, ◌<◌, ◌↔◌, List, Contains, IsNone, IfSome, refl, sym, subst, arith}
-use Rattle.bridge_graph.specs.declared.settling.Plan.{Plan}
-use Rattle.bridge_graph.specs.declared.settling.Plan.TheVariants.{Open, Native, By}
+use Rattle.bridge_graph.specs.declared.settling.KindPlan.{KindPlan}
+use Rattle.bridge_graph.specs.declared.settling.KindPlan.TheVariants.{Open, Native, By}
 use Rattle.bridge_graph.specs.Hypergraph.{Hypergraph, children_of, IsSupported, IsCostly}
 use Rattle.bridge_graph.specs.Tree.{Tree, native, by, TreeBy, via, Trees, none, each, IsTreeless, IsLeastCost, BeginsLeast, IsFirstEdge, CostsLess, LeadsBelow}
-use Rattle.bridge_graph.specs.Plan.{IsLeastPlan, IsGraphSolved, plan_at, cost_of}
+use Rattle.bridge_graph.specs.KindPlan.{IsLeastPlan, IsGraphSolved, plan_at, cost_of}
 
 -- a tree that begins with an edge isn't free
 costs_something : {graph : Hypergraph} {edge kind cost : ℕ} → IsCostly graph
@@ -31,13 +31,13 @@ same_first {graph} {kind} {edge} {other} {cost} best (cost', best') =
     let down = best'.lowest edge (subst (TreeBy graph edge kind) (sym same) best.tree) in
     omega arith
 
-pub no_cost : (graph : Hypergraph) (kind : ℕ) (plan : Plan) → IsLeastPlan graph kind plan
+pub no_cost : (graph : Hypergraph) (kind : ℕ) (plan : KindPlan) → IsLeastPlan graph kind plan
     → IsNone (cost_of plan) ↔ IsTreeless graph kind
 no_cost graph kind Open is = (λ _. is, λ _. refl)
 no_cost graph kind Native is = (λ e. absurd (cc), λ no. absurd (no 0 (native is)))
 no_cost graph kind (By edge cost) is = (λ e. absurd (cc), λ no. absurd (no cost (by is.tree)))
 
-pub least_cost : (graph : Hypergraph) (kind : ℕ) (plan : Plan) → IsLeastPlan graph kind plan
+pub least_cost : (graph : Hypergraph) (kind : ℕ) (plan : KindPlan) → IsLeastPlan graph kind plan
     → IfSome (cost_of plan) (IsLeastCost graph kind)
 least_cost graph kind Open is = tt
 least_cost graph kind Native is = record { tree = native is; least = λ other tree. omega arith }
@@ -58,7 +58,7 @@ child_tree graph (each {kind} {cost} {others} {kinds} tree trees) child (suc k, 
     (less, found, omega arith)
 
 -- a kind that has a tree has a least cost, which is at most that tree's
-least_below : (graph : Hypergraph) (kind cost limit : ℕ) (plan : Plan) → IsLeastPlan graph kind plan
+least_below : (graph : Hypergraph) (kind cost limit : ℕ) (plan : KindPlan) → IsLeastPlan graph kind plan
     → Tree graph kind cost → cost < limit → CostsLess graph limit kind
 least_below graph kind cost limit Open treeless tree below = absurd (treeless cost tree)
 least_below graph kind cost limit Native is tree below =
@@ -67,7 +67,7 @@ least_below graph kind cost limit (By edge c) is tree below =
     let h = is.least cost tree in
     record { cost = c; is_least = least_cost graph kind (By edge c) is; less = omega arith }
 
-children_below : (graph : Hypergraph) {plans : List Plan} {edge kind cost : ℕ}
+children_below : (graph : Hypergraph) {plans : List KindPlan} {edge kind cost : ℕ}
     → IsGraphSolved graph plans → TreeBy graph edge kind cost → LeadsBelow graph edge cost
 unfolding ChildTree
 children_below graph {plans} solved (via {edge} {cost} {children} {row = used} usable trees) row is
@@ -80,7 +80,7 @@ children_below graph {plans} solved (via {edge} {cost} {children} {row = used} u
     (omega arith)
 
 -- each child of an edge that begins a least-cost tree costs less than the kind
-pub leads_below : (graph : Hypergraph) {plans : List Plan} {edge kind found cost : ℕ}
+pub leads_below : (graph : Hypergraph) {plans : List KindPlan} {edge kind found cost : ℕ}
     → IsGraphSolved graph plans → BeginsLeast graph kind edge found → IsLeastCost graph kind cost
     → LeadsBelow graph edge cost
 leads_below graph {plans} {edge} {kind} {found} {cost} solved best least =

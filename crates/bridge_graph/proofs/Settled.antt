@@ -10,21 +10,21 @@ use Rattle.std.proofs.Math.ListN.{length-set}
 use Rattle.std.proofs.lemmas.List.Sums.{sum_by-set, count_by-le-length}
 use Rattle.map_laws.specs.EachLaws.{all_at}
 use Rattle.bridge_graph.specs.declared.EdgeRow.{EdgeRow}
-use Rattle.bridge_graph.specs.declared.settling.Plan.{Plan}
-use Rattle.bridge_graph.specs.declared.settling.Plan.TheVariants.{Open, Native, By}
+use Rattle.bridge_graph.specs.declared.settling.KindPlan.{KindPlan}
+use Rattle.bridge_graph.specs.declared.settling.KindPlan.TheVariants.{Open, Native, By}
 use Rattle.bridge_graph.specs.declared.settling.Step.{Step}
 use Rattle.bridge_graph.specs.Hypergraph.{Hypergraph, children_of, IsCostly, is_edge_cost, has_kinds_below}
-use Rattle.bridge_graph.specs.Plan.{plan_at, cost_of, ArePlansWithin, start_at, IsLeastPlan}
+use Rattle.bridge_graph.specs.KindPlan.{plan_at, cost_of, ArePlansWithin, start_at, IsLeastPlan}
 use Rattle.bridge_graph.specs.Candidate.{with_children, IsCheapest}
 use Rattle.bridge_graph.proofs.Trees.{IsPlanSoFar, IsSettling, IsStep, open_tree, best_of_step}
 
-abbrev pub is_open : Plan → Bool
+abbrev pub is_open : KindPlan → Bool
 is_open Open = true
 is_open Native = false
 is_open (By edge cost) = false
 
 -- how many kinds are open
-abbrev pub open_count : List Plan → ℕ
+abbrev pub open_count : List KindPlan → ℕ
 open_count plans = count_by is_open plans
 
 -- what n settled kinds cost at most
@@ -50,7 +50,7 @@ same_or_other : (a b : ℕ) → (a ≡ b) ⊎ (a ≢ b)
 same_or_other a b = elim (eqb_tells a b) [ inl (_, e) ↦ inl e | inr (_, ne) ↦ inr ne ]
 
 -- a fact for each plan, after one plan is set
-at_set : (P : ℕ → Plan → Type 0) (plans : List Plan) (kind : ℕ) (plan : Plan) → kind < length plans
+at_set : (P : ℕ → KindPlan → Type 0) (plans : List KindPlan) (kind : ℕ) (plan : KindPlan) → kind < length plans
     → P kind plan → ((other : ℕ) → other ≢ kind → P other (plan_at plans other)) → (other : ℕ)
     → P other (plan_at (slice_set plans kind plan) other)
 at_set P plans kind plan within here others other = elim (same_or_other other kind) [
@@ -60,7 +60,7 @@ at_set P plans kind plan within here others other = elim (same_or_other other ki
       (others other ne)
 ]
 
-pub settle_one : {graph : Hypergraph} {plans : List Plan} {step : Step} → IsSettling graph plans
+pub settle_one : {graph : Hypergraph} {plans : List KindPlan} {step : Step} → IsSettling graph plans
     → IsCostly graph → IsCheapest graph.edges graph.costs graph.on plans step
     → step.kind < length plans
     → IsSettling graph (slice_set plans step.kind (By step.edge step.cost))
@@ -74,16 +74,16 @@ settle_one {graph} {plans} {step} settling costly cheapest within = record {
       (best_of_step settling costly cheapest) (λ other ne. settling.plan other);
 }
 
-pub open_count-set : (plans : List Plan) (kind edge cost : ℕ) → kind < length plans
+pub open_count-set : (plans : List KindPlan) (kind edge cost : ℕ) → kind < length plans
     → plan_at plans kind ≡ Open → open_count (slice_set plans kind (By edge cost)) + 1
     ≡ open_count plans
 open_count-set plans kind edge cost within unsettled =
-    let f : Plan → ℕ = λ plan. if is_open plan then 1 else 0 in
+    let f : KindPlan → ℕ = λ plan. if is_open plan then 1 else 0 in
     let e = sum_by-set f plans kind (By edge cost) Open within in
     let one : f (plan_at plans kind) ≡ 1 = ap f unsettled in
     omega (arith, e, one)
 
-total_within : (plans : List Plan) (limit : ℕ) → ArePlansWithin plans limit
+total_within : (plans : List KindPlan) (limit : ℕ) → ArePlansWithin plans limit
     → (kinds : List ℕ) (total sum : ℕ) → with_children plans total kinds ≡ Some sum
     → sum ≤ total + length kinds * limit
 total_within plans limit within [] total sum e =
@@ -115,7 +115,7 @@ three_at_most : (cost children limit : ℕ) → cost ≤ 1000 → children ≤ 3
     → cost + children * limit ≤ 3 * limit + 1000
 three_at_most cost children limit small few = grind arith
 
-pub within_set : (graph : Hypergraph) {plans : List Plan} {step : Step} (n : ℕ)
+pub within_set : (graph : Hypergraph) {plans : List KindPlan} {step : Step} (n : ℕ)
     → ArePlansWithin plans (limit_of n) → IsStep graph plans step → step.kind < length plans
     → IsTrue (list_all (has_kinds_below (length plans)) graph.edges)
     → IsTrue (list_all is_edge_cost graph.costs)
@@ -138,7 +138,7 @@ within_set graph {plans} {step} n within c kind rows costs =
     (By step.edge step.cost) kind here
     (λ other ne. let was = within other in rw add-one (omega (arith, was)))
 
-pub within_step : (graph : Hypergraph) {plans : List Plan} {step : Step}
+pub within_step : (graph : Hypergraph) {plans : List KindPlan} {step : Step}
     → ArePlansWithin plans (limit_of (length plans - open_count plans)) → IsStep graph plans step
     → step.kind < length plans → IsTrue (list_all (has_kinds_below (length plans)) graph.edges)
     → IsTrue (list_all is_edge_cost graph.costs)
@@ -146,7 +146,7 @@ pub within_step : (graph : Hypergraph) {plans : List Plan} {step : Step}
     (limit_of (length (slice_set plans step.kind (By step.edge step.cost)) - open_count
     (slice_set plans step.kind (By step.edge step.cost))))
 within_step graph {plans} {step} within c kind rows costs =
-    let after : List Plan = slice_set plans step.kind (By step.edge step.cost) in
+    let after : List KindPlan = slice_set plans step.kind (By step.edge step.cost) in
     let one_less = open_count-set plans step.kind step.edge step.cost kind c.is_open in
     let at_most = count_by-le-length is_open after in
     let at_most_before = count_by-le-length is_open plans in
@@ -157,8 +157,8 @@ within_step graph {plans} {step} within c kind rows costs =
     within c kind rows costs)
 
 -- where there is no step, an open kind has no tree
-all_settled : (graph : Hypergraph) (plans : List Plan) (kind : ℕ) → IsSettling graph plans
-    → ((step : Step) → IsStep graph plans step → ⊥) → (plan : Plan) → plan_at plans kind ≡ plan
+all_settled : (graph : Hypergraph) (plans : List KindPlan) (kind : ℕ) → IsSettling graph plans
+    → ((step : Step) → IsStep graph plans step → ⊥) → (plan : KindPlan) → plan_at plans kind ≡ plan
     → IsPlanSoFar graph kind plan → IsLeastPlan graph kind plan
 all_settled graph plans kind settling no_step Open is right =
     λ cost tree. let h : suc cost ≤ cost = open_tree graph plans (suc cost) settling (λ step c.
@@ -166,7 +166,7 @@ all_settled graph plans kind settling no_step Open is right =
 all_settled graph plans kind settling no_step Native is right = right
 all_settled graph plans kind settling no_step (By edge cost) is right = right
 
-pub settled : {graph : Hypergraph} {plans : List Plan} → IsSettling graph plans
+pub settled : {graph : Hypergraph} {plans : List KindPlan} → IsSettling graph plans
     → ((step : Step) → IsStep graph plans step → ⊥) → (kind : ℕ)
     → IsLeastPlan graph kind (plan_at plans kind)
 settled {graph} {plans} settling no_step kind =
@@ -178,7 +178,7 @@ start_plan graph kind None e = tt
 start_plan graph kind (Some true) e = e
 start_plan graph kind (Some false) e = tt
 
-pub starts : {graph : Hypergraph} {plans : List Plan}
+pub starts : {graph : Hypergraph} {plans : List KindPlan}
     → ((kind : ℕ) → plan_at plans kind ≡ start_at graph.supported kind) → IsSettling graph plans
 starts {graph} {plans} start = record {
   native = λ kind supported. start kind ∙ ap (λ b. if b then Native else Open)
@@ -192,7 +192,7 @@ free : (b : Bool) (limit : ℕ) → unwrap_or (cost_of (if b then Native else Op
 free true limit = omega arith
 free false limit = omega arith
 
-pub starts_within : (supported : List Bool) (plans : List Plan) (limit : ℕ)
+pub starts_within : (supported : List Bool) (plans : List KindPlan) (limit : ℕ)
     → ((kind : ℕ) → plan_at plans kind ≡ start_at supported kind) → ArePlansWithin plans limit
 starts_within supported plans limit start kind =
     subst (λ plan. unwrap_or (cost_of plan) 0 ≤ limit) (sym (start kind))

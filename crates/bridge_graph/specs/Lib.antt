@@ -1,4 +1,4 @@
 pub mod Hypergraph
 pub mod Tree
-pub mod Plan
+pub mod KindPlan
 pub mod Candidate

@@ -11,7 +11,7 @@ ghost use Rattle.std.specs.List.{list_all};
 
 mod settling;
 
-use settling::{Plan, settle};
+use settling::{KindPlan, settle};
 use std::marker::Model;
 
 /// An edge: the kind that it rewrites, and the first `count` of `children`, the kinds that it leads
@@ -43,12 +43,12 @@ pub struct Graph<const K: usize, const E: usize> {
     costs: [u32; E],
     supported: [bool; K],
     on: [bool; E],
-    plans: [Plan; K],
+    plans: [KindPlan; K],
 }
 
 impl<const K: usize, const E: usize> Model for Graph<K, E> {
     ghost use Rattle.bridge_graph.specs.Hypergraph.{Hypergraph, hypergraph_of};
-    ghost use Rattle.bridge_graph.specs.Plan.{IsGraphSolved};
+    ghost use Rattle.bridge_graph.specs.KindPlan.{IsGraphSolved};
 
     ghost Value = { Hypergraph };
 
@@ -61,7 +61,7 @@ impl<const K: usize, const E: usize> Graph<K, E> {
     ghost use Rattle.bridge_graph.specs.Hypergraph.{hypergraph_of, has_kinds_below, is_edge_cost};
     ghost use Rattle.bridge_graph.specs.Hypergraph.{IsSupported};
     ghost use Rattle.bridge_graph.specs.Tree.{IsTreeless, IsLeastCost, IsFirstEdge, LeadsBelow};
-    ghost use Rattle.bridge_graph.specs.Plan.{IsGraphSolved, IsLeastPlan};
+    ghost use Rattle.bridge_graph.specs.KindPlan.{IsGraphSolved, IsLeastPlan};
 
     /// The graph of these edges with their costs of 1 to 1,000, of which those that are `on` may be
     /// used.
@@ -79,7 +79,7 @@ impl<const K: usize, const E: usize> Graph<K, E> {
         requires costs { IsTrue (list_all is_edge_cost costs.now) }
         ensures { result ≡ hypergraph_of edges.now costs.now supported.now on.now }
     {
-        let mut plans = [Plan::Open; K];
+        let mut plans = [KindPlan::Open; K];
         settle(edges, costs, supported, on, &mut plans);
         Graph {
             edges: *edges,
@@ -103,9 +103,9 @@ impl<const K: usize, const E: usize> Graph<K, E> {
             → IsLeastCost self.now kind cost → LeadsBelow self.now edge cost }
     {
         match self.plan(kind) {
-            Plan::Open => Choice::Missing,
-            Plan::Native => Choice::Native,
-            Plan::By { edge, .. } => Choice::By(edge),
+            KindPlan::Open => Choice::Missing,
+            KindPlan::Native => Choice::Native,
+            KindPlan::By { edge, .. } => Choice::By(edge),
         }
     }
 
@@ -117,10 +117,13 @@ impl<const K: usize, const E: usize> Graph<K, E> {
         self.plan(kind).cost()
     }
 
-    fn plan(&self, kind: u8) -> Plan
+    fn plan(&self, kind: u8) -> KindPlan
         ensures plan { IsLeastPlan self.now kind result }
-        ensures solved { (plans : List Plan) × IsGraphSolved self.now plans }
+        ensures solved { (plans : List KindPlan) × IsGraphSolved self.now plans }
     {
-        self.plans.get(kind as usize).copied().unwrap_or(Plan::Open)
+        self.plans
+            .get(kind as usize)
+            .copied()
+            .unwrap_or(KindPlan::Open)
     }
 }

@@ -7,14 +7,14 @@
 ghost use Rattle.std.specs.Prelude.{◌≡◌, ◌<◌, ◌≤◌, ◌^◌, ◌↔◌, ℕ, IsTrue, length, IsNone, IfSome};
 ghost use Rattle.std.specs.List.{list_all};
 ghost use Rattle.bridge_graph.specs.Hypergraph.{hypergraph_of, children_of, has_kinds_below, is_edge_cost};
-ghost use Rattle.bridge_graph.specs.Plan.{plan_at, cost_of, ArePlansWithin, IsGraphSolved, start_at};
+ghost use Rattle.bridge_graph.specs.KindPlan.{plan_at, cost_of, ArePlansWithin, IsGraphSolved, start_at};
 ghost use Rattle.bridge_graph.specs.Candidate.{with_children, cheaper_of, IsCandidateStep, IsCheapest};
 
 use crate::EdgeRow;
 
 /// How a kind is reached, as far as it is known.
 #[derive(Clone, Copy, Debug)]
-pub enum Plan {
+pub enum KindPlan {
     /// By no tree that is known.
     Open,
     /// The kind is supported.
@@ -23,12 +23,12 @@ pub enum Plan {
     By { edge: u8, cost: u128 },
 }
 
-impl Plan {
+impl KindPlan {
     /// Whether no tree is known.
     fn is_open(self) -> bool
-        ensures { IsTrue result ↔ (self ≡ Plan.Open) }
+        ensures { IsTrue result ↔ (self ≡ KindPlan.Open) }
     {
-        matches!(self, Plan::Open)
+        matches!(self, KindPlan::Open)
     }
 
     /// What the tree costs, if there is one.
@@ -36,9 +36,9 @@ impl Plan {
         ensures { result ≡ cost_of self }
     {
         match self {
-            Plan::Open => None,
-            Plan::Native => Some(0),
-            Plan::By { cost, .. } => Some(cost),
+            KindPlan::Open => None,
+            KindPlan::Native => Some(0),
+            KindPlan::By { cost, .. } => Some(cost),
         }
     }
 }
@@ -52,7 +52,13 @@ struct Step {
 }
 
 /// Works out the plan of each kind.
-pub fn settle(edges: &[EdgeRow], costs: &[u32], supported: &[bool], on: &[bool], plans: &mut [Plan])
+pub fn settle(
+    edges: &[EdgeRow],
+    costs: &[u32],
+    supported: &[bool],
+    on: &[bool],
+    plans: &mut [KindPlan],
+)
     requires few { length plans.old ≤ 64 }
     requires numbers { length edges.now ≤ 256 }
     requires costs { length costs.now ≡ length edges.now }
@@ -64,7 +70,7 @@ pub fn settle(edges: &[EdgeRow], costs: &[u32], supported: &[bool], on: &[bool],
 {
     start(supported, plans);
     while let Some(step) = cheapest(edges, costs, on, plans) {
-        plans[step.kind as usize] = Plan::By {
+        plans[step.kind as usize] = KindPlan::By {
             edge: step.edge,
             cost: step.cost,
         };
@@ -72,21 +78,21 @@ pub fn settle(edges: &[EdgeRow], costs: &[u32], supported: &[bool], on: &[bool],
 }
 
 /// The plans of the kinds before any edge is used.
-fn start(supported: &[bool], plans: &mut [Plan])
+fn start(supported: &[bool], plans: &mut [KindPlan])
     requires { length supported.now ≡ length plans.old }
     ensures { (kind : ℕ) → plan_at plans.new kind ≡ start_at supported.now kind }
 {
     for kind in 0..plans.len() {
         plans[kind] = if supported[kind] {
-            Plan::Native
+            KindPlan::Native
         } else {
-            Plan::Open
+            KindPlan::Open
         };
     }
 }
 
 /// The cheapest step, by the lowest edge where several cost the same.
-fn cheapest(edges: &[EdgeRow], costs: &[u32], on: &[bool], plans: &[Plan]) -> Option<Step>
+fn cheapest(edges: &[EdgeRow], costs: &[u32], on: &[bool], plans: &[KindPlan]) -> Option<Step>
     requires numbers { length edges.now ≤ 256 }
     requires costs { length costs.now ≡ length edges.now }
     requires on { length on.now ≡ length edges.now }
@@ -121,7 +127,7 @@ fn candidate(
     edges: &[EdgeRow],
     costs: &[u32],
     on: &[bool],
-    plans: &[Plan],
+    plans: &[KindPlan],
     edge: usize,
 ) -> Option<Step>
     requires numbers { length edges.now ≤ 256 }
@@ -148,7 +154,7 @@ fn candidate(
 }
 
 /// What an edge costs with its children, if each of them is settled.
-fn total(row: &EdgeRow, cost: u32, plans: &[Plan]) -> Option<u128>
+fn total(row: &EdgeRow, cost: u32, plans: &[KindPlan]) -> Option<u128>
     requires kinds { IsTrue (has_kinds_below (length plans.now) row.now) }
     requires within { ArePlansWithin plans.now (2 ^ 120) }
     ensures { result ≡ with_children plans.now cost (children_of row.now) }

@@ -23,7 +23,11 @@ pub(crate) fn rows(alloc: Global, map: &AddressMap) -> Result<Vec<Entry>, Memory
 }
 
 // Copies of the entries, for which there is room at once.
-fn copies(alloc: Global, count: usize, entries: EntriesLeft<'_, usize>) -> Result<Vec<Entry>, Memory>
+fn copies(
+    alloc: Global,
+    count: usize,
+    entries: EntriesLeft<'_, usize>,
+) -> Result<Vec<Entry>, Memory>
     ensures { IfOk result (λ copies. copies.items ≡ entries.entry) }
 {
     let mut copies = Vec::with_capacity(alloc, count)?;

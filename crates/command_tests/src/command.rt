@@ -10,7 +10,7 @@ use io_face::{MemShelf, MemSink};
 use std::alloc::Global;
 
 /// A command over the files of a shelf, which writes to a sink.
-pub trait Command {
+pub trait TestedCommand {
     /// Runs the command with these arguments, and says how it ends. No family occurs twice among the
     /// bridges, and they keep nothing.
     fn run(

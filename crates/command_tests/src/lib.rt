@@ -21,5 +21,5 @@ mod command;
 mod reading;
 mod running;
 
-pub use command::Command;
+pub use command::TestedCommand;
 pub use reading::run_cases;

@@ -1,5 +1,5 @@
 //! The lines of the cases.
-use crate::Command;
+use crate::TestedCommand;
 use crate::case::{Call, Case, words_of};
 use crate::running::run_case;
 use std::alloc::Global;
@@ -8,19 +8,23 @@ use test_support::Stop;
 
 /// Runs the cases of standard input for a command with these usual arguments, and prints how each
 /// ends and what it writes.
-pub fn run_cases<C: Command>(rt: &HostRuntime, usual: &str) -> io::Result<()> {
+pub fn run_cases<C: TestedCommand>(rt: &HostRuntime, usual: &str) -> io::Result<()> {
     match read_cases::<C>(rt, usual) {
         Ok(()) => Ok(()),
         Err(Stop) => rt.println("stopped"),
     }
 }
 
-fn read_cases<C: Command>(rt: &HostRuntime, usual: &str) -> Result<(), Stop> {
+fn read_cases<C: TestedCommand>(rt: &HostRuntime, usual: &str) -> Result<(), Stop> {
     let mut case = Case::new(rt.alloc(), usual)?;
     read_lines::<C>(rt, usual, &mut case)
 }
 
-fn read_lines<C: Command>(rt: &HostRuntime, usual: &str, case: &mut Case) -> Result<(), Stop> {
+fn read_lines<C: TestedCommand>(
+    rt: &HostRuntime,
+    usual: &str,
+    case: &mut Case,
+) -> Result<(), Stop> {
     for line in rt.lines(rt.alloc()) {
         let line = line?;
         step::<C>(rt, usual, case, line.as_str())?;
@@ -29,7 +33,7 @@ fn read_lines<C: Command>(rt: &HostRuntime, usual: &str, case: &mut Case) -> Res
 }
 
 // Does what a line says.
-fn step<C: Command>(
+fn step<C: TestedCommand>(
     rt: &HostRuntime,
     usual: &str,
     case: &mut Case,

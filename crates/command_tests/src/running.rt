@@ -4,7 +4,7 @@ ghost use Rattle.std.specs.FinMap as finite;
 ghost use Rattle.any_bridge.specs.States.{state_of_any};
 ghost use Rattle.bridge_set.specs.Bridges.{families_of, occur_once};
 
-use crate::Command;
+use crate::TestedCommand;
 use crate::case::{Call, Case};
 use any_bridge::{AnyBridge, all_bridges};
 use io_face::{Calls, MemShelf, MemSink, NamedFile, NamedFiles};
@@ -14,7 +14,7 @@ use std::str;
 use test_support::Stop;
 
 /// Runs a case, and prints how it ends and what it writes.
-pub(crate) fn run_case<C: Command>(rt: &HostRuntime, case: &Case) -> Result<(), Stop> {
+pub(crate) fn run_case<C: TestedCommand>(rt: &HostRuntime, case: &Case) -> Result<(), Stop> {
     if case.piece == 0 {
         return Err(Stop);
     }

@@ -3,7 +3,7 @@
 #![tactic(auto)]
 
 use any_bridge::AnyBridge;
-use command_tests::{Command, run_cases};
+use command_tests::{TestedCommand, run_cases};
 use dual_command::run;
 use file_command::Status;
 use io_face::{MemShelf, MemSink};
@@ -12,7 +12,7 @@ use std::io;
 
 struct Dual;
 
-impl Command for Dual {
+impl TestedCommand for Dual {
     fn run(
         alloc: Global,
         words: &[String],

@@ -35,8 +35,8 @@ use touched_items::{
     Differing, FoundItems, changed_variables, compare_listed, find_items, list_undos, own_variables,
 };
 
-// Most edits make no more leaves and no more nodes. Room for so many takes less than a kilobyte each:
-// for larger blocks `malloc` first gathers what was freed.
+// Most edits make no more leaves and no more nodes than this. Such a list takes less than a kilobyte;
+// for a larger block `malloc` first gathers what was freed.
 const USUAL: usize = 3;
 
 // What is planned of all that an edit touches.

@@ -8,7 +8,8 @@ use crate::divisor::NARROW;
 // 2^64.
 const HALF: u128 = 18446744073709551616;
 
-pub(crate) fn narrow_divisor(a: u64, b: u64) -> u64
+/// The greatest common divisor, where the second number is above 0.
+pub fn narrow_divisor(a: u64, b: u64) -> u64
     requires { 0 < b }
     ensures value { result ≡ gcd a b }
     ensures positive { 0 < result }

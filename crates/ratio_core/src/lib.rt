@@ -16,6 +16,7 @@ mod quotients;
 mod text;
 mod wide;
 
+pub use binary::narrow_divisor;
 pub use fault::{NumberFault, RatioFault};
 pub use fraction::Ratio;
 pub use lists::Memory;

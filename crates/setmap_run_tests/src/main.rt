@@ -3,7 +3,7 @@
 #![tactic(auto)]
 
 use any_bridge::AnyBridge;
-use command_tests::{Command, run_cases};
+use command_tests::{TestedCommand, run_cases};
 use file_command::Status;
 use io_face::{MemShelf, MemSink};
 use setmap_command::run;
@@ -12,7 +12,7 @@ use std::io;
 
 struct SetMaps;
 
-impl Command for SetMaps {
+impl TestedCommand for SetMaps {
     fn run(
         alloc: Global,
         words: &[String],

@@ -1,7 +1,7 @@
 -- What is settled is right, and n settled kinds cost at most what n steps can.
 use Rattle.std.proofs.Common.{◌-◌, length}
 use Rattle.bridge_graph.specs.Hypergraph.{hypergraph_of}
-use Rattle.bridge_graph.specs.Plan.{ArePlansWithin}
+use Rattle.bridge_graph.specs.KindPlan.{ArePlansWithin}
 use Rattle.bridge_graph.proofs.Trees.{IsSettling}
 use Rattle.bridge_graph.proofs.Settled.{open_count, limit_of}
 use Rattle.bridge_graph.proofs.settling.settle.Given as goal

@@ -1,5 +1,5 @@
 use Rattle.std.proofs.Common.{◌≡◌, ℕ, ◌<◌}
-use Rattle.bridge_graph.specs.Plan.{plan_at, start_at}
+use Rattle.bridge_graph.specs.KindPlan.{plan_at, start_at}
 use Rattle.bridge_graph.proofs.settling.start.Given as goal
 
 abbrev pub invariant-loop-kind : goal.invariant-loop-kind
