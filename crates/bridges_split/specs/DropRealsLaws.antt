@@ -3,7 +3,7 @@ use Rattle.std.specs.Prelude.{All, List, [], refl, replicate, ℕ, ◌≡◌}
 use Rattle.std.proofs.lemmas.List.Elements.{All-nil, All-replicate}
 use Rattle.std.proofs.Common.{ap, ap₂, subst, sym, ◌∙◌}
 use Rattle.std.proofs.lemmas.List.{length-replicate}
-use Rattle.rational_laws.specs.Field.{-ℚ-itself}
+use Rattle.rational_laws.specs.Field.{ -ℚ-itself}
 use Rattle.aff_core.specs.Address.{Address}
 use Rattle.item_core.specs.declared.item.Body.TheVariants.{AffineVec, PlainVec}
 use Rattle.bridge_face.specs.BackOf.{back_by, size}
