@@ -2,7 +2,7 @@ use Rattle.std.specs.Prelude.{◌<◌, length}
 use Rattle.std.proofs.Common.{◌∙◌, arith, sym}
 use Rattle.std.proofs.lemmas.Option.{slice_get_within}
 use Rattle.map_laws.specs.PlaceLaws.{drop_at}
-use Rattle.item_map.proofs.items.ItemsIterator.next.Goals as goal
+use Rattle.item_map.proofs.items.RankedItemsIterator.next.Goals as goal
 
 pub overflow_add-self : goal.overflow_add-self
 overflow_add-self g c =

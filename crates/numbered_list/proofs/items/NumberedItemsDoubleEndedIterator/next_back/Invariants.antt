@@ -1,6 +1,6 @@
 use Rattle.std.proofs.Common.{◌≡◌, length}
 use Rattle.numbered_list.specs.Listed.{present}
-use Rattle.numbered_list.proofs.items.ItemsDoubleEndedIterator.next_back.Given as goal
+use Rattle.numbered_list.proofs.items.NumberedItemsDoubleEndedIterator.next_back.Given as goal
 
 abbrev pub invariant-loop-last : goal.invariant-loop-last
 invariant-loop-last g l =

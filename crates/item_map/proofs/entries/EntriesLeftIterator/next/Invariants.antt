@@ -1,7 +1,7 @@
 use Rattle.std.proofs.Common.{◌≡◌, ◌++◌, length}
 use Rattle.item_map.specs.ItemLists.{of_items}
 use Rattle.item_map.specs.ItemsLeft.{items_left}
-use Rattle.item_map.proofs.entries.EntriesIterator.next.Given as goal
+use Rattle.item_map.proofs.entries.EntriesLeftIterator.next.Given as goal
 
 abbrev pub invariant-entries : goal.invariant-entries
 invariant-entries g l =

@@ -1,6 +1,6 @@
 use Rattle.std.proofs.Common.{◌≡◌, length}
 use Rattle.numbered_list.specs.Listed.{present}
-use Rattle.numbered_list.proofs.items.ItemsIterator.next.Given as goal
+use Rattle.numbered_list.proofs.items.NumberedItemsIterator.next.Given as goal
 
 abbrev pub invariant-loop-first : goal.invariant-loop-first
 invariant-loop-first g l =

@@ -2,7 +2,7 @@ use Rattle.std.proofs.Common.{None, Some, [], ◌∷◌, ◌<◌, ◌∙◌, ap,
 use Rattle.std.proofs.lemmas.List.{length-append, append-nil}
 use Rattle.numbered_list.specs.Listed.{present}
 use Rattle.numbered_list.specs.ListedLaws.{last_present}
-use Rattle.numbered_list.proofs.items.ItemsDoubleEndedIterator.next_back.Goals as goal
+use Rattle.numbered_list.proofs.items.NumberedItemsDoubleEndedIterator.next_back.Goals as goal
 
 pub returns-in-Some-content-clause-steps : goal.returns-in-Some-content-clause-steps
 returns-in-Some-content-clause-steps g c =
