@@ -6,7 +6,7 @@ use Rattle.std.proofs.lemmas.Str.{IsUtf8-append}
 use Rattle.mof_text.proofs.TextLaws.{replaced-nil}
 use Rattle.mof_text.specs.Numeral.{is_colon_next, is_json_number, is_long, is_white, magnitude_of, parts_of, replaced, replacement_of}
 use Rattle.mof_text.specs.Rewritten.{BytePlace, after_in_string, after_other, is_run_byte, rewritten, rewritten_at}
-use Rattle.mof_text.specs.Rewritten.Place.{in_escape, in_string, outside}
+use Rattle.mof_text.specs.Rewritten.BytePlace.{in_escape, in_string, outside}
 use Rattle.serde_json.specs.Data.{Data}
 use Rattle.mof_write.specs.Written.{IsTextOf}
 use Rattle.mof_laws.specs.SameTokens.{as_line, same_read}

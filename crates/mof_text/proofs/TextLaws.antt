@@ -7,7 +7,7 @@ use Rattle.std.specs.List.{position_or_len}
 use Rattle.fast_float.specs.Text.{scan}
 use Rattle.mof_text.specs.Numeral.{replaced}
 use Rattle.mof_text.specs.Rewritten.{after_other, is_run_byte, rewritten, rewritten_at}
-use Rattle.mof_text.specs.Rewritten.Place.{in_escape, in_string, outside}
+use Rattle.mof_text.specs.Rewritten.BytePlace.{in_escape, in_string, outside}
 
 -- what is rewritten outside strings
 abbrev pub onward : List ℕ → List ℕ

@@ -2,7 +2,7 @@
 ghost use Rattle.std.specs.Prelude.{◌≡◌, ◌++◌, ◌<◌, ◌≤◌, [], length, take, drop, not, slice_index, false, ◌≢◌};
 ghost use Rattle.std.specs.List.{position_or_len};
 ghost use Rattle.mof_text.specs.Rewritten.{is_run_byte, rewritten_at};
-ghost use Rattle.mof_text.specs.Rewritten.Place.{in_string, outside};
+ghost use Rattle.mof_text.specs.Rewritten.BytePlace.{in_string, outside};
 
 /// Whether numerals have this byte.
 pub(crate) fn is_run_byte(byte: u8) -> bool

@@ -14,7 +14,7 @@ use Rattle.fast_float.proofs.Writing.{scan-text_of}
 use Rattle.json.specs.Print.{escape, escape_byte, escape_letter, quoted}
 use Rattle.mof_text.specs.Numeral.{is_colon_next, is_json_number, is_long, magnitude_of, parts_of, replaced}
 use Rattle.mof_text.specs.Rewritten.{after_other, is_run_byte, rewritten, rewritten_at}
-use Rattle.mof_text.specs.Rewritten.Place.{in_escape, in_string, outside}
+use Rattle.mof_text.specs.Rewritten.BytePlace.{in_escape, in_string, outside}
 use Rattle.mof_text.proofs.TextLaws.{onward, quoted_on, replaced-nil, single_is, string_is}
 use Rattle.serde_json.specs.Data.{Data, Items, Members, Num, array, boolean, depth, float, item, items_depth, member, members_depth, negative, no_items, no_members, null, number, object, string, unsigned}
 use Rattle.serde_json.specs.Written.{comma_if, compact_text, has_float, items_have_float, items_text, members_have_float, members_text, number_text}

@@ -1,6 +1,6 @@
 use Rattle.std.proofs.Common.{◌≡◌, ◌-◌, ◌≤◌, ◌++◌, length, take, drop}
 use Rattle.mof_text.specs.Rewritten.{rewritten_at}
-use Rattle.mof_text.specs.Rewritten.Place.{in_string}
+use Rattle.mof_text.specs.Rewritten.BytePlace.{in_string}
 use Rattle.mof_text.proofs.pieces.string_len.Given as goal
 
 abbrev pub invariant-loop-place : goal.invariant-loop-place
