@@ -33,7 +33,10 @@ pub fn list_variables(
 }
 
 // Lists the addresses of these leaves.
-fn list_all(leaves: RankedItems<'_, (Address, usize)>, list: &mut Sequence<Address>) -> Result<(), Memory>
+fn list_all(
+    leaves: RankedItems<'_, (Address, usize)>,
+    list: &mut Sequence<Address>,
+) -> Result<(), Memory>
     ensures { OnOk result (list.new ≡ list.old ++ map (λ e. e.0) leaves.entry) }
 {
     for leaf in leaves {

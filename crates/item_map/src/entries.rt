@@ -60,7 +60,10 @@ impl<'a, V> Model for EntriesLeft<'a, V> {
 
 impl<'a, V> EntriesLeft<'a, V> {
     // These entries, and then those of the items.
-    pub(crate) fn of(own: RankedItems<'a, (Address, V)>, left: ItemsLeft<'a, V>) -> EntriesLeft<'a, V>
+    pub(crate) fn of(
+        own: RankedItems<'a, (Address, V)>,
+        left: ItemsLeft<'a, V>,
+    ) -> EntriesLeft<'a, V>
         ensures { result ≡ own.entry ++ of_items (items_left left.entry) }
     {
         EntriesLeft { own, left }
