@@ -12,6 +12,11 @@ class Names:
     def __init__(self):
         self.variables, self.rows = set(), set()
 
+    def copy(self):
+        other = Names()
+        other.variables, other.rows = set(self.variables), set(self.rows)
+        return other
+
     def accept(self, tokens):
         """Follows a line that was accepted."""
         word, rest = tokens[0], tokens[1:]

@@ -1,9 +1,12 @@
 """`moi_explain run`: a script with its answers beside its lines."""
 
 from . import lines, numbers, slips, tables
-from .names import Names
+from .session import Session
 
 WIDTH = 44
+# The most that is shown of an edit which another line refuses.
+LONGEST = 100
+GROUP = 21
 NOTES = {
     "infeasible": "no point meets all rows: those with a dual other than 0 contradict each other",
     "unbounded": "the objective improves without end along the ray: usually a row is missing",
@@ -49,34 +52,47 @@ def meaning(number):
     return [f"means: {tables.plain(row['meaning'])}", f"do:    {tables.plain(row['todo'])}"]
 
 
-def explained(line, names):
-    """The lines below a refusal: the slip, where one is found, and else what the table says."""
+def reason(line, number, names):
+    """Why a line is refused: the slip, where one is found, and else what the table says."""
+    here = slips.explain(line) if number == 1 else names.hint(line.tokens) if number == 2 else HINTS.get((number, line.tokens[0]))
+    return [f"here:  {here}"] if here else meaning(number)
+
+
+def refused_edit(answer, session):
+    """The line of the edit for which `commit` is refused, why, and what to do about the group."""
+    place, number = (int(word) for word in answer.split(" ")[3:5])
+    edit = session.held[place - 1]
+    text = edit.text if len(edit.text) <= LONGEST else edit.text[: LONGEST - 3] + " .."
+    return [
+        f"edit:  line {edit.number}, `{text}`",
+        *reason(edit, number, session.names_before(place - 1)),
+        f"group: {tables.plain(tables.by_number('refusals')[GROUP]['todo'])}",
+    ]
+
+
+def explained(line, session):
+    """The lines below an answer: what a refusal means here, or a note on an answer without an optimum."""
     number = refusal(line.answer[0])
     if number is None:
         return [f"note:  {NOTES[word]}" for word in NOTES if line.answer[0].split(" ")[0] == word]
-    here = slips.explain(line) if number == 1 else names.hint(line.tokens) if number == 2 else HINTS.get((number, line.tokens[0]))
-    return [f"here:  {here}"] if here else meaning(number)
+    return refused_edit(line.answer[0], session) if number == GROUP else reason(line, number, session.names)
 
 
 def shown(script, output, status):
     """All that is printed of a script, its output and its status."""
     all_lines = lines.lines_of(script)
     rest = lines.hand_out(all_lines, output)
-    names, held, printed = Names(), [], []
+    session, printed = Session(), []
     for line in all_lines:
         printed += beside(line, [numbers.with_decimals(text) for text in line.answer])
         if line.answer:
-            printed += [" " * 8 + text for text in explained(line, names)]
-            if line.answer[0] == "held":
-                held.append(line.tokens)
-            elif line.answer[0].split(" ")[0] == "ok":
-                for tokens in held if line.tokens == ["commit"] else [line.tokens]:
-                    names.accept(tokens)
-                held = held if line.tokens[0] not in ("commit", "abandon") else []
+            printed += [" " * 8 + text for text in explained(line, session)]
+            session.follow(line)
     asked = lines.heard(all_lines)
     first = next((line.number for line in asked if not line.is_answered), None)
     if first is not None:
         printed.append(f"Line {first} and those after it have no answer.")
+    printed += session.left_open()
     if rest:
         printed.append("These lines of the output belong to no line of the script:")
         printed += rest
