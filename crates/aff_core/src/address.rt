@@ -13,10 +13,11 @@ use std::marker::Model;
 /// children chosen on the way down, at most forty.
 #[derive(Clone, Copy)]
 pub struct Address {
+    // first what two roots are compared by: it is in one line of the cache
     root: Root,
+    depth: u8,
     number: u32,
     positions: [u16; 40],
-    depth: u8,
 }
 
 impl Model for Address {

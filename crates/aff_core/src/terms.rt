@@ -24,14 +24,11 @@ pub fn nonzero_terms<K: Copy>(
 ) -> Result<Vec<(K, Ratio)>, Memory>
     ensures { IfOk result (λ v. v.items ≡ filter is_nonzero terms.now) }
 {
-    let zero = Ratio::zero();
-    Ok(
-        terms
-            .iter()
-            .copied()
-            .filter(|(_, coefficient)| *coefficient != zero)
-            .collect(alloc)?,
-    )
+    let mut kept = Vec::with_capacity(alloc, terms.len())?;
+    for (key, coefficient) in terms {
+        push_nonzero(&mut kept, *key, *coefficient)?;
+    }
+    Ok(kept)
 }
 
 /// The terms with each coefficient negated.
@@ -41,12 +38,11 @@ pub fn negated_terms<K: Copy>(
 ) -> Result<Vec<(K, Ratio)>, Memory>
     ensures { IfOk result (λ v. v.items ≡ negated_terms terms.now) }
 {
-    Ok(
-        terms
-            .iter()
-            .map(|(key, coefficient)| (*key, coefficient.neg()))
-            .collect(alloc)?,
-    )
+    let mut negated = Vec::with_capacity(alloc, terms.len())?;
+    for (key, coefficient) in terms {
+        negated.push((*key, coefficient.neg()))?;
+    }
+    Ok(negated)
 }
 
 /// Each coefficient times a number, but those that are then 0. `Overflow` exactly where a product
