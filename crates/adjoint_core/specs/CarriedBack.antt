@@ -205,4 +205,5 @@ module _ {setting : Setting} {model : ModelValue} (bridging : FreshBridging sett
   -- the certificate exactly where everything fits, and else the first address at which it doesn't
   abbrev pub CarriesAnswerBack : AnswerByAddress → Result Certificate BackFault → Type 0
   CarriesAnswerBack answer result =
-      TellsCarried result (AllFits answer) (λ c. c ≡ certificate_of bridging answer) (IsFirstUnfitAddress answer)
+      TellsCarried result (AllFits answer) (λ c. c ≡ certificate_of bridging answer)
+      (IsFirstUnfitAddress answer)

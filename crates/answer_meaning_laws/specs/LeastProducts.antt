@@ -1,6 +1,6 @@
 -- The least product of a vector of the dual set with the vectors of a set.
---     IsLeastProduct n set w low  it is least, and it is reached
---     LowIsLeast               the law
+--     IsLeastProduct n set w low    it is least, and it is reached
+--     LowIsLeast                    the law
 use Rattle.std.specs.Prelude.{◌≡◌, ℕ, List, length}
 use Rattle.ratio_core.specs.Rational.{Rational, ◌≤ℚ◌}
 use Rattle.rational_laws.specs.Dot.{dot}

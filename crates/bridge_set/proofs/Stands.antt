@@ -32,8 +32,8 @@ module _ {B : Type 0} (state : B → BridgeState) where
   state_at (c ∷ bs) (suc n) b d lt e = state_at bs n b d (omega arith) e
 
   -- where the bridge at a place is of the family and is changed
-  pub changed_for : (family : Family) (change : BridgeState → BridgeState) (bs : List B) (n : ℕ) (b d after : B)
-      → n < length bs → b ≡ slice_index_or bs n d → family_eq family (state b).family ≡ true
+  pub changed_for : (family : Family) (change : BridgeState → BridgeState) (bs : List B) (n : ℕ)
+      (b d after : B) → n < length bs → b ≡ slice_index_or bs n d → family_eq family (state b).family ≡ true
       → state after ≡ change (state b)
       → IsChangedFor family change (map state bs) (map state (slice_set bs n after))
   changed_for family change bs n b d after lt e same is = record {

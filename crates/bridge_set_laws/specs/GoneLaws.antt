@@ -129,7 +129,8 @@ module _ {setting : Setting} {model : ModelValue} (sound : IsValidUnder setting 
       same : (s : BridgeState) → s.kept ≡ nodes_by bridging s.family
           → without_items found s.kept ≡ without_all s.kept had
       same s h =
-          ap (without_items found) h ∙ gone_is s.family ∙ sym (ap (λ (m : KeptByAddress). without_all m had) h)
+          ap (without_items found) h ∙ gone_is s.family
+          ∙ sym (ap (λ (m : KeptByAddress). without_all m had) h)
 
       each : (ss : List BridgeState) → HoldNodes bridging ss
           → map (without_found found) (kept_by ss) ≡ map (without_each had) (kept_by ss)

@@ -68,7 +68,8 @@ pub fits_of : (b : Body) (s : Set) (fs others : List Function) (first : Function
     → b ≡ AffineVec fs s → first ≡ first_in fs → others ≡ rest_of fs
     → DifferencesAndSumsFit first others ≡ DifferencesAndSumsFit (function_of_body b) (others_of b)
 fits_of b s fs others first b_is first_is others_is =
-    ap₂ DifferencesAndSumsFit (first_is ∙ ap function_of_body (sym b_is)) (others_is ∙ ap others_of (sym b_is))
+    ap₂ DifferencesAndSumsFit (first_is ∙ ap function_of_body (sym b_is))
+    (others_is ∙ ap others_of (sym b_is))
 
 pub made_of : (b : Body) (s : Set) (fs others both : List Function) (first : Function) (n : ℕ)
     → b ≡ AffineVec fs s → first ≡ first_in fs → others ≡ rest_of fs

@@ -46,8 +46,8 @@ named_on mid last solver vars rows h =
     subst (λ (p : Places × Places). NamesEach (record last { vars = p.0; rows = p.1 }) solver)
     (λ i. (sym vars i, sym rows i)) back
 
-module _ (e : AttachedEdit) (bridges : Bridges) (solver : StoredLeaves) (places : AddressMap) (objective_at : Address)
-    (d : Differing) (held : IsHeldBy e bridges solver places objective_at d) (standing : List Entry)
+module _ (e : AttachedEdit) (bridges : Bridges) (solver : StoredLeaves) (places : AddressMap)
+    (objective_at : Address) (d : Differing) (held : IsHeldBy e bridges solver places objective_at d) (standing : List Entry)
     (found : List Address) (plan : Plan) (made : IsPlannedOf e standing found plan) where
   same_kept : kept_by bridges.states ≡ kept_by e.bridges.states
   same_kept = ap (λ (m : Means). m.kept) held.means

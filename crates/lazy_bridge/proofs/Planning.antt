@@ -68,7 +68,8 @@ module _ (choice : ℕ → Choice) (given items : List (Bor Group)) (same : give
       subst (λ gs. KindsOutcome {T = T} (Err f)
       (first_missing choice (kinds_as_they_stand (listed gs)))) same
 
-  pub within_seen : All (IsItemWithinLevels choice kind_count) (listed items) → All (IsItemWithinLevels choice kind_count) (listed given)
+  pub within_seen : All (IsItemWithinLevels choice kind_count) (listed items)
+      → All (IsItemWithinLevels choice kind_count) (listed given)
   within_seen = subst (λ gs. All (IsItemWithinLevels choice kind_count) (listed gs)) (sym same)
 
   pub fit_seen : unfit choice kind_count (listed given) ≡ None → unfit choice kind_count (listed items) ≡ None
@@ -78,7 +79,8 @@ module _ (choice : ℕ → Choice) (given items : List (Bor Group)) (same : give
       → AddsHeld plan new [] entries (worked_each choice (worked choice kind_count) (listed given))
       → AddsHeld plan new [] entries (worked_each choice (worked choice kind_count) (listed items))
   adds_seen plan new entries =
-      subst (λ gs. AddsHeld plan new [] entries (worked_each choice (worked choice kind_count) (listed gs))) same
+      subst (λ gs. AddsHeld plan new [] entries
+      (worked_each choice (worked choice kind_count) (listed gs))) same
 
   unfit_seen : (at : Address) → IsFirstAt (unfit choice kind_count (listed given)) at
       → IsFirstAt (unfit choice kind_count (listed items)) at
@@ -221,7 +223,8 @@ module _ (e : AttachedEdit) (bridges : Bridges) (places : AddressMap) (after : M
 
   -- a number of theirs doesn't fit, and no item lacks a tree
   pub groups_overflow : (T : Type 0) (f : PushFault) (Q : T → Type 0)
-      → PlanOutcome (Err f) (unfit (means_of bridges).choice kind_count (map group_item (groups_in d.after))) Q
+      → PlanOutcome (Err f)
+      (unfit (means_of bridges).choice kind_count (map group_item (groups_in d.after))) Q
       → IsPassedBy e (Ok tt) → IsRefusedBy e f
   groups_overflow T (Unsupported kind) Q h passed = absurd h
   groups_overflow T (Overflow at) Q h passed =
@@ -305,7 +308,8 @@ module _ (e : AttachedEdit) (bridges : Bridges) (places : AddressMap) (after : M
             ≡ expression_in (own_entries standing (groups_in x.after)
             ++ read_entries p (named_by rows objective))) stands
 
-        pub others_can : All (λ item. IsItemWithinLevels (means_of bridges).choice kind_count (put_in further item))
+        pub others_can :
+            All (λ item. IsItemWithinLevels (means_of bridges).choice kind_count (put_in further item))
             (found_others rows objective)
         others_can =
             back (λ m p a x. All (λ item. IsItemWithinLevels m.choice kind_count (put_in further item))

@@ -52,8 +52,8 @@ none_kept states h = All-map (λ (k : Family × KeptByAddress). k.1 ≡ finite.e
 pub nothing_tried : (old new : Owned) → IsTried old new → HoldsNothing old
     → All (λ (s : BridgeState). s.kept ≡ finite.empty) new.bridges.states
 nothing_tried old new same h =
-    all_from_map (λ (k : Family × KeptByAddress). k.1 ≡ finite.empty) (λ (s : BridgeState). (s.family, s.kept))
-    new.bridges.states
+    all_from_map (λ (k : Family × KeptByAddress). k.1 ≡ finite.empty)
+    (λ (s : BridgeState). (s.family, s.kept)) new.bridges.states
     (subst (All (λ (k : Family × KeptByAddress). k.1 ≡ finite.empty))
     (sym (ap (λ (m : Means). m.kept) same.means)) (none_kept old.bridges.states h.kept))
 

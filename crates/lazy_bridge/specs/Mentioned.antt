@@ -1,9 +1,9 @@
 -- Which rows, and whether the objective, name which variables; and which variables are kept. Both
 -- stand in the map of addresses, so that an edit finds what it touches.
---     IsMentionIndex  at each variable exactly the items are noted that name it
---     NotesPairs    these pairs are noted, or not, and others as they were
---     contents_name a row, or the objective, of some items names a variable
---     marks_of      some variables, as the map marks them
+--     IsMentionIndex    at each variable exactly the items are noted that name it
+--     NotesPairs        these pairs are noted, or not, and others as they were
+--     contents_name     a row, or the objective, of some items names a variable
+--     marks_of          some variables, as the map marks them
 use Rattle.std.specs.Prelude.{◌≡◌, ◌||◌, ◌&&◌, Bool, cond, false, List, is_some, map}
 use Rattle.std.specs.FinMap as finite
 use Rattle.std.specs.List.{list_any}

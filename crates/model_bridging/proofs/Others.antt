@@ -149,7 +149,8 @@ module _ (choice : ℕ → Choice) (es fs : List Entry) (same : expression_in es
         → All (λ item. IsItemWithinLevels choice kind_count (put_in fs item)) items
         → All (λ item. IsItemWithinLevels choice kind_count (put_in es item)) items
     within_alike items h =
-        subst (λ p. All (λ item. IsItemWithinLevels choice kind_count (p item)) items) (sym (put_alike es fs same)) h
+        subst (λ p. All (λ item. IsItemWithinLevels choice kind_count (p item)) items)
+        (sym (put_alike es fs same)) h
 
 -- ---- the rows, and then the objective
 
@@ -183,10 +184,10 @@ module _ (first : Means) (inner : List Entry) (rows : List Item) (o : Objective)
   objective_within all =
       subst (λ (m : Means). All (λ item. IsItemWithinLevels m.choice kind_count (put_in standing item))
       (objective_items o)) (sym same)
-      (subst (λ es. All (λ item. IsItemWithinLevels first.choice kind_count (put_in es item)) (objective_items o))
-      (sym stays)
-      (all_second (λ item. IsItemWithinLevels first.choice kind_count (put_in inner item)) rows (objective_items o)
-      all))
+      (subst (λ es. All (λ item. IsItemWithinLevels first.choice kind_count (put_in es item))
+      (objective_items o)) (sym stays)
+      (all_second (λ item. IsItemWithinLevels first.choice kind_count (put_in inner item)) rows
+      (objective_items o) all))
 
   pub others_done : (after : Plan)
       → IsTrue (others_held means.choice standing (objective_items o)).fits
@@ -255,7 +256,8 @@ module _ (choice : ℕ → Choice) (inner : List Entry) (o : Objective) (plan : 
         → IsItemWithinLevels choice kind_count made
     objective_ready made is all =
         let Within : Item → Type 0 = λ i. IsItemWithinLevels choice kind_count (put_in inner i) in
-        subst (IsItemWithinLevels choice kind_count) (sym is) (All-head Within item [] (subst (All Within) one all))
+        subst (IsItemWithinLevels choice kind_count) (sym is)
+        (All-head Within item [] (subst (All Within) one all))
 
     pub objective_needs : IsTrue (others_held choice inner (objective_items o)).fits
         → IsTrue (put_in_fits inner item)
@@ -301,8 +303,8 @@ module _ (first : Means) (groups : List Group) (others : List Item) (start one :
   pub others_ready : IsWithinLevels first.choice (map group_item groups) others
       → All (λ item. IsItemWithinLevels means.choice kind_count (put_in standing item)) others
   others_ready ready =
-      subst (λ (m : Means). All (λ item. IsItemWithinLevels m.choice kind_count (put_in standing item)) others)
-      (sym same)
+      subst (λ (m : Means). All (λ item. IsItemWithinLevels m.choice kind_count (put_in standing item))
+      others) (sym same)
       (within_alike first.choice standing held_here.entries alike others ready.others)
 
   unfit_same : unfit_put means.choice kind_count standing others

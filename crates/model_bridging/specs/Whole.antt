@@ -38,7 +38,8 @@ module _ (choice : ℕ → Choice) where
   -- these groups and the other items are within the levels that there are
   pub record IsWithinLevels (items further : List Item) : Type 0 where
     pub groups : All (IsItemWithinLevels choice kind_count) items
-    pub others : All (λ item. IsItemWithinLevels choice kind_count (put_in (groups_held items).entries item)) further
+    pub others :
+        All (λ item. IsItemWithinLevels choice kind_count (put_in (groups_held items).entries item)) further
 
   -- the first of them that doesn't fit
   abbrev pub unfit_item : List Item → List Item → Option Item

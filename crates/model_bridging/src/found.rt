@@ -63,7 +63,8 @@ pub fn plan_found_groups<R: Rewriter>(
         (map group_item (map (λ g. g.now) groups.now)) }
     ensures answer { let choice = (R.means rewriter.old).choice in
         let items = map group_item (map (λ g. g.now) groups.now) in
-        PlanOutcome result (unfit choice kind_count items) (λ entries. AddsHeld plan.old plan.new [] entries.items
+        PlanOutcome result (unfit choice kind_count items) (λ entries.
+        AddsHeld plan.old plan.new [] entries.items
         (worked_each choice (worked choice kind_count) items)) }
     ensures means { R.means rewriter.new ≡ R.means rewriter.old }
     ensures turns { OnOk result (R.turns rewriter.new + length plan.old.nodes.items
@@ -124,11 +125,13 @@ pub fn plan_found_others<R: Rewriter>(
     rows: &[&Row],
     objective: Option<&Objective>,
 ) -> Result<(), PushFault>
-    requires { All (λ item. IsItemWithinLevels (R.means rewriter.old).choice kind_count (put_in standing.old item))
+    requires { All (λ item.
+        IsItemWithinLevels (R.means rewriter.old).choice kind_count (put_in standing.old item))
         (found_others (map (λ r. r.now) rows.now) (option_copied objective)) }
     ensures answer { let choice = (R.means rewriter.old).choice in
         let others = found_others (map (λ r. r.now) rows.now) (option_copied objective.entry) in
-        PlanOutcome result (unfit_put choice kind_count standing.old others) (λ _. AddsHeld plan.old plan.new [] []
+        PlanOutcome result (unfit_put choice kind_count standing.old others) (λ _.
+        AddsHeld plan.old plan.new [] []
         (worked_in choice (worked choice kind_count) standing.old others)) }
     ensures means { R.means rewriter.new ≡ R.means rewriter.old }
     ensures turns { OnOk result (R.turns rewriter.new + length plan.old.nodes.items
@@ -151,11 +154,13 @@ fn plan_found_rows<R: Rewriter>(
     standing: &mut Standing,
     rows: &[&Row],
 ) -> Result<(), PushFault>
-    requires { All (λ item. IsItemWithinLevels (R.means rewriter.old).choice kind_count (put_in standing.old item))
+    requires { All (λ item.
+        IsItemWithinLevels (R.means rewriter.old).choice kind_count (put_in standing.old item))
         (map row_item (map (λ r. r.now) rows.now)) }
     ensures answer { let choice = (R.means rewriter.old).choice in
         let items = map row_item (map (λ r. r.now) rows.now) in
-        PlanOutcome result (unfit_put choice kind_count standing.old items) (λ _. AddsHeld plan.old plan.new [] []
+        PlanOutcome result (unfit_put choice kind_count standing.old items) (λ _.
+        AddsHeld plan.old plan.new [] []
         (worked_in choice (worked choice kind_count) standing.old items)) }
     ensures means { R.means rewriter.new ≡ R.means rewriter.old }
     ensures turns { OnOk result (R.turns rewriter.new + length plan.old.nodes.items

@@ -90,10 +90,12 @@ fn plan_groups<R: Rewriter>(
     plan: &mut Plan,
     groups: &Groups,
 ) -> Result<Vec<Entry>, PushFault>
-    requires { All (IsItemWithinLevels (R.means rewriter.old).choice kind_count) (map group_item groups.now.items) }
+    requires { All (IsItemWithinLevels (R.means rewriter.old).choice kind_count)
+        (map group_item groups.now.items) }
     ensures answer { let choice = (R.means rewriter.old).choice in
         let items = map group_item groups.now.items in
-        PlanOutcome result (unfit choice kind_count items) (λ entries. AddsHeld plan.old plan.new [] entries.items
+        PlanOutcome result (unfit choice kind_count items) (λ entries.
+        AddsHeld plan.old plan.new [] entries.items
         (worked_each choice (worked choice kind_count) items)) }
     ensures means { R.means rewriter.new ≡ R.means rewriter.old }
 {
@@ -118,11 +120,13 @@ fn plan_others<R: Rewriter>(
     rows: &Rows,
     objective: &Objective,
 ) -> Result<(), PushFault>
-    requires { All (λ item. IsItemWithinLevels (R.means rewriter.old).choice kind_count (put_in standing.old item))
+    requires { All (λ item.
+        IsItemWithinLevels (R.means rewriter.old).choice kind_count (put_in standing.old item))
         (map row_item rows.now.items ++ objective_items objective.now) }
     ensures answer { let choice = (R.means rewriter.old).choice in
         let others = map row_item rows.now.items ++ objective_items objective.now in
-        PlanOutcome result (unfit_put choice kind_count standing.old others) (λ _. AddsHeld plan.old plan.new [] []
+        PlanOutcome result (unfit_put choice kind_count standing.old others) (λ _.
+        AddsHeld plan.old plan.new [] []
         (worked_in choice (worked choice kind_count) standing.old others)) }
     ensures means { R.means rewriter.new ≡ R.means rewriter.old }
 {
@@ -141,11 +145,13 @@ fn plan_rows<R: Rewriter>(
     standing: &mut Standing,
     rows: &Rows,
 ) -> Result<(), PushFault>
-    requires { All (λ item. IsItemWithinLevels (R.means rewriter.old).choice kind_count (put_in standing.old item))
+    requires { All (λ item.
+        IsItemWithinLevels (R.means rewriter.old).choice kind_count (put_in standing.old item))
         (map row_item rows.now.items) }
     ensures answer { let choice = (R.means rewriter.old).choice in
         let items = map row_item rows.now.items in
-        PlanOutcome result (unfit_put choice kind_count standing.old items) (λ _. AddsHeld plan.old plan.new [] []
+        PlanOutcome result (unfit_put choice kind_count standing.old items) (λ _.
+        AddsHeld plan.old plan.new [] []
         (worked_in choice (worked choice kind_count) standing.old items)) }
     ensures means { R.means rewriter.new ≡ R.means rewriter.old }
     ensures same { standing.new ≡ standing.old }
@@ -167,7 +173,8 @@ pub(crate) fn plan_row<R: Rewriter>(
     standing: &mut Standing,
     row: &Row,
 ) -> Result<(), NumberFault>
-    requires { IsItemWithinLevels (R.means rewriter.old).choice kind_count (put_in standing.old (row_item row.now)) }
+    requires { IsItemWithinLevels (R.means rewriter.old).choice kind_count
+        (put_in standing.old (row_item row.now)) }
     ensures answer { let choice = (R.means rewriter.old).choice in
         let item = row_item row.now in
         ExactWhere result (IsTrue (child_fits choice kind_count standing.old item))
@@ -191,7 +198,8 @@ pub(crate) fn plan_objective<R: Rewriter>(
     standing: &mut Standing,
     objective: &Objective,
 ) -> Result<(), NumberFault>
-    requires { All (λ item. IsItemWithinLevels (R.means rewriter.old).choice kind_count (put_in standing.old item))
+    requires { All (λ item.
+        IsItemWithinLevels (R.means rewriter.old).choice kind_count (put_in standing.old item))
         (objective_items objective.now) }
     ensures answer { let choice = (R.means rewriter.old).choice in
         let items = objective_items objective.now in

@@ -65,7 +65,8 @@ module _ (e : AttachedEdit) (changed addresses : List Address) (rows : List Row)
   new_found = bridged e changed addresses rows objective search standing changing trees
 
   pub others_within :
-      All (λ item. IsItemWithinLevels (choice_here e) kind_count (put_in further item)) (found_others rows objective)
+      All (λ item. IsItemWithinLevels (choice_here e) kind_count (put_in further item))
+      (found_others rows objective)
   others_within =
       within_here e new_found standing changed addresses rows objective search changing further
       stands

@@ -134,10 +134,10 @@ module _ (e : AttachedEdit) (changed addresses : List Address) (rows : List Row)
         (subst (λ c. EachBridged (rules_by c) (model_image e.after).groups new.made.entries) new_choice
         new.made.groups) (is_found addresses)
         (λ i out. unfound e changed addresses rows objective search i out)
-        (subst (λ c. All (IsItemWithinLevels c kind_count) (filter (is_found addresses) (model_image e.after).groups))
-        new_choice
-        (All-filter (is_found addresses) (IsItemWithinLevels new.choice kind_count) (model_image e.after).groups
-        all_groups_within)) v c
+        (subst (λ c. All (IsItemWithinLevels c kind_count)
+        (filter (is_found addresses) (model_image e.after).groups)) new_choice
+        (All-filter (is_found addresses) (IsItemWithinLevels new.choice kind_count)
+        (model_image e.after).groups all_groups_within)) v c
 
 module _ (e : AttachedEdit) (new : FreshBridging (setting_here e) e.after)
     (standing : List Entry) (changed addresses : List Address) (rows : List Row)
@@ -283,7 +283,8 @@ module _ (e : AttachedEdit) (new : FreshBridging (setting_here e) e.after)
           (all_both (λ c. first_passing (is_there c.at) (model_image e.after).groups ≡ None)
           (λ c. (first_passing (is_there c.at) others ≡ Some c)
           × (AgreeOn further new.made.entries c.body
-          × IsItemWithinLevels new.choice kind_count (put_in new.made.entries c))) (found_others rows objective)
+          × IsItemWithinLevels new.choice kind_count (put_in new.made.entries c)))
+          (found_others rows objective)
           (All-weaker
           (λ c. (first_passing (is_there c.at) (model_image e.after).groups ≡ None)
           × (first_passing (is_there c.at) others ≡ Some c))
@@ -291,14 +292,16 @@ module _ (e : AttachedEdit) (new : FreshBridging (setting_here e) e.after)
           (found_others rows objective) stand)
           (all_both (λ c. first_passing (is_there c.at) others ≡ Some c)
           (λ c. AgreeOn further new.made.entries c.body
-          × IsItemWithinLevels new.choice kind_count (put_in new.made.entries c)) (found_others rows objective)
+          × IsItemWithinLevels new.choice kind_count (put_in new.made.entries c))
+          (found_others rows objective)
           (All-weaker
           (λ c. (first_passing (is_there c.at) (model_image e.after).groups ≡ None)
           × (first_passing (is_there c.at) others ≡ Some c))
           (λ c. first_passing (is_there c.at) others ≡ Some c) (λ c h. h.1)
           (found_others rows objective) stand)
           (all_both (λ c. AgreeOn further new.made.entries c.body)
-          (λ c. IsItemWithinLevels new.choice kind_count (put_in new.made.entries c)) (found_others rows objective)
+          (λ c. IsItemWithinLevels new.choice kind_count (put_in new.made.entries c))
+          (found_others rows objective)
           agree
           (of_found (λ c. IsItemWithinLevels new.choice kind_count (put_in new.made.entries c))
           (others_within (setting_here e) e.sound.costly new.choice new.chosen e.sound.lawful
@@ -325,8 +328,8 @@ module _ (e : AttachedEdit) (new : FreshBridging (setting_here e) e.after)
       within_here =
           subst (λ (c : ℕ → Choice). All (λ item. IsItemWithinLevels c kind_count (put_in further item))
           (found_others rows objective)) (new_choice e changed addresses rows objective search new)
-          (All-weaker (IsOtherOf new further) (λ item. IsItemWithinLevels new.choice kind_count (put_in further item))
-          (λ c h. h.within) (found_others rows objective) found_are)
+          (All-weaker (IsOtherOf new further)
+          (λ item. IsItemWithinLevels new.choice kind_count (put_in further item)) (λ c h. h.within) (found_others rows objective) found_are)
 
       -- ---- what is planned
 

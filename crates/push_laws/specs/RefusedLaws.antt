@@ -131,7 +131,8 @@ module _ (e : AttachedEdit) where
       (ap (λ l. first_missing (choice_here e) (kinds_as_they_stand l)) e.separates.behind ∙ none)
 
   -- they may be planned
-  pub groups_within : missing_groups e ≡ None → All (IsItemWithinLevels (choice_here e) kind_count) (groups_now e)
+  pub groups_within : missing_groups e ≡ None
+      → All (IsItemWithinLevels (choice_here e) kind_count) (groups_now e)
   groups_within none =
       subst (All (IsItemWithinLevels (choice_here e) kind_count)) e.separates.behind
       (found_groups_within (sound_behind e) (is_found (given_here e)) (choice_here e) e.sound.chosen
@@ -152,7 +153,8 @@ module _ (e : AttachedEdit) where
       (sym e.separates.behind)
       ∙ own_stands e (all_bridged none).0 (all_bridged none).1 (is_found (given_here e))
       (left_out (given_here e))
-      (subst (All (IsItemWithinLevels (choice_here e) kind_count)) (sym e.separates.behind) (groups_within none)) v c
+      (subst (All (IsItemWithinLevels (choice_here e) kind_count)) (sym e.separates.behind)
+      (groups_within none)) v c
 
   -- ---- what is found
 

@@ -253,7 +253,8 @@ module _ (e : AttachedEdit) where
               (owner_here v g (item_of_group (only_groups e.after) g.at g f) group own)) o.1)
 
       -- so what is planned of the others stands for them
-      pub own_stands : All (IsItemWithinLevels (choice_here e) kind_count) (filter keep (model_image e.after).groups)
+      pub own_stands :
+          All (IsItemWithinLevels (choice_here e) kind_count) (filter keep (model_image e.after).groups)
           → (v : Address) → Contains (own_variables e.d) v
           → expression_in (worked_each (choice_here e) (worked (choice_here e) kind_count)
           (filter keep (model_image e.after).groups)).entries v

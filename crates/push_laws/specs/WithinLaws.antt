@@ -46,7 +46,8 @@ module _ {setting : Setting} {model : ModelValue} (sound : IsValidUnder setting 
         let Agrees : Item → Type 0 = λ c. AgreeOn es bridging.made.entries c.body in
         let Within : Item → Type 0 =
         λ c. IsItemWithinLevels bridging.choice kind_count (put_in bridging.made.entries c) in
-        All-weaker (λ c. Agrees c × Within c) (λ c. IsItemWithinLevels bridging.choice kind_count (put_in es c))
+        All-weaker (λ c. Agrees c × Within c)
+        (λ c. IsItemWithinLevels bridging.choice kind_count (put_in es c))
         (λ c h. subst (IsItemWithinLevels bridging.choice kind_count)
         (sym (put_in_agreeing es bridging.made.entries c h.0)) h.1)
         (filter keep (model_image model).others)

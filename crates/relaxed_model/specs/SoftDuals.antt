@@ -147,7 +147,8 @@ module _ (first n : ℕ) (after : first ≤ n) where
           (coefficient (with_slacks n (signs_on r.set) f) (variable_address m)) []
           (zero_from (n + length (signs_on r.set)) (with_slacks n (signs_on r.set) f)
           (slacks_below n (signs_on r.set) f
-          (below_from first n after f (All-head (HasVariablesBelow first) f [] below))) (variable_address m) behind)
+          (below_from first n after f (All-head (HasVariablesBelow first) f [] below)))
+          (variable_address m) behind)
           (All-nil (λ q. q ≡ zero_ℚ))
       by (of_hard {func} isnt same) below behind =
           subst (λ (g : UserFunc). All (λ q. q ≡ zero_ℚ)

@@ -19,5 +19,7 @@ returns-in-Ok-clause-runs g c =
 pub returns-in-Err-clause-runs : goal.returns-in-Err-clause-runs
 returns-in-Err-clause-runs g c =
     let told = told_by (g.H.Shelf.files c.args.shelf.now) (g.H.Shelf.sure c.args.shelf.now) in
-    each_without_memory _ c.args.setup (run_state_of c.args.session.now told (g.H.Shelf.asked c.args.shelf.now))
-    (run_state_of c.set_up.new.self told (g.H.Shelf.asked c.args.shelf.now)) (g.O.Sink.written c.args.output.now)
+    each_without_memory _ c.args.setup
+    (run_state_of c.args.session.now told (g.H.Shelf.asked c.args.shelf.now))
+    (run_state_of c.set_up.new.self told (g.H.Shelf.asked c.args.shelf.now))
+    (g.O.Sink.written c.args.output.now)

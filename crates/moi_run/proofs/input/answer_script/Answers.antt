@@ -31,12 +31,16 @@ pub returns-clause-runs : goal.returns-clause-runs
 returns-clause-runs g c =
     let told = told_by (g.H.Shelf.files c.args.shelf.now) (g.H.Shelf.sure c.args.shelf.now) in
     runs_without_memory (Some (Run c.args.setup)) (g.I.Source.left c.args.input.now)
-    (g.I.Source.left c.args.input.now) told _ _ (run_state_of c.args.session.now told (g.H.Shelf.asked c.args.shelf.now))
-    (run_state_of c.set_up.new.self told (g.H.Shelf.asked c.args.shelf.now)) (g.O.Sink.written c.args.output.now)
+    (g.I.Source.left c.args.input.now) told _ _
+    (run_state_of c.args.session.now told (g.H.Shelf.asked c.args.shelf.now))
+    (run_state_of c.set_up.new.self told (g.H.Shelf.asked c.args.shelf.now))
+    (g.O.Sink.written c.args.output.now)
 
 pub returns-in_default-clause-runs : goal.returns-in_default-clause-runs
 returns-in_default-clause-runs g c =
     let told = told_by (g.H.Shelf.files c.args.shelf.now) (g.H.Shelf.sure c.args.shelf.now) in
     runs_without_memory (Some (Run c.args.setup)) (g.I.Source.left c.args.input.now)
-    (g.I.Source.left c.args.input.now) told _ _ (run_state_of c.args.session.now told (g.H.Shelf.asked c.args.shelf.now))
-    (run_state_of c.args.session.now told (g.H.Shelf.asked c.args.shelf.now)) (g.O.Sink.written c.args.output.now)
+    (g.I.Source.left c.args.input.now) told _ _
+    (run_state_of c.args.session.now told (g.H.Shelf.asked c.args.shelf.now))
+    (run_state_of c.args.session.now told (g.H.Shelf.asked c.args.shelf.now))
+    (g.O.Sink.written c.args.output.now)

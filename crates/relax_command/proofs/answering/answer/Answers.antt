@@ -28,7 +28,8 @@ pub returns-in-Err-clause-answers : goal.returns-in-Err-clause-answers
 returns-in-Err-clause-answers g c = λ not.
     let setting = standard_by (prelude.map g.B.Bridge.state c.args.bridges.items) in
     let told = told_by (g.H.Shelf.files c.args.shelf.now) (g.H.Shelf.sure c.args.shelf.now) in
-    answered_without (SaysOfRelaxation setting) told c.args.name.now c.in-Err.answer c.in-Err.ensures.loads not
+    answered_without (SaysOfRelaxation setting) told c.args.name.now c.in-Err.answer
+    c.in-Err.ensures.loads not
 
 pub returns-in-Err-clause-cause : goal.returns-in-Err-clause-cause
 returns-in-Err-clause-cause g c = λ e. c.in-Err.ensures.cause (ap Err e)
