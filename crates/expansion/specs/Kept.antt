@@ -8,20 +8,20 @@ use Rattle.expansion.specs.Bridged.{Bridged, EachBridged, EachBridgedIn, by, eac
 module _ {Item Entry : Type 0} {rules : Rules Item Entry} (choice : Item → Choice) where
   unfoldable mutual
     -- at each node and leaf the other choice is the same
-    pub Keeps : {item : Item} {entries : List Entry} → Bridged rules item entries → Type 0
-    Keeps (natively {item} c) = choice item ≡ Native
-    Keeps (by {item} {edge} c groups others) = (choice item ≡ By edge) × KeepsEach groups
+    pub KeepsChoices : {item : Item} {entries : List Entry} → Bridged rules item entries → Type 0
+    KeepsChoices (natively {item} c) = choice item ≡ Native
+    KeepsChoices (by {item} {edge} c groups others) = (choice item ≡ By edge) × KeepsEach groups
         × KeepsIn others
 
     pub KeepsEach : {items : List Item} {entries : List Entry} → EachBridged rules items entries
         → Type 0
     KeepsEach none = Unit {0}
-    KeepsEach (each first rest) = Keeps first × KeepsEach rest
+    KeepsEach (each first rest) = KeepsChoices first × KeepsEach rest
 
     pub KeepsIn : {inner : List Entry} {items : List Item} → EachBridgedIn rules inner items
         → Type 0
     KeepsIn none_in = Unit {0}
-    KeepsIn (each_in first rest) = Keeps first × KeepsIn rest
+    KeepsIn (each_in first rest) = KeepsChoices first × KeepsIn rest
 
 -- the same rules with another choice
 abbrev pub rechosen : {Item Entry : Type 0} → Rules Item Entry → (Item → Choice) → Rules Item Entry

@@ -5,16 +5,16 @@ use Rattle.bridge_graph.specs.declared.Choice.{Choice}
 use Rattle.expansion.specs.Rules.{Rules}
 use Rattle.expansion.specs.Bridged.{Bridged, EachBridged, EachBridgedIn, by, each, each_in, natively, none, none_in}
 use Rattle.expansion.specs.Read.{fits, leaves, nodes}
-use Rattle.expansion.specs.Kept.{Keeps, KeepsEach, KeepsIn, rechosen}
+use Rattle.expansion.specs.Kept.{KeepsChoices, KeepsEach, KeepsIn, rechosen}
 use Rattle.expansion.specs.Grown.{joined, node_held, put_held}
 use Rattle.expansion.specs.GrownLaws.{held, held_each, held_in}
 
 module _ {Item Entry : Type 0} {rules : Rules Item Entry} (choice : Item → Choice) where
   mutual
-    unfolding leaves nodes fits Keeps
+    unfolding leaves nodes fits KeepsChoices
 
     pub rebridged : {item : Item} {entries : List Entry} (tree : Bridged rules item entries)
-        → Keeps choice tree
+        → KeepsChoices choice tree
         → (other : Bridged (rechosen rules choice) item entries) × (held other ≡ held tree)
     rebridged (natively c) k = (natively k, refl)
     rebridged (by {item} {edge} {inner} c groups others) k =

@@ -5,7 +5,7 @@ use Rattle.std.specs.FinMap as finite
 use Rattle.aff_core.specs.Address.{Address, address_eq, root_address}
 use Rattle.bridge_graph.specs.declared.Choice.{Choice}
 use Rattle.expansion.specs.Bridged.{EachBridged, EachBridgedIn, each, each_in, none, none_in}
-use Rattle.expansion.specs.Kept.{Keeps}
+use Rattle.expansion.specs.Kept.{KeepsChoices}
 use Rattle.expansion.specs.Rules.{Rules}
 use Rattle.item_core.specs.declared.item.Item.{Item}
 use Rattle.item_core.specs.Item.{functions_of}
@@ -35,12 +35,12 @@ module _ {rules : Rules Item Entry} (choice : Item → Choice) (at : Address) wh
   unfoldable pub KeepsAtEach : {items : List Item} {entries : List Entry}
       → EachBridged rules items entries → Type 0
   KeepsAtEach none = Unit {0}
-  KeepsAtEach (each {item} first rest) = (item.at ≡ at → Keeps choice first) × KeepsAtEach rest
+  KeepsAtEach (each {item} first rest) = (item.at ≡ at → KeepsChoices choice first) × KeepsAtEach rest
 
   unfoldable pub KeepsAtIn : {inner : List Entry} {items : List Item}
       → EachBridgedIn rules inner items → Type 0
   KeepsAtIn none_in = Unit {0}
-  KeepsAtIn (each_in {item} first rest) = (item.at ≡ at → Keeps choice first) × KeepsAtIn rest
+  KeepsAtIn (each_in {item} first rest) = (item.at ≡ at → KeepsChoices choice first) × KeepsAtIn rest
 
 abbrev pub choice_of_item : (ℕ → Choice) → Item → Choice
 choice_of_item choice item = choice (kind_number (kind_of_body item.body))

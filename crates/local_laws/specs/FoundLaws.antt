@@ -14,7 +14,7 @@ use Rattle.bridge_graph.specs.declared.Choice.TheVariants.{By, Missing, Native}
 use Rattle.bridge_graph.specs.Tree.{IsTreeless, by as by_edge, native}
 use Rattle.expansion.specs.Bridged.{Bridged}
 use Rattle.expansion.specs.Bridged as bridged
-use Rattle.expansion.specs.Kept.{Keeps}
+use Rattle.expansion.specs.Kept.{KeepsChoices}
 use Rattle.aff_core.specs.Address.{Address, address_eq-Decides}
 use Rattle.item_core.specs.declared.kind.Kind.{Kind}
 use Rattle.map_laws.specs.EachLaws.{cons_head, cons_tail}
@@ -217,9 +217,9 @@ module _ (next : Setting) (choice : ℕ → Choice) (chosen : AreChoices next ch
       by Missing some h = absurd (some refl)
 
   kept_has_tree : {rules : _} {item : Item} {entries : List Entry}
-      (tree : Bridged rules item entries) → Keeps (choice_of_item choice) tree
+      (tree : Bridged rules item entries) → KeepsChoices (choice_of_item choice) tree
       → HasTree (graph_of next) item
-  unfolding Keeps
+  unfolding KeepsChoices
   kept_has_tree (bridged.natively {item} c) k = chosen_tree item Native k (λ e. cc)
   kept_has_tree (bridged.by {item} {edge} c groups others) k =
       chosen_tree item (By edge) k.0 (λ e. cc)

@@ -7,7 +7,7 @@ use Rattle.bridge_graph.specs.declared.Choice.{Choice}
 use Rattle.expansion.specs.Bridged.{Bridged, EachBridged, EachBridgedIn, by, each, each_in, natively, none, none_in}
 use Rattle.expansion.specs.Grown.{Held, put_held}
 use Rattle.expansion.specs.GrownLaws.{held}
-use Rattle.expansion.specs.Kept.{Keeps, KeepsEach, KeepsIn}
+use Rattle.expansion.specs.Kept.{KeepsChoices, KeepsEach, KeepsIn}
 use Rattle.expansion.specs.Rules.{Rules}
 use Rattle.item_core.specs.declared.item.Item.{Item}
 use Rattle.fresh_bridging.specs.Entries.{Entry}
@@ -19,10 +19,10 @@ use Rattle.local_laws.specs.SettledLaws.{IsStable, settled_choice}
 
 module _ {rules : Rules Item Entry} (choice : Item → Choice) where
   mutual
-    unfolding Keeps
+    unfolding KeepsChoices
 
     stand_keeps : {item : Item} {entries : List Entry} (tree : Bridged rules item entries)
-        → IsStable (Keeps choice tree)
+        → IsStable (KeepsChoices choice tree)
     stand_keeps (natively {item} c) h = settled_choice (choice item) _ h
     stand_keeps (by {item} {edge} c groups others) h = (
       settled_choice (choice item) _ (λ n. h (λ k. n k.0)),
@@ -73,7 +73,7 @@ module _ (rules : Rules Item Entry) (choice : Item → Choice) where
     pub entries : List Entry
     pub tree : Bridged rules item entries
     pub is : found ≡ Some (held tree)
-    pub keeps : Keeps choice tree
+    pub keeps : KeepsChoices choice tree
 
   -- a tree of a further child
   pub record IsHeldIn (inner : List Entry) (item : Item)
@@ -81,7 +81,7 @@ module _ (rules : Rules Item Entry) (choice : Item → Choice) where
     pub entries : List Entry
     pub tree : Bridged rules (rules.put_in inner item) entries
     pub is : found ≡ Some (put_held rules inner item (held tree))
-    pub keeps : Keeps choice tree
+    pub keeps : KeepsChoices choice tree
 
 module _ {rules : Rules Item Entry} (choice : Item → Choice) where
   module _ (at : Address) where
@@ -167,10 +167,10 @@ module _ {rules : Rules Item Entry} (at : Address) where
 
 module _ {rules : Rules Item Entry} where
   mutual
-    unfolding Keeps
+    unfolding KeepsChoices
 
     keeps_own : {item : Item} {entries : List Entry} (tree : Bridged rules item entries)
-        → Keeps rules.choice tree
+        → KeepsChoices rules.choice tree
     keeps_own (natively c) = c
     keeps_own (by c groups others) = (c, keeps_own_groups groups, keeps_own_others others)
 

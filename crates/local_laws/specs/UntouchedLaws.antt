@@ -11,7 +11,7 @@ use Rattle.bridge_face.specs.Law.{Miss}
 use Rattle.expansion.specs.Bridged.{Bridged, EachBridged, EachBridgedIn, by, each, each_in, natively, none, none_in}
 use Rattle.expansion.specs.Grown.{Held, put_held}
 use Rattle.expansion.specs.GrownLaws.{held}
-use Rattle.expansion.specs.Kept.{Keeps, KeepsEach, KeepsIn}
+use Rattle.expansion.specs.Kept.{KeepsChoices, KeepsEach, KeepsIn}
 use Rattle.expansion.specs.Read.{leaves, leaves_in, leaves_of_each, nodes, nodes_in, nodes_of_each}
 use Rattle.expansion.specs.Rules.{Rules}
 use Rattle.aff_core.specs.Address.{Address, address_eq, address_eq-Decides}
@@ -65,10 +65,10 @@ module _ (choice : Item → Choice) where
 
   module _ {rules : Rules Item Entry} where
     mutual
-      unfolding Keeps leaves nodes
+      unfolding KeepsChoices leaves nodes
 
       suits : {item : Item} {entries : List Entry} (tree : Bridged rules item entries)
-          → Keeps choice tree → Suit (leaves tree) (nodes tree)
+          → KeepsChoices choice tree → Suit (leaves tree) (nodes tree)
       suits (natively {item} c) k = (
         All-cons (λ i. choice i ≡ Native) item [] k (All-nil (λ i. choice i ≡ Native)),
         All-nil (λ n. choice n.1 ≡ By n.0),
@@ -98,10 +98,10 @@ module _ (choice : Item → Choice) where
           (suits first k.0) (suits_in rest k.1)
 
     mutual
-      unfolding Keeps leaves nodes
+      unfolding KeepsChoices leaves nodes
 
       keeps : {item : Item} {entries : List Entry} (tree : Bridged rules item entries)
-          → Suit (leaves tree) (nodes tree) → Keeps choice tree
+          → Suit (leaves tree) (nodes tree) → KeepsChoices choice tree
       keeps (natively {item} c) s = All-head (λ i. choice i ≡ Native) item [] s.0
       keeps (by {item} {edge} c groups others) s =
           let below = suit_parts (leaves_of_each groups) (leaves_in others) (nodes_of_each groups)
@@ -204,7 +204,7 @@ module _ (choice : Item → Choice) where
         step : (b : Bool) → is_there at item ≡ b
             → SuitsHeld (cond b (Some (held first)) (held_at_each at rest))
             → (SuitsHeld (held_at_each at rest) → KeepsAtEach choice at rest)
-            → (item.at ≡ at → Keeps choice first) × KeepsAtEach choice at rest
+            → (item.at ≡ at → KeepsChoices choice first) × KeepsAtEach choice at rest
         step true e s later = (
           λ _. keeps first s,
           later (subst SuitsHeld (sym (none_at_each at rest (nobody_there at item items e alone.0)))
@@ -226,7 +226,7 @@ module _ (choice : Item → Choice) where
         step : (b : Bool) → is_there at item ≡ b
             → SuitsHeld (cond b (Some (put_held rules inner item (held first))) (held_at_in at rest))
             → (SuitsHeld (held_at_in at rest) → KeepsAtIn choice at rest)
-            → (item.at ≡ at → Keeps choice first) × KeepsAtIn choice at rest
+            → (item.at ≡ at → KeepsChoices choice first) × KeepsAtIn choice at rest
         step true e s later = (
           λ _. keeps first s,
           later (subst SuitsHeld (sym (none_at_in at rest (nobody_there at item items e alone.0)))

@@ -11,7 +11,7 @@ use Rattle.bridge_graph.specs.Hypergraph.{IsCostly}
 use Rattle.bridge_graph.specs.declared.Choice.{Choice}
 use Rattle.bridge_graph.specs.declared.Choice.TheVariants.{By, Missing, Native}
 use Rattle.expansion.specs.Bridged.{Bridged, EachBridged, EachBridgedIn, by, each, each_in, natively, none, none_in}
-use Rattle.expansion.specs.Kept.{Keeps, KeepsEach, KeepsIn}
+use Rattle.expansion.specs.Kept.{KeepsChoices, KeepsEach, KeepsIn}
 use Rattle.expansion.specs.Ranks.{RanksBelow}
 use Rattle.fresh_bridging.specs.CanLaws.{AreLawful, Can, IsChild, are_children, down, rank_of, same_entry}
 use Rattle.fresh_bridging.specs.Entries.{Entry, put_in}
@@ -178,11 +178,11 @@ module _ (setting : Setting) (costly : IsCostly (graph_of setting)) (choice : �
           ((ranked setting costly choice chosen lawful).others item edge inner is.can c trees)))
 
   mutual
-    unfolding Keeps
+    unfolding KeepsChoices
 
     -- each choice at and below it is the same
     pub unchanged_keeps : {item : Item} {entries : List Entry} (n : ℕ) → IsUnchanged n item
-        → (tree : Bridged (rules_by choice) item entries) → Keeps (choice_of_item other) tree
+        → (tree : Bridged (rules_by choice) item entries) → KeepsChoices (choice_of_item other) tree
     unchanged_keeps zero is tree = absurd (omega (arith, is.levels))
     unchanged_keeps (suc n) is (natively {item} c) = unchanged_choice n item is ∙ c
     unchanged_keeps (suc n) is (by {item} {edge} {inner} c groups others) = (
@@ -247,10 +247,10 @@ module _ (setting : Setting) (costly : IsCostly (graph_of setting)) (choice : �
       ∙ ap not (choice_itself (choice (kind_number k)))
 
   mutual
-    unfolding Keeps is_changed
+    unfolding KeepsChoices is_changed
 
     pub keeps_unchanged : {item : Item} {entries : List Entry} (n : ℕ) → CanBe item
-        → (tree : Bridged (rules_by choice) item entries) → Keeps (choice_of_item other) tree
+        → (tree : Bridged (rules_by choice) item entries) → KeepsChoices (choice_of_item other) tree
         → Stays n item
     keeps_unchanged zero can tree k = refl
     keeps_unchanged (suc n) can (natively {item} c) k =
