@@ -50,7 +50,8 @@ same_or_other : (a b : ℕ) → (a ≡ b) ⊎ (a ≢ b)
 same_or_other a b = elim (eqb_tells a b) [ inl (_, e) ↦ inl e | inr (_, ne) ↦ inr ne ]
 
 -- a fact for each plan, after one plan is set
-at_set : (P : ℕ → KindPlan → Type 0) (plans : List KindPlan) (kind : ℕ) (plan : KindPlan) → kind < length plans
+at_set : (P : ℕ → KindPlan → Type 0) (plans : List KindPlan) (kind : ℕ) (plan : KindPlan)
+    → kind < length plans
     → P kind plan → ((other : ℕ) → other ≢ kind → P other (plan_at plans other)) → (other : ℕ)
     → P other (plan_at (slice_set plans kind plan) other)
 at_set P plans kind plan within here others other = elim (same_or_other other kind) [
