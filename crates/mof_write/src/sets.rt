@@ -1,6 +1,7 @@
 //! Sets as JSON values.
-ghost use Rattle.std.specs.Prelude.{◌≡◌, ◌∷◌, [], IfOk, OnOk};
+ghost use Rattle.std.specs.Prelude.{◌≡◌, ◌∷◌, [], IfOk, OnOk, false};
 ghost use Rattle.serde_json.specs.View.{view};
+ghost use Rattle.set_core.specs.Shapes.{dimension_of, is_scalar};
 ghost use Rattle.set_core.specs.declared.set.Set.TheVariants.{Interval};
 ghost use Rattle.ratio_core.specs.Rational.{Fits};
 ghost use Rattle.mof_write.specs.Sayable.{SetFits};
@@ -24,12 +25,25 @@ pub(crate) fn set(alloc: Global, set: &Set) -> Result<Value, Memory>
         Set::GreaterThan { lower } => Ok(greater_than(alloc, number(alloc, *lower)?)?),
         Set::EqualTo { value } => Ok(equal_to(alloc, number(alloc, *value)?)?),
         Set::Interval { lower, upper } => bounded(alloc, *lower, *upper),
-        Set::Reals { dimension } => Ok(sized(alloc, "Reals", *dimension)?),
-        Set::Zeros { dimension } => Ok(sized(alloc, "Zeros", *dimension)?),
-        Set::Nonnegatives { dimension } => Ok(sized(alloc, "Nonnegatives", *dimension)?),
-        Set::Nonpositives { dimension } => Ok(sized(alloc, "Nonpositives", *dimension)?),
-        Set::NormInfinityCone { dimension } => Ok(sized(alloc, "NormInfinityCone", *dimension)?),
-        Set::NormOneCone { dimension } => Ok(sized(alloc, "NormOneCone", *dimension)?),
+        vectors => Ok(sized(alloc, vector_type(vectors), vectors.dimension())?),
+    }
+}
+
+// The type of a set of vectors, which has its dimension for its only number.
+#[tactic(auto, unfolding(crate::specs::Values::set_data))]
+fn vector_type(set: &Set) -> &'static str
+    requires { is_scalar set.now ≡ false }
+    ensures data { set_data set.now ≡ sized_data result.now (dimension_of set.now) }
+    ensures fits { SetFits set.now }
+{
+    match set {
+        Set::Reals { .. } => "Reals",
+        Set::Zeros { .. } => "Zeros",
+        Set::Nonnegatives { .. } => "Nonnegatives",
+        Set::Nonpositives { .. } => "Nonpositives",
+        Set::NormInfinityCone { .. } => "NormInfinityCone",
+        Set::NormOneCone { .. } => "NormOneCone",
+        _ => unreachable!(),
     }
 }
 
