@@ -5,11 +5,12 @@ ghost use Rattle.certificates.specs.Good.{Good};
 ghost use Rattle.certificates.specs.Points.{objective_value};
 ghost use Rattle.certificates.specs.declared.certificate.Certificate.TheVariants.{Infeasible, Optimal, Unbounded};
 ghost use Rattle.certificates.specs.Duals.{dual_gap};
-ghost use Rattle.cert_core.specs.Folds.{ObjectiveValueFits};
+ghost use Rattle.cert_core.specs.Folds.{EvaluationFits, ObjectiveValueFits};
 ghost use Rattle.equality_form.specs.Right.{IsRight};
 ghost use Rattle.fresh_bridging.specs.FreshBridging.{leaves_of};
 ghost use Rattle.ratio_core.specs.Rational.{one_ℚ};
 ghost use Rattle.aff_core.specs.Address.{root_address};
+ghost use Rattle.aff_core.specs.Function.{evaluated};
 ghost use Rattle.aff_core.specs.declared.root.Root.TheVariants.{Objective};
 ghost use Rattle.std_form.specs.Answers.{answer_of};
 ghost use Rattle.adjoint_core.specs.CanCarry.{CanCarry};
@@ -86,8 +87,7 @@ fn optimal<B: Bridge>(
         (IsUnfitOptimal m duals fit unfit f values) }
 {
     let users = Variables::of(alloc, model.groups())?;
-    let leaf = LeafNumbers::of(alloc, places, x)?;
-    let x = values(alloc, places, users.addresses(), &leaf.point())?;
+    let x = values_at(alloc, places, &users, x)?;
     let rows = row_duals(alloc, bridges, places, y, model.rows())?;
     let vars = reduced_costs(alloc, model.objective(), &users, model.rows(), &rows)?;
     let value = value_at(model, &users, &x)?;
@@ -97,6 +97,25 @@ fn optimal<B: Bridge>(
         rows: Sequence::from_vec(rows),
         vars: Sequence::from_vec(vars),
     })
+}
+
+// The values of the user's variables. The numbers of the leaf variables are freed here, in one
+// place, before the duals are carried.
+fn values_at(
+    alloc: Global,
+    places: &AddressMap,
+    users: &Variables,
+    x: &LeafPoint,
+) -> Result<Vec<Ratio>, BackFault>
+    ensures { let f = expression_at places.now.exprs in let x = numbers_by places.now x.now in
+        TellsCarried result (prelude.All (λ v. EvaluationFits one_ℚ (f v) x) users.now)
+        (λ values. values.items ≡ prelude.map (λ v. evaluated one_ℚ (f v) x) users.now)
+        (FirstNot (λ v. EvaluationFits one_ℚ (f v) x) (λ v. v) users.now) }
+{
+    let leaf = LeafNumbers::of(alloc, places, x)?;
+    let made = values(alloc, places, users.addresses(), &leaf.point());
+    drop(leaf);
+    made
 }
 
 // The objective's value at a point.

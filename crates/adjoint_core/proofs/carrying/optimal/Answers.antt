@@ -1,25 +1,27 @@
 use Rattle.std.specs.Prelude.{◌≡◌, List, All, map}
-use Rattle.std.proofs.Common.{◌∙◌, ap, inl, inr, rules, subst}
+use Rattle.std.proofs.Common.{◌∙◌, ap, inl, inr, subst}
 use Rattle.ratio_core.specs.Rational.{Rational, one_ℚ, zero_ℚ}
 use Rattle.aff_core.specs.Address.{Address}
 use Rattle.aff_core.specs.Function.{coefficient}
 use Rattle.cert_core.specs.Folds.{AddUp, CostFits, EvaluationFits, ObjectiveValueFits, adjoint_parts}
 use Rattle.certificates.specs.Duals.{reduced_cost, rows_with}
-use Rattle.certificates.specs.Points.{objective_function, objective_value, sense_of}
+use Rattle.certificates.specs.Points.{all_addresses, objective_function, objective_value, sense_of}
 use Rattle.dual_laws.specs.Held.{adjoint}
 use Rattle.user_model.specs.declared.objective.Objective.{Objective}
 use Rattle.user_model.specs.declared.row.Row.{Row}
-use Rattle.adjoint_core.specs.CarriedBack.{IsUnfitOptimal, OptimalBackFits, point, reduced}
+use Rattle.adjoint_core.specs.CarriedBack.{IsUnfitOptimal, OptimalBackFits, point, reduced, users}
 use Rattle.adjoint_core.specs.Read.{duals_by, expression_at, numbers_by}
 use Rattle.adjoint_core.specs.Told.{FirstNot}
 use Rattle.adjoint_core.specs.Walk.{IsUnfitAmong, RowDualFits, row_dual}
 use Rattle.adjoint_core.proofs.InOrder.{told_on}
-use Rattle.adjoint_core.proofs.Moved.{RowsTold, ValuesTold, move2, move4, point_is}
+use Rattle.adjoint_core.proofs.Moved.{RowsTold, ValuesTold, move4, point_is}
 use Rattle.adjoint_core.proofs.carrying.optimal.Goals as goal
 
 pub returns-in_err-x : goal.returns-in_err-x
 returns-in_err-x g c =
     let m = c.args.model.now.model in
+    let same : c.in_ok-users.users ≡ users m = c.in_ok-users.ensures
+    ∙ ap all_addresses c.groups.ensures.value in
     let f = expression_at c.args.places.now.exprs in
     let x = numbers_by c.args.places.now c.args.x.now in
     let states = map g.B.Bridge.state c.args.bridges.now in
@@ -31,13 +33,14 @@ returns-in_err-x g c =
     (OptimalBackFits m duals Fit Unfit f x) _ _ _ (IsUnfitOptimal m duals Fit Unfit f x)
     c.from_residual-in_err-x.ensures.1 c.in_err-x.ensures
     (λ at h. inl
-    (move2 (λ (us : List Address) (p : Address → Rational).
-    FirstNot (λ v. EvaluationFits one_ℚ (f v) p) (λ v. v) us at)
-    h (search rules) (c.point.ensures ∙ c.in_ok-leaf.ensures)))
+    (subst (λ (us : List Address). FirstNot (λ v. EvaluationFits one_ℚ (f v) x) (λ v. v) us at)
+    same h))
 
 pub returns-in_err-vars : goal.returns-in_err-vars
 returns-in_err-vars g c =
     let m = c.args.model.now.model in
+    let same : c.in_ok-users.users ≡ users m = c.in_ok-users.ensures
+    ∙ ap all_addresses c.groups.ensures.value in
     let f = expression_at c.args.places.now.exprs in
     let x = numbers_by c.args.places.now c.args.x.now in
     let states = map g.B.Bridge.state c.args.bridges.now in
@@ -45,8 +48,8 @@ returns-in_err-vars g c =
     let duals = map (row_dual states leaf) m.rows in
     let Fit = All (RowDualFits states leaf) m.rows in
     let Unfit = IsUnfitAmong states leaf m.rows in
-    let here = move2 (ValuesTold f c.in_ok-x.x.items) c.in_ok-x.ensures (search rules)
-    (c.point.ensures ∙ c.in_ok-leaf.ensures) in
+    let here = subst (λ (us : List Address). ValuesTold f c.in_ok-x.x.items us x) same
+    c.in_ok-x.ensures in
     let rows = subst (RowsTold states leaf c.in_ok-rows.rows.items) c.rows.ensures.value
     c.in_ok-rows.ensures in
     told_on c.from_residual-in_err-vars.result c.in_err-vars.field-0.0 _
@@ -62,7 +65,7 @@ returns-in_err-vars g c =
             FirstNot (λ v. AddUp zero_ℚ (adjoint_parts (rows_with ys rs) v)
             × CostFits (sense_of o) (coefficient (objective_function o) v)
             (adjoint (rows_with ys rs) v))
-            (λ v. v) us at) h (search rules) c.rows-2.ensures.value (c.deref.ensures.value ∙ rows.1)
+            (λ v. v) us at) h same c.rows-2.ensures.value (c.deref.ensures.value ∙ rows.1)
             c.objective.ensures.value),
       ),
     ))
@@ -70,6 +73,8 @@ returns-in_err-vars g c =
 pub returns-in_err-value : goal.returns-in_err-value
 returns-in_err-value g c =
     let m = c.args.model.now.model in
+    let same : c.in_ok-users.users ≡ users m = c.in_ok-users.ensures
+    ∙ ap all_addresses c.groups.ensures.value in
     let f = expression_at c.args.places.now.exprs in
     let x = numbers_by c.args.places.now c.args.x.now in
     let states = map g.B.Bridge.state c.args.bridges.now in
@@ -77,8 +82,8 @@ returns-in_err-value g c =
     let duals = map (row_dual states leaf) m.rows in
     let Fit = All (RowDualFits states leaf) m.rows in
     let Unfit = IsUnfitAmong states leaf m.rows in
-    let here = move2 (ValuesTold f c.in_ok-x.x.items) c.in_ok-x.ensures (search rules)
-    (c.point.ensures ∙ c.in_ok-leaf.ensures) in
+    let here = subst (λ (us : List Address). ValuesTold f c.in_ok-x.x.items us x) same
+    c.in_ok-x.ensures in
     let rows = subst (RowsTold states leaf c.in_ok-rows.rows.items) c.rows.ensures.value
     c.in_ok-rows.ensures in
     let costs = move4 (λ (us : List Address) (rs : List Row) (ys : List (List Rational))
@@ -86,7 +91,7 @@ returns-in_err-value g c =
     × CostFits (sense_of o) (coefficient (objective_function o) v) (adjoint (rows_with ys rs) v)) us
     × (c.in_ok-vars.vars.items ≡ map (λ v. reduced_cost (sense_of o)
     (coefficient (objective_function o) v) (adjoint (rows_with ys rs) v)) us)) c.in_ok-vars.ensures
-    (search rules) c.rows-2.ensures.value (c.deref.ensures.value
+    same c.rows-2.ensures.value (c.deref.ensures.value
     ∙ rows.1) c.objective.ensures.value in
     let point_here : c.in_ok-x.x.items ≡ point m f x = here.1 ∙ point_is m f x in
     told_on c.from_residual-in_err-value.result c.in_err-value.field-0.0 _
@@ -110,6 +115,8 @@ returns-in_err-value g c =
 pub returns : goal.returns
 returns g c =
     let m = c.args.model.now.model in
+    let same : c.in_ok-users.users ≡ users m = c.in_ok-users.ensures
+    ∙ ap all_addresses c.groups.ensures.value in
     let f = expression_at c.args.places.now.exprs in
     let x = numbers_by c.args.places.now c.args.x.now in
     let states = map g.B.Bridge.state c.args.bridges.now in
@@ -117,8 +124,8 @@ returns g c =
     let duals = map (row_dual states leaf) m.rows in
     let Fit = All (RowDualFits states leaf) m.rows in
     let Unfit = IsUnfitAmong states leaf m.rows in
-    let here = move2 (ValuesTold f c.in_ok-x.x.items) c.in_ok-x.ensures (search rules)
-    (c.point.ensures ∙ c.in_ok-leaf.ensures) in
+    let here = subst (λ (us : List Address). ValuesTold f c.in_ok-x.x.items us x) same
+    c.in_ok-x.ensures in
     let rows = subst (RowsTold states leaf c.in_ok-rows.rows.items) c.rows.ensures.value
     c.in_ok-rows.ensures in
     let costs = move4 (λ (us : List Address) (rs : List Row) (ys : List (List Rational))
@@ -126,7 +133,7 @@ returns g c =
     × CostFits (sense_of o) (coefficient (objective_function o) v) (adjoint (rows_with ys rs) v)) us
     × (c.in_ok-vars.vars.items ≡ map (λ v. reduced_cost (sense_of o)
     (coefficient (objective_function o) v) (adjoint (rows_with ys rs) v)) us)) c.in_ok-vars.ensures
-    (search rules) c.rows-2.ensures.value (c.deref.ensures.value
+    same c.rows-2.ensures.value (c.deref.ensures.value
     ∙ rows.1) c.objective.ensures.value in
     let point_here : c.in_ok-x.x.items ≡ point m f x = here.1 ∙ point_is m f x in
     let whole : c.deref-2.result.now ≡ point m f x = c.deref-2.ensures.value ∙ point_here in
