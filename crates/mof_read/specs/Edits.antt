@@ -49,6 +49,10 @@ sorted_in taken cs = with_constraints taken (length cs) 0 nothing cs
 unfoldable pub sorted_of : List FileConstraint → Sorted
 sorted_of cs = sorted_in (all_names [] cs) (with_own_names [] cs)
 
+-- the groups in the order of the file's variables, and then the rows
+abbrev pub sorted_edits : Sorted → List (List ℕ) → List Edit
+sorted_edits s variables = in_order s.owners s.groups variables ++ s.rows
+
 abbrev pub objective_edits : FileObjective → List Edit
 objective_edits Feasibility = []
 objective_edits (Optimize sense func) = Objective sense func ∷ []

@@ -15,11 +15,14 @@ abbrev pub and_name : List (List ℕ) → Option (List ℕ) → List (List ℕ)
 and_name earlier (Some name) = insert_key bytes_eq earlier name
 and_name earlier None = earlier
 
+abbrev pub with_own_name : List (List ℕ) → FileConstraint → FileConstraint
+with_own_name earlier c = record c { name = own_name earlier c.name }
+
 -- the constraints, each with no name or one of its own
 abbrev pub with_own_names : List (List ℕ) → List FileConstraint → List FileConstraint
 with_own_names earlier [] = []
 with_own_names earlier (c ∷ cs) =
-    record c { name = own_name earlier c.name } ∷ with_own_names (and_name earlier c.name) cs
+    with_own_name earlier c ∷ with_own_names (and_name earlier c.name) cs
 
 -- the names of these and of the constraints
 abbrev pub all_names : List (List ℕ) → List FileConstraint → List (List ℕ)

@@ -1,14 +1,16 @@
 //! The edits of a file.
 ghost use Rattle.std.specs.Prelude.{◌≡◌, ◌++◌, ◌^◌, ◌<◌, IfOk, Ok, OnOk, length};
 ghost use Rattle.mof_file.specs.File.{FileValue, file_in, seen};
-ghost use Rattle.mof_read.specs.Edits.{edits_in, edits_of, objective_edits};
+ghost use Rattle.mof_read.specs.Edits.{edits_in, edits_of, objective_edits, sorted_edits, sorted_of, sorted_so_far};
 ghost use Rattle.mof_read.specs.NameLaws.{MadeNamesAreNew, RowsAreApart};
 ghost use Rattle.mof_values.specs.Walked.{MeetsWalk};
 
-use crate::groups::in_order;
+use crate::groups::put_groups;
 use crate::sorting::{Sorting, sorted};
+use indexmap::IndexSet;
 use lists::{Memory, Sequence};
-use mof_file::{FileObjective, MofFault, MofFile, read_file};
+use mof_file::{FileConstraint, FileObjective, MofFault, MofFile, read_file};
+use name_index::Name;
 use std::alloc::Global;
 use user_model::{Edit, Edits};
 
@@ -27,9 +29,18 @@ pub fn read(alloc: Global, text: &[u8]) -> Result<Edits, MofFault>
     Ok(edits)
 }
 
-#[tactic(auto, unfolding(crate::specs::Edits::edits_of))]
 fn edits_of(alloc: Global, file: MofFile) -> Result<Edits, Memory>
     ensures edits { IfOk result (λ edits. edits ≡ edits_of (seen file)) }
+    ensures few { OnOk result (length file.constraints.items < 2 ^ 64) }
+{
+    let mut edits = Vec::new(alloc);
+    put_file(alloc, &mut edits, file)?;
+    Ok(Sequence::from_vec(edits))
+}
+
+#[tactic(auto, unfolding(crate::specs::Edits::edits_of))]
+fn put_file(alloc: Global, edits: &mut Vec<Edit>, file: MofFile) -> Result<(), Memory>
+    ensures edits { OnOk result (edits.new.items ≡ edits.old.items ++ edits_of (seen file)) }
     ensures few { OnOk result (length file.constraints.items < 2 ^ 64) }
 {
     let MofFile {
@@ -37,22 +48,45 @@ fn edits_of(alloc: Global, file: MofFile) -> Result<Edits, Memory>
         objective,
         constraints,
     } = file;
-    let Sorting {
-        groups,
-        owners,
-        rows,
-    } = sorted(alloc, constraints)?;
-    let mut edits = in_order(alloc, &owners, groups, variables)?;
-    put_rows(&mut edits, rows)?;
-    put_objective(&mut edits, objective)?;
-    Ok(Sequence::from_vec(edits))
+    put_constraints(alloc, edits, constraints, variables)?;
+    put_objective(edits, objective)
 }
 
-fn put_rows(edits: &mut Vec<Edit>, rows: Vec<Edit>) -> Result<(), Memory>
-    ensures { OnOk result (edits.new.items ≡ edits.old.items ++ rows.items) }
+// Appends the groups in the order of the file, and then the rows. What is sorted is lent, so that
+// it is freed in one place.
+fn put_constraints(
+    alloc: Global,
+    edits: &mut Vec<Edit>,
+    constraints: Vec<FileConstraint>,
+    variables: IndexSet<Name>,
+) -> Result<(), Memory>
+    ensures edits { OnOk result (edits.new.items ≡ edits.old.items
+        ++ sorted_edits (sorted_of constraints.items) variables.keys) }
+    ensures few { OnOk result (length constraints.items < 2 ^ 64) }
 {
-    let mut rows = rows;
-    edits.append(&mut rows)?;
+    let mut sorting = sorted(alloc, constraints)?;
+    let made = put_sorted(alloc, edits, &mut sorting, variables);
+    drop(sorting);
+    made
+}
+
+fn put_sorted(
+    alloc: Global,
+    edits: &mut Vec<Edit>,
+    sorting: &mut Sorting,
+    variables: IndexSet<Name>,
+) -> Result<(), Memory>
+    ensures { OnOk result (edits.new.items ≡ edits.old.items
+        ++ sorted_edits (sorted_so_far sorting.old) variables.keys) }
+{
+    put_groups(
+        alloc,
+        edits,
+        &sorting.owners,
+        &mut sorting.groups,
+        variables,
+    )?;
+    edits.append(&mut sorting.rows)?;
     Ok(())
 }
 

@@ -88,23 +88,23 @@ pub(crate) fn put_owners(
     Ok(())
 }
 
-/// The groups, each at the first of its variables, which stand in the order of the file.
-pub(crate) fn in_order(
+/// Appends the groups, each at the first of its variables, in the order of the file's variables.
+pub(crate) fn put_groups(
     alloc: Global,
+    edits: &mut Vec<Edit>,
     owners: &IndexMap<Name, usize>,
-    groups: Vec<Option<Edit>>,
+    left: &mut Vec<Option<Edit>>,
     variables: IndexSet<Name>,
-) -> Result<Vec<Edit>, Memory>
-    ensures { IfOk result (λ edits. edits.items
-        ≡ in_order owners.now.entries groups.items variables.keys) }
+) -> Result<(), Memory>
+    ensures { OnOk result (edits.new.items ≡ edits.old.items
+        ++ in_order owners.now.entries left.old.items variables.keys) }
 {
-    let mut left = groups;
-    let mut edits = Vec::with_capacity(alloc, variables.len())?;
+    edits.reserve(variables.len())?;
     for name in variables {
         let owner = owners.get(&name).copied();
-        put_group(alloc, &mut edits, &mut left, owner, name)?;
+        put_group(alloc, edits, left, owner, name)?;
     }
-    Ok(edits)
+    Ok(())
 }
 
 // Puts the group last that comes at a variable, if one does.

@@ -1,6 +1,6 @@
 //! The names of rows.
-ghost use Rattle.std.specs.Prelude.{◌≡◌, ◌^◌, ◌<◌, [], IfOk, OnOk, length};
-ghost use Rattle.mof_read.specs.Names.{all_names, and_name, first_free, numbered, own_name, row_name, with_own_names};
+ghost use Rattle.std.specs.Prelude.{◌≡◌, ◌++◌, ◌^◌, ◌<◌, ◌∷◌, [], IfOk, OnOk, length};
+ghost use Rattle.mof_read.specs.Names.{all_names, and_name, first_free, numbered, own_name, row_name, with_own_name, with_own_names};
 
 use indexmap::IndexSet;
 use itoa::Buffer;
@@ -27,20 +27,43 @@ pub(crate) fn own_names(
     ensures taken { IfOk result (λ named. named.taken.keys ≡ all_names [] constraints.items) }
     ensures few { OnOk result (length constraints.items < 2 ^ 64) }
 {
-    let mut taken = IndexSet::new(alloc);
-    let mut named = Vec::with_capacity(alloc, constraints.len())?;
-    for constraint in constraints {
-        let name = take_name(&mut taken, constraint.name)?;
-        named.push(FileConstraint {
+    let mut named = NamedConstraints {
+        constraints: Vec::new(alloc),
+        taken: IndexSet::new(alloc),
+    };
+    named.add_all(constraints)?;
+    Ok(named)
+}
+
+impl NamedConstraints {
+    fn add_all(&mut self, constraints: Vec<FileConstraint>) -> Result<(), Memory>
+        ensures constraints { OnOk result (self.new.constraints.items
+            ≡ self.old.constraints.items ++ with_own_names self.old.taken.keys constraints.items) }
+        ensures taken { OnOk result (self.new.taken.keys
+            ≡ all_names self.old.taken.keys constraints.items) }
+        ensures few { OnOk result (length constraints.items < 2 ^ 64) }
+    {
+        self.constraints.reserve(constraints.len())?;
+        for constraint in constraints {
+            self.add(constraint)?;
+        }
+        Ok(())
+    }
+
+    fn add(&mut self, constraint: FileConstraint) -> Result<(), Memory>
+        ensures constraints { OnOk result (self.new.constraints.items
+            ≡ self.old.constraints.items ++ with_own_name self.old.taken.keys constraint ∷ []) }
+        ensures taken { OnOk result (self.new.taken.keys
+            ≡ and_name self.old.taken.keys constraint.name) }
+    {
+        let name = take_name(&mut self.taken, constraint.name)?;
+        self.constraints.push(FileConstraint {
             name,
             func: constraint.func,
             set: constraint.set,
         })?;
+        Ok(())
     }
-    Ok(NamedConstraints {
-        constraints: named,
-        taken,
-    })
 }
 
 // The name, unless it is taken; it is taken afterwards.

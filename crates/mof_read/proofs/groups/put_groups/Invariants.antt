@@ -1,8 +1,8 @@
 use Rattle.std.proofs.Common.{◌≡◌, ◌++◌}
 use Rattle.mof_read.specs.Groups.{in_order}
-use Rattle.mof_read.proofs.groups.in_order.Given as goal
+use Rattle.mof_read.proofs.groups.put_groups.Given as goal
 
 abbrev pub invariant-loop-name : goal.invariant-loop-name
 invariant-loop-name l =
     l.edits.items ++ in_order l.owners.entries l.left.items l.name-iterator
-    ≡ in_order l.owners.entries l.fn.groups.items l.fn.variables.keys
+    ≡ l.fn.edits.items ++ in_order l.owners.entries l.fn.left.items l.fn.variables.keys
