@@ -1,8 +1,8 @@
-//! What is answered where the edits of a file weren't read.
+//! What is answered where a call is refused, and where the edits of a file weren't read.
 #![tactic(auto)]
 
-ghost use Rattle.std.specs.Prelude.{◌≡◌, IfOk, IsErr, Ok};
-ghost use Rattle.file_answers.specs.FileAnswers.{fault_answer};
+ghost use Rattle.std.specs.Prelude.{◌≡◌, IfOk, IsErr, IsSome, Ok, OnOk};
+ghost use Rattle.file_answers.specs.FileAnswers.{fault_answer, refusal_answer};
 
 use lists::Memory;
 use mof_fetch::FileFault;
@@ -20,5 +20,17 @@ pub fn tell_fault(alloc: Global, fault: FileFault) -> Result<Answer, Memory>
         FileFault::TooLong => Ok(Answer::TooLong),
         FileFault::Unread { kind, place } => refusal(alloc, &Refused::File { kind, place }),
         FileFault::Memory => Err(Memory),
+    }
+}
+
+/// The answer to a call that is refused; where there is no refusal, memory ran out. A refusal is
+/// freed here alone, whatever fault it reports.
+pub fn tell_refusal(alloc: Global, refused: Option<Refused>) -> Result<Answer, Memory>
+    ensures answer { IfOk result (λ answer. answer ≡ refusal_answer refused) }
+    ensures told { OnOk result (IsSome refused) }
+{
+    match refused {
+        Some(refused) => refusal(alloc, &refused),
+        None => Err(Memory),
     }
 }

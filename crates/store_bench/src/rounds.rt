@@ -4,6 +4,7 @@ ghost use Rattle.std.specs.Prelude.{◌≡◌, ◌<◌, OnOk};
 use crate::edits::{OTHER, VARIABLE, add_row, add_variable, edit};
 use crate::kind::Kind;
 use model_store::{ApplyFault, Edit, Undo, UserModel};
+use numbered_list::Change;
 use std::alloc::Global;
 
 /// How many edits were made, and the checksum of what their undos list.
@@ -21,8 +22,23 @@ pub fn tally_edits(alloc: Global, rows: u32, kind: Kind, rounds: u32) -> Result<
     requires { 0 < rows }
 {
     let mut model = UserModel::new(alloc);
-    build(alloc, &mut model, rows, kind)?;
-    tally_rounds(alloc, &mut model, rows, kind, rounds)
+    let made = tally_on(alloc, &mut model, rows, kind, rounds);
+    drop(model);
+    made
+}
+
+// The model is lent, so that it is freed in one place.
+fn tally_on(
+    alloc: Global,
+    model: &mut UserModel,
+    rows: u32,
+    kind: Kind,
+    rounds: u32,
+) -> Result<Tally, ApplyFault>
+    requires { 0 < rows }
+{
+    build(alloc, model, rows, kind)?;
+    tally_rounds(alloc, model, rows, kind, rounds)
 }
 
 fn build(alloc: Global, model: &mut UserModel, rows: u32, kind: Kind) -> Result<(), ApplyFault> {
@@ -83,12 +99,17 @@ fn make_for_good(model: &mut UserModel, edit: Edit) -> Result<u64, ApplyFault> {
 
 // The numbers of the groups and of the rows that are listed.
 fn digest(undo: &Undo) -> u64 {
-    let mut sum = 1u64;
-    for change in undo.groups.as_slice() {
-        sum = sum.wrapping_mul(31).wrapping_add(u64::from(change.number));
-    }
-    sum = sum.wrapping_mul(31).wrapping_add(1);
-    for change in undo.rows.as_slice() {
+    let groups = with_numbers(1, undo.groups.as_slice());
+    with_numbers(
+        groups.wrapping_mul(31).wrapping_add(1),
+        undo.rows.as_slice(),
+    )
+}
+
+// A sum with the numbers of changes mixed in, whatever is there.
+fn with_numbers<X>(start: u64, changes: &[Change<X>]) -> u64 {
+    let mut sum = start;
+    for change in changes {
         sum = sum.wrapping_mul(31).wrapping_add(u64::from(change.number));
     }
     sum
