@@ -2,7 +2,6 @@
 ghost use Rattle.std.specs.Prelude.{◌≡◌, ◌<◌, ◌≤◌, ◌^◌, length, take};
 ghost use Rattle.whole_rows.specs.Listed.{ListsNonzeros};
 
-use crate::listed::note_columns;
 use crate::narrow_row::NarrowRow;
 use std::alloc::{AllocError, Global};
 
@@ -31,9 +30,9 @@ impl NarrowStep {
         requires { width < 2 ^ 32 }
         ensures { IfOk result (λ step. width_of step.row ≡ width) }
     {
-        let row = NarrowRow::zeros(alloc, width)?;
+        let mut row = NarrowRow::zeros(alloc, width)?;
         let mut columns = vec![in alloc; 0u32; width]?;
-        let used = note_columns(&row.numbers, &row.blocks, &mut columns);
+        let used = row.note(&mut columns);
         Ok(NarrowStep { row, columns, used })
     }
 
@@ -47,7 +46,7 @@ impl NarrowStep {
             → number_of self.new.row j ≡ number_of row.now j /ℚ number_of row.now q }
     {
         self.row.copy(row);
-        self.used = note_columns(&self.row.numbers, &self.row.blocks, &mut self.columns);
+        self.used = self.row.note(&mut self.columns);
         self.row.divide(&self.columns[..self.used], q);
     }
 }

@@ -1,6 +1,6 @@
 use Rattle.std.proofs.Common.{◌≡◌, ◌≤◌, ◌∙◌, ap, arith, length, pos, slice_index_or, subst, sym, unsigned_abs}
 use Rattle.std.proofs.lemmas.List.{with_items_is}
-use Rattle.whole_rows.proofs.BlockSteps.{covers_zeros, made_zeros}
+use Rattle.whole_rows.proofs.MarkSteps.{covers_zeros, made_zeros}
 use Rattle.whole_rows.proofs.CoverSteps.{long_kept}
 use Rattle.whole_rows.proofs.DivisionSteps.{from_item}
 use Rattle.whole_rows.proofs.narrow_row.NarrowRow.clear.Goals as goal

@@ -2,7 +2,7 @@ use Rattle.std.proofs.Common.{◌<◌, ◌^◌, ◌∙◌, ◌*ℤ◌, ℕ, Fits
 use Rattle.std.proofs.lemmas.Int.{to_z-of_z}
 use Rattle.std.proofs.lemmas.List.{with_items_is}
 use Rattle.whole_rows.specs.Blocks.{BlocksCover}
-use Rattle.whole_rows.proofs.BlockSteps.{column_block, listed_covers}
+use Rattle.whole_rows.proofs.MarkSteps.{column_block, listed_covers}
 use Rattle.whole_rows.proofs.CoverSteps.{long_kept}
 use Rattle.whole_rows.proofs.ListedDividingSteps.{lists_divided}
 use Rattle.whole_rows.specs.Listed.{ListsNonzeros}
