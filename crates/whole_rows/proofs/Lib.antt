@@ -13,6 +13,7 @@ pub mod ShrinkSteps
 pub mod LongSteps
 pub mod ListedSteps
 pub mod NotingSteps
+pub mod JoiningSteps
 pub mod MeasuringSteps
 pub mod ListedDividingSteps
 pub mod CoverSteps

@@ -1,7 +1,8 @@
 //! Marks of columns, as bits of words: a row of many columns has few numbers other than 0, and a
 //! number without a mark isn't read.
-ghost use Rattle.std.specs.Prelude.{◌≡◌, ◌*◌, ◌/◌, ◌<◌, ◌≤◌, ◌^◌, ℕ, ◌*ℤ◌, length, pos, slice_index_or, unsigned_abs};
+ghost use Rattle.std.specs.Prelude.{◌≡◌, ◌≢◌, ◌*◌, ◌/◌, ◌<◌, ◌≤◌, ◌^◌, ℕ, ◌*ℤ◌, length, map, pos, slice_index_or, take, unsigned_abs};
 ghost use Rattle.whole_rows.specs.ColumnMarks.{AreColumnsUnmarked, AreMarksJoined, AreScaled, IsColumnMarked, IsWordChanged, MarksCover, WordCovers, mark_of, words_of};
+ghost use Rattle.whole_rows.specs.Listed.{ListsNonzeros};
 
 use crate::bits::{lowest, next_bit, with_bit, without_lowest};
 
@@ -66,13 +67,41 @@ pub(crate) fn mark_all(marks: &mut [u64], width: usize)
     }
 }
 
-// Marks the columns that another row has marked.
+// Notes the words that have a mark, and tells how many there are.
+pub(crate) fn note_words(marks: &[u64], words: &mut [u32]) -> usize
+    requires long { length marks.now ≤ length words.old }
+    requires few { length marks.now < 2 ^ 32 }
+    ensures within { result ≤ length words.new }
+    ensures lists { ListsNonzeros (take result words.new) (map pos marks.now) }
+{
+    let mut used = 0;
+    for k in 0..marks.len() {
+        words[used] = k as u32;
+        let count = marked_count(marks[k]);
+        used += count;
+    }
+    used
+}
+
+// 1 for a word with a mark.
 #[inline]
-pub(crate) fn join_marks(marks: &mut [u64], others: &[u64])
-    requires { length others.now ≡ length marks.old }
+fn marked_count(word: u64) -> usize
+    ensures few { result ≤ 1 }
+    ensures none { result ≡ 0 → word ≡ 0 }
+    ensures one { result ≡ 1 → word ≢ 0 }
+{
+    if word != 0 { 1 } else { 0 }
+}
+
+// Marks the columns that another row has marked, whose words with a mark are these.
+#[inline]
+pub(crate) fn join_marks(marks: &mut [u64], others: &[u64], words: &[u32])
+    requires long { length others.now ≡ length marks.old }
+    requires lists { ListsNonzeros words.now (map pos others.now) }
     ensures { AreMarksJoined others.now marks.old marks.new }
 {
-    for k in 0..marks.len() {
+    for n in 0..words.len() {
+        let k = words[n] as usize;
         let word = marks[k] | others[k];
         marks[k] = word;
     }

@@ -38,7 +38,7 @@ pub struct NarrowRow {
 }
 
 impl NarrowRow {
-    ghost use Rattle.std.specs.Prelude.{◌≢◌, ℕ, IsTrue, false, is_some, pos, take, true, unsigned_abs, IfOk, IfSome};
+    ghost use Rattle.std.specs.Prelude.{◌≢◌, ℕ, IsTrue, false, is_some, map, pos, take, true, unsigned_abs, IfOk, IfSome};
     ghost use Rattle.ratio_core.specs.Rational.{zero_ℚ};
     ghost use Rattle.whole_rows.specs.Listed.{ListsNonzeros};
     ghost use Rattle.whole_rows.specs.Shrinking.{IsLongPlan};
@@ -139,7 +139,7 @@ impl NarrowRow {
         if self.lower_short(step, q) {
             return true;
         }
-        self.lower_long(&step.row, q)
+        self.lower_long(&step.row, &step.words[..step.words_used], q)
     }
 
     /// Brings the row over the denominator of the one that it is lowered to by its number of column
@@ -156,7 +156,7 @@ impl NarrowRow {
         if q >= width || step.row.numbers.len() != width {
             return None;
         }
-        self.bring_over(&step.row, q)
+        self.bring_over(&step.row, &step.words[..step.words_used], q)
     }
 
     /// Lowers the row by a multiple of the step's numerators.
@@ -207,7 +207,7 @@ impl NarrowRow {
         ensures lowered { IsTrue result → IsNarrowLowered q step.now.row self.old self.new }
         ensures kept { result ≡ false → self.new ≡ self.old }
     {
-        let Some(by) = self.bring_over(&step.row, q) else {
+        let Some(by) = self.bring_over(&step.row, &step.words[..step.words_used], q) else {
             return false;
         };
         self.lower_by(by, step);
@@ -217,9 +217,10 @@ impl NarrowRow {
     // Brings the row over the denominator of the one that it is lowered to, and marks where it may
     // differ from 0 then. Tells by what multiple of the step's numerators it is to be lowered.
     #[inline(always)]
-    fn bring_over(&mut self, step: &NarrowRow, q: usize) -> Option<i64>
+    fn bring_over(&mut self, step: &NarrowRow, words: &[u32], q: usize) -> Option<i64>
         requires column { q < width_of self.old }
         requires width { width_of step.now ≡ width_of self.old }
+        requires words { ListsNonzeros words.now (map pos step.now.marks.items) }
         ensures narrow { is_some result ≡ stays_narrow q step.now self.old }
         ensures ready { IfSome result (IsNarrowReady q step.now self.old self.new) }
         ensures kept { is_some result ≡ false → self.new ≡ self.old }
@@ -228,7 +229,7 @@ impl NarrowRow {
             return None;
         };
         scale_numbers(&mut self.numbers, &self.marks, plan.over);
-        join_marks(&mut self.marks, &step.marks);
+        join_marks(&mut self.marks, &step.marks, words);
         self.side = multiplied(self.side, plan.over);
         self.den = plan.den;
         self.bound = plan.bound;
@@ -237,9 +238,10 @@ impl NarrowRow {
 
     // The same in 128 bits, where the row stays narrow once it is divided by what divides it.
     #[inline(never)]
-    fn lower_long(&mut self, step: &NarrowRow, q: usize) -> bool
+    fn lower_long(&mut self, step: &NarrowRow, words: &[u32], q: usize) -> bool
         requires column { q < width_of self.old }
         requires width { width_of step.now ≡ width_of self.old }
+        requires words { ListsNonzeros words.now (map pos step.now.marks.items) }
         ensures lowered { IsTrue result → IsNarrowLowered q step.now self.old self.new }
         ensures kept { result ≡ false → self.new ≡ self.old }
     {
@@ -247,7 +249,7 @@ impl NarrowRow {
             return false;
         };
         let inverse = inverse_of(plan.common);
-        join_marks(&mut self.marks, &step.marks);
+        join_marks(&mut self.marks, &step.marks, words);
         shrink_numbers(
             &mut self.numbers,
             &self.marks,

@@ -1,7 +1,8 @@
 //! The row that a pivot lowers others by.
-ghost use Rattle.std.specs.Prelude.{◌≡◌, ◌<◌, ◌≤◌, ◌^◌, length, take};
+ghost use Rattle.std.specs.Prelude.{◌≡◌, ◌<◌, ◌≤◌, ◌^◌, length, map, pos, take};
 ghost use Rattle.whole_rows.specs.Listed.{ListsNonzeros};
 
+use crate::marks::note_words;
 use crate::narrow_row::NarrowRow;
 use std::alloc::{AllocError, Global};
 
@@ -14,10 +15,17 @@ pub struct NarrowStep {
     pub columns: Vec<u32>,
     /// How many columns there are where the row isn't 0.
     pub used: usize,
+    /// The words of the row's marks that have one, rising, in the first places.
+    pub words: Vec<u32>,
+    /// How many words there are with a mark.
+    pub words_used: usize,
     ghost room: { length columns.items ≡ length row.numbers.items },
     ghost few: { length columns.items < 2 ^ 32 },
     ghost fits: { used ≤ length columns.items },
     ghost lists: { ListsNonzeros (take used columns.items) row.numbers.items },
+    ghost words_room: { length words.items ≡ length row.marks.items },
+    ghost words_fit: { words_used ≤ length words.items },
+    ghost words_list: { ListsNonzeros (take words_used words.items) (map pos row.marks.items) },
 }
 
 impl NarrowStep {
@@ -33,7 +41,15 @@ impl NarrowStep {
         let mut row = NarrowRow::zeros(alloc, width)?;
         let mut columns = vec![in alloc; 0u32; width]?;
         let used = row.note(&mut columns);
-        Ok(NarrowStep { row, columns, used })
+        let mut words = vec![in alloc; 0u32; row.marks.len()]?;
+        let words_used = note_words(&row.marks, &mut words);
+        Ok(NarrowStep {
+            row,
+            columns,
+            used,
+            words,
+            words_used,
+        })
     }
 
     /// Takes a row, divided by its number of column q.
@@ -48,5 +64,6 @@ impl NarrowStep {
         self.row.copy(row);
         self.used = self.row.note(&mut self.columns);
         self.row.divide(&self.columns[..self.used], q);
+        self.words_used = note_words(&self.row.marks, &mut self.words);
     }
 }
