@@ -18,7 +18,7 @@ pub word_number : (marks : List ℕ) (k : ℕ) → k < length marks
 word_number marks k b = get_or-map pos marks k 0 (pos 0) b
 
 pub words_long : (marks : List ℕ) → length (map pos marks) ≡ length marks
-words_long marks = length-map pos marks
+words_long marks = length-map marks pos
 
 pub words_none : (marks words : List ℕ) → length marks ≤ length words
     → IsNotedTo (map pos marks) words 0 0
