@@ -1,5 +1,4 @@
-use Rattle.std.proofs.Common.{◌≡◌, ◌+◌, ◌*◌, ◌<◌, ◌∙◌, arith, length, min, slice_index, subst, sym}
-use Rattle.std.proofs.lemmas.List.{get_or_read}
+use Rattle.std.proofs.Common.{◌≡◌, ◌+◌, ◌*◌, ◌<◌, arith, length, min, refl, slice_index, subst}
 use Rattle.whole_rows.specs.Listed.{IsNotedTo}
 use Rattle.whole_rows.proofs.ListedSteps.{noted_all, noted_none}
 use Rattle.whole_rows.proofs.MarkSteps.{covers_word, word_covers}
@@ -15,9 +14,8 @@ loop-k-init c = record {
 
 pub note_word-noted-requires-clause-covers : goal.note_word-noted-requires-clause-covers
 note_word-noted-requires-clause-covers c =
-    word_covers c.loop-k.marks c.args.numbers.now c.loop-k.k c.index.result.now
-    c.loop-k.invariant.covers (get_or_read c.loop-k.marks c.loop-k.k c.index.result.now
-    (omega (arith, c.loop-k-test.true, c.loop-k.auto.marks)) c.index.ensures 0)
+    word_covers c.loop-k.marks c.args.numbers.now c.loop-k.k (slice_index c.loop-k.marks c.loop-k.k)
+    c.loop-k.invariant.covers refl
 
 pub note_word-noted-requires-clause-noted : goal.note_word-noted-requires-clause-noted
 note_word-noted-requires-clause-noted c =

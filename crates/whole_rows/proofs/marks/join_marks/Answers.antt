@@ -1,7 +1,6 @@
 use Rattle.std.proofs.Common.{◌<◌, ◌≡◌, ◌∙◌, arith, length, refl, slice_index, subst, sym}
 use Rattle.whole_rows.proofs.JoiningSteps.{joins_all, joins_more, joins_none, words_long}
 use Rattle.whole_rows.proofs.marks.join_marks.Goals as goal
-use Rattle.whole_rows.proofs.marks.join_marks.Goals.{After-index-k}
 
 apart_lem : (x y : ℕ) → x < y → x ≡ y → ⊥
 apart_lem x y b e = omega (arith, b, e)

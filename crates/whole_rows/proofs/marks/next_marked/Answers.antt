@@ -1,14 +1,6 @@
-use Rattle.std.proofs.Common.{◌+◌, ◌*◌, ◌/◌, ◌%◌, ◌≡◌, ◌∙◌, ap, arith, slice_index, sym}
-use Rattle.std.specs.Int.{bit_at}
-use Rattle.std.proofs.lemmas.List.{get_or_read}
+use Rattle.std.proofs.Common.{◌+◌, ◌*◌, arith}
 use Rattle.whole_rows.proofs.MarkSteps.{unmarked_more}
 use Rattle.whole_rows.proofs.marks.next_marked.Goals as goal
-use Rattle.whole_rows.proofs.marks.next_marked.Goals.{After-index}
-
--- the word that is read
-read_lem : (c : After-index) → c.index.result.now ≡ slice_index c.args.marks.now c.loop-k.k
-read_lem c =
-    get_or_read c.args.marks.now c.loop-k.k c.index.result.now c.loop-k-test.true c.index.ensures 0
 
 pub loop-k-init : goal.loop-k-init
 loop-k-init c = record {
@@ -24,9 +16,7 @@ loop-k-preserved c = record {
   passed =
       unmarked_more c.args.marks.now c.loop-k.k c.args.from c.loop-k.low c.next_bit-bit.result
       ((c.loop-k.k + 1) * 64 + 0) c.loop-k.invariant.passed
-      (λ n f b. ap (λ w. bit_at w n) (sym (read_lem (goal.at.loop-k-preserved c).After-index))
-      ∙ c.next_bit-bit.ensures.passed n f b)
-      (omega (arith, c.if-bit-lt64.false)) (omega arith);
+      c.next_bit-bit.ensures.passed (omega (arith, c.if-bit-lt64.false)) (omega arith);
 }
 
 pub returns-then-bit-lt64-clause-from : goal.returns-then-bit-lt64-clause-from
@@ -46,10 +36,7 @@ pub returns-then-bit-lt64-clause-unmarked : goal.returns-then-bit-lt64-clause-un
 returns-then-bit-lt64-clause-unmarked c =
     unmarked_more c.args.marks.now c.loop-k.k c.args.from c.loop-k.low c.next_bit-bit.result
     c.min.result c.loop-k.invariant.passed
-    (λ n f b. ap (λ w. bit_at w n)
-    (sym (read_lem (goal.at.returns-then-bit-lt64-clause-unmarked c).After-index))
-    ∙ c.next_bit-bit.ensures.passed n f b)
-    (omega (arith, c.min.ensures)) (omega (arith, c.min.ensures, c.if-bit-lt64.true))
+    c.next_bit-bit.ensures.passed (omega (arith, c.min.ensures)) (omega (arith, c.min.ensures, c.if-bit-lt64.true))
 
 pub returns-clause-from : goal.returns-clause-from
 returns-clause-from c = c.requires.within

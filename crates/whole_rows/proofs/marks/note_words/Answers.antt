@@ -1,5 +1,4 @@
-use Rattle.std.proofs.Common.{◌∙◌, arith, map, pos, sym}
-use Rattle.std.proofs.lemmas.List.{get_or_read}
+use Rattle.std.proofs.Common.{◌∙◌, arith, map, pos, refl, slice_index, sym}
 use Rattle.whole_rows.proofs.JoiningSteps.{words_long, words_next, words_none}
 use Rattle.whole_rows.proofs.ListedSteps.{noted_all}
 use Rattle.whole_rows.proofs.marks.note_words.Goals as goal
@@ -10,9 +9,7 @@ loop-k-init c = words_none c.args.marks.now c.args.words.now c.requires.long
 pub loop-k-preserved : goal.loop-k-preserved
 loop-k-preserved c =
     words_next c.args.marks.now c.loop-k.words c.loop-k.used c.loop-k.k c.marked_count-count.result
-    c.index-count.result.now c.loop-k.invariant c.loop-k-test.true
-    (get_or_read c.args.marks.now c.loop-k.k c.index-count.result.now c.loop-k-test.true
-    c.index-count.ensures 0)
+    (slice_index c.args.marks.now c.loop-k.k) c.loop-k.invariant c.loop-k-test.true refl
     c.marked_count-count.ensures.few c.marked_count-count.ensures.none
     c.marked_count-count.ensures.one
 

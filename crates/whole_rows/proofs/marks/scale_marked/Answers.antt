@@ -1,6 +1,5 @@
-use Rattle.std.proofs.Common.{◌≡◌, ◌+◌, ◌<◌, ◌*◌, ◌^◌, ℤ, arith, length, of_z, slice_index, subst, subst₂, sym, to_z, unsigned_abs, w64}
+use Rattle.std.proofs.Common.{◌≡◌, ◌+◌, ◌<◌, ◌*◌, ◌^◌, ℕ, ℤ, arith, length, of_z, refl, slice_index, subst, subst₂, sym, to_z, unsigned_abs, w64}
 use Rattle.std.proofs.lemmas.Int.{to_z-of_z}
-use Rattle.std.proofs.lemmas.List.{get_or_read}
 use Rattle.whole_rows.specs.ColumnMarks.{AreScaled}
 use Rattle.whole_rows.proofs.MarkSteps.{word_covers, word_stays}
 use Rattle.whole_rows.proofs.WordSteps.{ScaledTo, columns_none, scaled_all, scaled_word, words_past}
@@ -12,10 +11,9 @@ loop-k-init c = columns_none (ScaledTo (to_z w64 (of_z w64 c.args.over)) c.args.
 
 pub scale_word-requires-clause-covers : goal.scale_word-requires-clause-covers
 scale_word-requires-clause-covers c =
-    word_stays c.index.result.now (c.loop-k.k * 64) c.args.numbers.now c.loop-k.numbers
-    (word_covers c.args.marks.now c.args.numbers.now c.loop-k.k c.index.result.now
-    c.requires.covers (get_or_read c.args.marks.now c.loop-k.k c.index.result.now
-    c.loop-k-test.true c.index.ensures 0))
+    let word : ℕ = slice_index c.args.marks.now c.loop-k.k in
+    word_stays word (c.loop-k.k * 64) c.args.numbers.now c.loop-k.numbers
+    (word_covers c.args.marks.now c.args.numbers.now c.loop-k.k word c.requires.covers refl)
     c.loop-k.invariant.long c.loop-k.invariant.others
 
 pub scale_word-requires-clause-fits : goal.scale_word-requires-clause-fits

@@ -45,3 +45,17 @@ returns-clause-greatest c = (measured_all c.args.row.now c.args.step.now c.args.
     (words_past (width_of c.args.row.now) (length c.args.row.now.marks.items) c.loop-k.k
     c.args.row.now.marks_long (omega (arith, c.loop-k-test.false)))
     (width_of c.args.row.now + 1)).1
+
+pub index-requires : goal.index-requires
+index-requires c = c.loop-k-test.true
+
+pub measured_word-measure-requires-clause-covers : goal.measured_word-measure-requires-clause-covers
+measured_word-measure-requires-clause-covers c =
+    word_joins _ (slice_index c.args.row.now.marks.items c.loop-k.k)
+    (slice_index c.args.step.now.marks.items c.loop-k.k) (c.loop-k.k * 64)
+    c.args.row.now.numbers.items (joined_word (goal.at.measured_word-measure-requires-clause-covers c).After-index-in-loop-k)
+    (word_covers c.args.row.now.marks.items c.args.row.now.numbers.items c.loop-k.k _
+    c.args.row.now.covers refl)
+    (λ i b e. subst (λ n. c.loop-k.k * 64 + i < n) c.requires.width
+    ((word_covers c.args.step.now.marks.items c.args.step.now.numbers.items c.loop-k.k _
+    c.args.step.now.covers refl).within i b e))

@@ -36,8 +36,8 @@ loop-rest-preserved c =
     let below = below_lem (goal.at.loop-rest-preserved c).After-lowest-j in
     let x_fits : FitsSigned w128 c.lowered_long.result = search rules in
     let n_is = entry_is row j c.index.result.now below c.index.ensures in
-    let u_is = entry_is step j c.index-2.result.now
-    (subst (λ n. j < n) (sym c.requires.width) below) c.index-2.ensures in
+    let u_is = entry_is step j c.index-in-loop-rest.result.now
+    (subst (λ n. j < n) (sym c.requires.width) below) c.index-in-loop-rest.ensures in
     let size_is : c.unsigned_abs-size.result ≡ unsigned_abs (lowered_of row step over by j) =
     c.unsigned_abs-size.ensures.value
     ∙ ap unsigned_abs (to_z-of_z w128 c.lowered_long.result x_fits ∙ c.lowered_long.ensures.value
