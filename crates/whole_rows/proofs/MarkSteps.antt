@@ -96,6 +96,17 @@ word_joins word left right start numbers is covers within = record {
     by_bit i b two e (inl c) = covers.within i b (one_lem _ two c)
     by_bit i b two e (inr c) = within i b (right_lem _ _ e c)
 
+-- the columns of a word of two rows, which both have as many
+pub joined_word : (marks others : List ℕ) (numbers step : List ℤ) (k word : ℕ)
+    → MarksCover marks numbers → MarksCover others step → length step ≡ length numbers
+    → word ≡ bit_or (slice_index marks k) (slice_index others k)
+    → WordCovers word (k * 64) numbers
+joined_word marks others numbers step k word covers step_covers long is =
+    word_joins word (slice_index marks k) (slice_index others k) (k * 64) numbers is
+    (word_covers marks numbers k (slice_index marks k) covers refl)
+    (λ i b e. subst (λ n. k * 64 + i < n) long
+    ((word_covers others step k (slice_index others k) step_covers refl).within i b e))
+
 -- a word of marks that is put
 pub covers_word : (marks : List ℕ) (numbers : List ℤ) (k word : ℕ) → MarksCover marks numbers
     → WordCovers word (k * 64) numbers → k < length marks
