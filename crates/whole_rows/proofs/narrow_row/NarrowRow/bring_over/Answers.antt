@@ -1,6 +1,7 @@
-use Rattle.std.proofs.Common.{◌∙◌, FitsSigned, ap, length, pos, refl, rules, subst, sym, w64}
+use Rattle.std.proofs.Common.{◌∙◌, FitsSigned, ap, length, map, pos, refl, rules, subst, sym, w64}
 use Rattle.std.proofs.lemmas.Int.{to_z-of_z}
 use Rattle.std.proofs.lemmas.List.{with_items_is}
+use Rattle.whole_rows.specs.Listed.{ListsNonzeros}
 use Rattle.whole_rows.proofs.CoverSteps.{joined_long, joined_step, long_kept, scaled_covers}
 use Rattle.whole_rows.proofs.PlanSteps.{planned_above, planned_ready, planned_side, planned_small, scaled_within}
 use Rattle.whole_rows.proofs.narrow_row.NarrowRow.bring_over.Goals as goal
@@ -33,11 +34,16 @@ invariant_of-self-clause-within c =
     (c.scale_numbers.auto.numbers ∙ c.deref_mut.ensures.len))
     (to_z-of_z w64 c.multiplied-self.result result_fits ∙ c.multiplied-self.ensures)
 
-pub join_marks-requires : goal.join_marks-requires
-join_marks-requires c =
+pub join_marks-requires-clause-long : goal.join_marks-requires-clause-long
+join_marks-requires-clause-long c =
     ap length c.deref-2.ensures.value
     ∙ joined_long c.args.self.now c.args.step.now c.requires.width
     ∙ sym (ap length c.deref_mut-2.ensures.value)
+
+pub join_marks-requires-clause-lists : goal.join_marks-requires-clause-lists
+join_marks-requires-clause-lists c =
+    subst (λ l. ListsNonzeros c.args.words.now (map pos l)) (sym c.deref-2.ensures.value)
+    c.requires.words
 
 pub invariant_of-self-clause-covers : goal.invariant_of-self-clause-covers
 invariant_of-self-clause-covers c =
