@@ -1,6 +1,6 @@
 -- Bits of a word: those that are left where the lowest are cleared one by one, and a word that is
 -- shifted.
-use Rattle.std.specs.Prelude.{◌≡◌, ℕ, ◌+◌, ◌-◌, ◌*◌, ◌/◌, ◌%◌, ◌^◌, ◌<◌, ◌≤◌, ◌⊎◌, Bool, IsTrue, true, false, bit_and, bit_or, max, min, refl}
+use Rattle.std.specs.Prelude.{◌≡◌, ℕ, ◌+◌, ◌-◌, ◌*◌, ◌/◌, ◌%◌, ◌^◌, ◌<◌, ◌≤◌, ◌⊎◌, Bool, IsTrue, true, false, bit_and, bit_or, max, min, refl, suc}
 use Rattle.std.proofs.Common.{inl, inr, sym, ◌∙◌, ap, arith, mod-lt, pow_pos, subst, w64}
 use Rattle.std.proofs.Math.Nat.{two-pow-succ}
 use Rattle.std.specs.Int.{bit_at, bit_not, trailing_zeros}
@@ -11,6 +11,12 @@ use Rattle.whole_rows.specs.Bits.{IsBitCleared, IsLowestBit}
 
 pub one_zero : (x : ℕ) → x ≡ 1 → x ≡ 0 → ⊥
 one_zero x e f = omega (arith, e, f)
+
+double_lem : (k : ℕ) → 2 ^ (k + 1) ≡ 2 ^ k + 2 ^ k
+double_lem k = ap (λ m. 2 ^ m) (next_lem k) ∙ two-pow-succ k
+  where
+    next_lem : (k : ℕ) → k + 1 ≡ suc k
+    next_lem k = omega arith
 
 -- ---- the lowest bit
 
@@ -34,10 +40,10 @@ module _ (w k a : ℕ) (is : w ≡ a * 2 ^ (k + 1) + 2 ^ k) where
       ∙ bit_at_cat_high a (k + 1) (2 ^ k) i (own_lem k) (omega (arith, b)))
     where
       below_lem : (k : ℕ) → 2 ^ k - 1 < 2 ^ (k + 1)
-      below_lem k = omega (arith, two-pow-succ k, pow_pos k)
+      below_lem k = omega (arith, double_lem k, pow_pos k)
 
       own_lem : (k : ℕ) → 2 ^ k < 2 ^ (k + 1)
-      own_lem k = omega (arith, two-pow-succ k, pow_pos k)
+      own_lem k = omega (arith, double_lem k, pow_pos k)
 
   -- at it w - 1 has none
   here_lem : bit_at (w - 1) k ≡ 0
@@ -79,7 +85,7 @@ split_lem w p h r a q e f g d =
 lowest_split : (w k : ℕ) → IsLowestBit w k → w ≡ (w / 2 ^ k / 2) * 2 ^ (k + 1) + 2 ^ k
 lowest_split w k h =
     split_lem w (2 ^ k) (w / 2 ^ k) (w % 2 ^ k) (w / 2 ^ k / 2) (2 ^ (k + 1)) (parts_lem w (2 ^ k))
-    none_lem (odd_lem (w / 2 ^ k) h.set) (two-pow-succ k)
+    none_lem (odd_lem (w / 2 ^ k) h.set) (double_lem k)
   where
     parts_lem : (w p : ℕ) → w ≡ w / p * p + w % p
     parts_lem w p = sym (div-add-mod' w p)

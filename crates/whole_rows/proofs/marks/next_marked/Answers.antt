@@ -16,11 +16,11 @@ loop-k-preserved c = record {
   passed =
       unmarked_more c.args.marks.now c.loop-k.k c.args.from c.loop-k.low c.next_bit-bit.result
       ((c.loop-k.k + 1) * 64 + 0) c.loop-k.invariant.passed
-      c.next_bit-bit.ensures.passed (omega (arith, c.if-bit-lt64.false)) (omega arith);
+      c.next_bit-bit.ensures.passed (omega (arith, c.if-bit-lt-WORD.false)) (omega arith);
 }
 
-pub returns-then-bit-lt64-clause-from : goal.returns-then-bit-lt64-clause-from
-returns-then-bit-lt64-clause-from c =
+pub returns-then-bit-lt-WORD-clause-from : goal.returns-then-bit-lt-WORD-clause-from
+returns-then-bit-lt-WORD-clause-from c =
     omega (
       arith,
       c.min.ensures,
@@ -29,14 +29,14 @@ returns-then-bit-lt64-clause-from c =
       c.next_bit-bit.ensures.from,
     )
 
-pub returns-then-bit-lt64-clause-within : goal.returns-then-bit-lt64-clause-within
-returns-then-bit-lt64-clause-within c = omega (arith, c.min.ensures)
+pub returns-then-bit-lt-WORD-clause-within : goal.returns-then-bit-lt-WORD-clause-within
+returns-then-bit-lt-WORD-clause-within c = omega (arith, c.min.ensures)
 
-pub returns-then-bit-lt64-clause-unmarked : goal.returns-then-bit-lt64-clause-unmarked
-returns-then-bit-lt64-clause-unmarked c =
+pub returns-then-bit-lt-WORD-clause-unmarked : goal.returns-then-bit-lt-WORD-clause-unmarked
+returns-then-bit-lt-WORD-clause-unmarked c =
     unmarked_more c.args.marks.now c.loop-k.k c.args.from c.loop-k.low c.next_bit-bit.result
     c.min.result c.loop-k.invariant.passed
-    c.next_bit-bit.ensures.passed (omega (arith, c.min.ensures)) (omega (arith, c.min.ensures, c.if-bit-lt64.true))
+    c.next_bit-bit.ensures.passed (omega (arith, c.min.ensures)) (omega (arith, c.min.ensures, c.if-bit-lt-WORD.true))
 
 pub returns-clause-from : goal.returns-clause-from
 returns-clause-from c = c.requires.within

@@ -8,13 +8,13 @@ use Rattle.whole_rows.proofs.BitSteps.{bit_kept}
 use Rattle.whole_rows.proofs.DivisionSteps.{entry_is}
 use Rattle.whole_rows.proofs.MeasuringSteps.{word_measured_end, word_measured_first, word_measured_next}
 use Rattle.whole_rows.proofs.shrinking.measured_word.Goals as goal
-use Rattle.whole_rows.proofs.shrinking.measured_word.Goals.{After-lowest-j}
+use Rattle.whole_rows.proofs.shrinking.measured_word.Goals.{After-lowest}
 
-below_lem : (c : After-lowest-j) → c.args.start + c.lowest-j.result < width_of c.args.row.now
+below_lem : (c : After-lowest) → c.args.start + c.lowest.result < width_of c.args.row.now
 below_lem c =
-    c.requires.covers.within c.lowest-j.result c.lowest-j.ensures.within
-    (c.loop-rest.invariant.within c.lowest-j.result c.lowest-j.ensures.within
-    c.lowest-j.ensures.set)
+    c.requires.covers.within c.lowest.result c.lowest.ensures.within
+    (c.loop-rest.invariant.within c.lowest.result c.lowest.ensures.within
+    c.lowest.ensures.set)
 
 pub loop-rest-init : goal.loop-rest-init
 loop-rest-init c = record {
@@ -31,9 +31,9 @@ loop-rest-preserved c =
     let step = c.args.step.now in
     let over = c.args.over in
     let by : ℤ = to_z w64 (of_z w64 c.args.by) in
-    let bit = c.lowest-j.result in
+    let bit = c.lowest.result in
     let j = c.args.start + bit in
-    let below = below_lem (goal.at.loop-rest-preserved c).After-lowest-j in
+    let below = below_lem (goal.at.loop-rest-preserved c).After-lowest in
     let x_fits : FitsSigned w128 c.lowered_long.result = search rules in
     let n_is = entry_is row j c.index.result.now below c.index.ensures in
     let u_is = entry_is step j c.index-in-loop-rest.result.now
@@ -42,7 +42,7 @@ loop-rest-preserved c =
     c.unsigned_abs-size.ensures.value
     ∙ ap unsigned_abs (to_z-of_z w128 c.lowered_long.result x_fits ∙ c.lowered_long.ensures.value
     ∙ (λ i. lowered_num (n_is i) over by (u_is i))) in
-    let cleared = c.without_lowest-rest.ensures.cleared bit c.lowest-j.ensures in
+    let cleared = c.without_lowest-rest.ensures.cleared bit c.lowest.ensures in
     record {
       within = λ i b e. c.loop-rest.invariant.within i b
           (bit_kept bit c.loop-rest.rest c.without_lowest-rest.result i cleared e);

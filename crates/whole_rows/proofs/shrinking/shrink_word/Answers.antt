@@ -6,22 +6,22 @@ use Rattle.whole_rows.specs.Over.{lowered_num}
 use Rattle.whole_rows.proofs.ShrinkSteps.{lowered_args}
 use Rattle.whole_rows.proofs.WordSteps.{ShrunkTo, shrunk_first, word_end, word_next, word_read, word_within}
 use Rattle.whole_rows.proofs.shrinking.shrink_word.Goals as goal
-use Rattle.whole_rows.proofs.shrinking.shrink_word.Goals.{After-lowest-j}
+use Rattle.whole_rows.proofs.shrinking.shrink_word.Goals.{After-lowest}
 
-within_lem : (c : After-lowest-j) → c.args.start + c.lowest-j.result < length c.args.numbers.now
+within_lem : (c : After-lowest) → c.args.start + c.lowest.result < length c.args.numbers.now
 within_lem c =
-    subst (λ m. c.args.start + c.lowest-j.result < m) c.loop-rest.invariant.long
+    subst (λ m. c.args.start + c.lowest.result < m) c.loop-rest.invariant.long
     (word_within (ShrunkTo c.args.over (to_z w64 (of_z w64 c.args.by)) c.args.step.now
-    c.args.common c.args.numbers.now) c.args.start c.loop-rest.rest c.lowest-j.result
-    c.args.numbers.now c.loop-rest.numbers c.loop-rest.invariant c.lowest-j.ensures)
+    c.args.common c.args.numbers.now) c.args.start c.loop-rest.rest c.lowest.result
+    c.args.numbers.now c.loop-rest.numbers c.loop-rest.invariant c.lowest.ensures)
 
-read_lem : (c : After-lowest-j)
-    → slice_index_or c.loop-rest.numbers (c.args.start + c.lowest-j.result) (pos 0)
-    ≡ slice_index_or c.args.numbers.now (c.args.start + c.lowest-j.result) (pos 0)
+read_lem : (c : After-lowest)
+    → slice_index_or c.loop-rest.numbers (c.args.start + c.lowest.result) (pos 0)
+    ≡ slice_index_or c.args.numbers.now (c.args.start + c.lowest.result) (pos 0)
 read_lem c =
     word_read (ShrunkTo c.args.over (to_z w64 (of_z w64 c.args.by)) c.args.step.now
-    c.args.common c.args.numbers.now) c.args.start c.loop-rest.rest c.lowest-j.result
-    c.args.numbers.now c.loop-rest.numbers c.loop-rest.invariant c.lowest-j.ensures
+    c.args.common c.args.numbers.now) c.args.start c.loop-rest.rest c.lowest.result
+    c.args.numbers.now c.loop-rest.numbers c.loop-rest.invariant c.lowest.ensures
 
 pub loop-rest-init : goal.loop-rest-init
 loop-rest-init c =
@@ -30,8 +30,8 @@ loop-rest-init c =
 
 pub shrunk-requires-clause-exact : goal.shrunk-requires-clause-exact
 shrunk-requires-clause-exact c =
-    let a = (goal.at.shrunk-requires-clause-exact c).After-lowest-j in
-    let j = c.args.start + c.lowest-j.result in
+    let a = (goal.at.shrunk-requires-clause-exact c).After-lowest in
+    let j = c.args.start + c.lowest.result in
     let n : ℤ = slice_index_or c.loop-rest.numbers j (pos 0) in
     let u : ℤ = slice_index_or c.args.step.now j (pos 0) in
     let n_fits : FitsSigned w64 n = search rules in
@@ -43,8 +43,8 @@ shrunk-requires-clause-exact c =
 
 pub shrunk-requires-clause-small : goal.shrunk-requires-clause-small
 shrunk-requires-clause-small c =
-    let a = (goal.at.shrunk-requires-clause-small c).After-lowest-j in
-    let j = c.args.start + c.lowest-j.result in
+    let a = (goal.at.shrunk-requires-clause-small c).After-lowest in
+    let j = c.args.start + c.lowest.result in
     let n : ℤ = slice_index_or c.loop-rest.numbers j (pos 0) in
     let u : ℤ = slice_index_or c.args.step.now j (pos 0) in
     let n_fits : FitsSigned w64 n = search rules in
@@ -57,17 +57,17 @@ shrunk-requires-clause-small c =
 pub loop-rest-preserved : goal.loop-rest-preserved
 loop-rest-preserved c =
     let by : ℤ = to_z w64 (of_z w64 c.args.by) in
-    let a = (goal.at.loop-rest-preserved c).After-lowest-j in
-    let j = c.args.start + c.lowest-j.result in
+    let a = (goal.at.loop-rest-preserved c).After-lowest in
+    let j = c.args.start + c.lowest.result in
     let n : ℤ = slice_index_or c.loop-rest.numbers j (pos 0) in
     let u : ℤ = slice_index_or c.args.step.now j (pos 0) in
     let n_fits : FitsSigned w64 n = search rules in
     let u_fits : FitsSigned w64 u = search rules in
     let result_fits : FitsSigned w64 c.shrunk.result = search rules in
     word_next (ShrunkTo c.args.over by c.args.step.now c.args.common c.args.numbers.now)
-    c.args.start c.loop-rest.rest c.lowest-j.result c.args.numbers.now c.loop-rest.numbers
-    c.loop-rest.invariant c.lowest-j.ensures c.without_lowest-rest.result _
-    (c.without_lowest-rest.ensures.cleared c.lowest-j.result c.lowest-j.ensures)
+    c.args.start c.loop-rest.rest c.lowest.result c.args.numbers.now c.loop-rest.numbers
+    c.loop-rest.invariant c.lowest.ensures c.without_lowest-rest.result _
+    (c.without_lowest-rest.ensures.cleared c.lowest.result c.lowest.ensures)
     ((λ i. lowered_num (sym (to_z-of_z w64 n n_fits ∙ read_lem a) i) c.args.over by
     (sym (to_z-of_z w64 u u_fits) i))
     ∙ c.shrunk.ensures
