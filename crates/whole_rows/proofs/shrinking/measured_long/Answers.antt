@@ -21,12 +21,12 @@ loop-k-init c =
     let row = c.args.row.now in
     let step = c.args.step.now in
     let by : ℤ = to_z w64 (of_z w64 c.args.by) in
-    let x_fits : FitsSigned w128 c.lowered_long-greatest.result = search rules in
+    let x_fits : FitsSigned w128 c.lowered_long.result = search rules in
     measured_side row step c.args.over by c.unsigned_abs-greatest.result
     c.lesser_divisor-common.result c.requires.width
     (c.unsigned_abs-greatest.ensures.value
-    ∙ ap unsigned_abs (to_z-of_z w128 c.lowered_long-greatest.result x_fits
-    ∙ c.lowered_long-greatest.ensures.value
+    ∙ ap unsigned_abs (to_z-of_z w128 c.lowered_long.result x_fits
+    ∙ c.lowered_long.ensures.value
     ∙ (λ i. lowered_num (side_is_lem row i) c.args.over by (side_is_lem step i))))
     c.lesser_divisor-common.ensures.value c.lesser_divisor-common.ensures.positive
 
@@ -65,7 +65,7 @@ measured_word-measure-requires-clause-step_covers c =
     joined_word step.marks.items row.marks.items step.numbers.items row.numbers.items c.loop-k.k _
     step.covers row.covers (sym c.requires.width)
     (word_is (goal.at.measured_word-measure-requires-clause-step_covers c).After-index-in-loop-k
-    ∙ or_comm _ _)
+    ∙ or_comm (slice_index row.marks.items c.loop-k.k) (slice_index step.marks.items c.loop-k.k))
 
 pub loop-k-preserved : goal.loop-k-preserved
 loop-k-preserved c =

@@ -22,7 +22,9 @@ loop-rest-init c = record {
   measured = word_measured_first c.args.row.now c.args.step.now c.args.over
       (to_z w64 (of_z w64 c.args.by)) c.args.start c.args.word c.args.before.common
       c.args.before.greatest c.requires.width c.requires.covers c.requires.step_covers
-      c.requires.before;
+      (subst (λ z. IsMeasuredOn (IsBelowOrSide c.args.row.now c.args.start) c.args.row.now
+      c.args.step.now c.args.over z c.args.before.common c.args.before.greatest)
+      (sym (to_z-of_z w64 c.args.by c.ranges.by)) c.requires.before);
 }
 
 pub loop-rest-preserved : goal.loop-rest-preserved
