@@ -1,10 +1,11 @@
-use Rattle.std.proofs.Common.{◌∙◌, FitsSigned, ap, length, map, pos, ◌*ℤ◌, refl, rules, subst, sym, w64}
+use Rattle.std.proofs.Common.{◌∙◌, FitsSigned, ap, length, map, pos, ◌*ℤ◌, refl, rules, subst, subst₂, sym, w64}
 use Rattle.std.proofs.lemmas.Int.{to_z-of_z}
 use Rattle.std.proofs.lemmas.List.{with_items_is}
 use Rattle.whole_rows.proofs.DivisionSteps.{side_is_lem}
 use Rattle.whole_rows.specs.ColumnMarks.{MarksCover, words_of}
 use Rattle.whole_rows.specs.Listed.{ListsNonzeros}
-use Rattle.whole_rows.proofs.CoverSteps.{joined_long, joined_row, joined_step, long_kept, shrunk_covers}
+use Rattle.whole_rows.proofs.CoverSteps.{joined_long, joined_row, joined_step, long_kept}
+use Rattle.whole_rows.proofs.MarkSteps.{covers_shrunk}
 use Rattle.whole_rows.proofs.LongSteps.{common_small, long_above, long_fits, long_lowered, long_side_exact, long_side_small, long_within}
 use Rattle.whole_rows.proofs.narrow_row.NarrowRow.lower_long.Goals as goal
 use Rattle.whole_rows.proofs.narrow_row.NarrowRow.lower_long.Goals.{After-deref-3}
@@ -123,12 +124,12 @@ shrink_numbers-requires-clause-step_covers c =
 pub invariant_of-self-clause-covers : goal.invariant_of-self-clause-covers
 invariant_of-self-clause-covers c =
     let covers = covers_lem (goal.at.invariant_of-self-clause-covers c).After-deref-3 in
-    subst (λ l. MarksCover l _) c.deref-2.ensures.value
-    (shrunk_covers c.in-Some.plan.over _ c.in-Some.plan.common c.deref-2.result.now
-    c.deref_mut-2.result.now c.deref-3.result.now c.shrink_numbers.new.numbers _ covers.0 covers.1
-    (with_items_is c.args.self.now.numbers c.shrink_numbers.new.numbers
-    (c.shrink_numbers.auto.numbers ∙ c.deref_mut-2.ensures.len))
-    c.in-Some.ensures.divides.positive c.shrink_numbers.ensures)
+    subst₂ MarksCover c.deref-2.ensures.value
+    (sym (with_items_is c.args.self.now.numbers c.shrink_numbers.new.numbers
+    (c.shrink_numbers.auto.numbers ∙ c.deref_mut-2.ensures.len)))
+    (covers_shrunk c.in-Some.plan.over _ c.in-Some.plan.common c.deref-2.result.now
+    c.deref_mut-2.result.now c.deref-3.result.now c.shrink_numbers.new.numbers
+    c.in-Some.ensures.divides.positive covers.0 covers.1 c.shrink_numbers.ensures)
 
 pub invariant_of-self-clause-marks_long : goal.invariant_of-self-clause-marks_long
 invariant_of-self-clause-marks_long c =
