@@ -15,10 +15,10 @@ ghost use Rattle.whole_rows.specs.Rows as whole;
 use crate::marks::Marks;
 use crate::mixed_row::MixedRow;
 use crate::row::Row;
-use crate::words::{bit_after, next_bit, without_bit_if, word_end};
+use crate::words::{bit_after, word_end};
 use std::cmp::Ordering;
 use tableau_core::is_positive;
-use whole_rows::{has_positive, is_before};
+use whole_rows::{has_positive, is_before, next_bit, without_bit_if};
 
 // The row of least ratio of its right side to its positive entry of column q, and of these that of
 // least basic column. The right sides stand in column `side`. A row that isn't marked in column q

@@ -14,9 +14,9 @@ use crate::mixed_row::MixedRow;
 use crate::row::Row;
 use crate::sparse_row::SparseRow;
 use crate::step::Step;
-use crate::words::{bit_after, next_bit, without_bit_if, word_end};
+use crate::words::{bit_after, word_end};
 use std::alloc::{AllocError, Global};
-use whole_rows::{NarrowRow, NarrowStep, is_nonzero_at};
+use whole_rows::{NarrowRow, NarrowStep, is_nonzero_at, next_bit, without_bit_if};
 
 // The marks of the numbers of rows with this number of columns.
 pub(crate) fn marks_of(alloc: Global, rows: &[Row], width: usize) -> Result<Marks, AllocError>

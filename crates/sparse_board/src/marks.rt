@@ -1,8 +1,9 @@
 //! Marks of rows in columns.
 ghost use Rattle.std.specs.Prelude.{◌≡◌, ◌+◌, ◌*◌, ◌/◌, ◌^◌, ◌<◌, vec_len};
 
-use crate::words::{has_bit, join_words, next_bit, with_bit, zeros_from};
+use crate::words::{has_bit, join_words, zeros_from};
 use std::alloc::{AllocError, Global};
+use whole_rows::{next_bit, with_bit};
 
 // The rows of a column are bits of words: 64 rows without a mark are passed over at once, and two
 // columns are joined word by word.

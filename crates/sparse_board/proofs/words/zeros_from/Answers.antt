@@ -1,5 +1,5 @@
 use Rattle.std.proofs.Common.{arith, rules}
-use Rattle.sparse_board.proofs.WordSteps.{lowest_passed, lowest_set, lowest_within, none_set}
+use Rattle.whole_rows.proofs.BitSteps.{lowest_passed, lowest_set, lowest_within, none_set}
 use Rattle.sparse_board.proofs.words.zeros_from.Goals as goal
 
 pub returns-then-rest-eq0-clause-passed : goal.returns-then-rest-eq0-clause-passed

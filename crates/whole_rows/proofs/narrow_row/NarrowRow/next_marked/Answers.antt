@@ -1,4 +1,5 @@
-use Rattle.std.proofs.Common.{◌≡◌, ◌/◌, ◌<◌, ◌≤◌, ℕ, arith, false, rules, slice_index_or, subst}
+use Rattle.std.proofs.Common.{◌≡◌, ◌<◌, ◌≤◌, ℕ, arith, rules, subst}
+use Rattle.whole_rows.specs.ColumnMarks.{mark_of}
 use Rattle.whole_rows.specs.Rows.{width_of}
 use Rattle.whole_rows.proofs.CoverSteps.{zero_number}
 use Rattle.whole_rows.proofs.narrow_row.NarrowRow.next_marked.Goals as goal
@@ -11,5 +12,5 @@ returns-clause-zeros c = λ j f t.
     let row = c.args.self.now in
     let within : c.next_marked.result ≤ width_of row = search rules in
     zero_number row j (below_lem j c.next_marked.result (width_of row) t within)
-    (row.covers.unmarked j (subst (λ l. slice_index_or l (j / 8) false ≡ false)
+    (row.covers.unmarked j (subst (λ l. mark_of l j ≡ 0)
     c.deref.ensures.value (c.next_marked.ensures.unmarked j f t)))
