@@ -1,16 +1,18 @@
 -- Rows whose marks are those of their numbers, after a step. The lists are given as the code has
 -- them, with equations that say what they are.
-use Rattle.std.specs.Prelude.{◌≡◌, ℕ, ◌+◌, ◌*◌, ◌/◌, ◌^◌, ◌<◌, ◌≤◌, ◌⊎◌, Bool, ◌&&◌, true, is_some, List, length, MatchOption, Option, Some, None, slice_index_or, ℤ, pos, unsigned_abs}
+use Rattle.std.specs.Prelude.{◌≡◌, ℕ, ◌+◌, ◌*◌, ◌/◌, ◌^◌, ◌<◌, ◌≤◌, ◌⊎◌, Bool, ◌&&◌, true, is_some, List, length, MatchOption, Option, Some, None, slice_index_or, slice_set, ℤ, pos, unsigned_abs}
 use Rattle.std.proofs.Common.{inl, inr, sym, ◌∙◌, ap, ap₂, arith, div-le_self, mul-le-mul_left, mul-le-mul_right, subst, subst₂, true≢false}
 use Rattle.std.proofs.lemmas.Bool.{cases_lt, eq-eqb, lt-ltb}
-use Rattle.std.proofs.lemmas.List.{get_or_default, get_or_past}
+use Rattle.std.proofs.lemmas.List.{get_or-set_other, get_or-set_same, get_or_default, get_or_past, length-set}
 use Rattle.ratio_core.specs.Gcd.{gcd}
 use Rattle.ratio_core.specs.Rational.{reduce, zero_ℚ}
 use Rattle.rational_laws.specs.Over.{over-zero_ℚ}
+use Rattle.simplex_laws.specs.BoundedSumLaws.{same_or_other}
 use Rattle.whole_rows.specs.ColumnMarks.{AreMarksJoined, AreScaled, MarksCover, words_of}
 use Rattle.whole_rows.specs.declared.narrow_row.NarrowRow.{NarrowRow}
-use Rattle.whole_rows.specs.Numerators.{AreDivided, AreNumeratorsMade, AreShrunk, numerator}
+use Rattle.whole_rows.specs.Numerators.{AreDivided, AreNumeratorsMade, AreNumeratorsWithin, AreShrunk, numerator}
 use Rattle.whole_rows.specs.Rows.{can_stay, number_of, numerator_of, width_of}
+use Rattle.whole_rows.proofs.DivisionSteps.{at_item, from_item, side_of}
 use Rattle.whole_rows.proofs.MarkSteps.{covers_divided, covers_scaled, covers_shrunk, joined_covers, joined_covers_step}
 
 -- the marks of a row and of a step are joined
@@ -73,6 +75,29 @@ pub zero_number : (row : NarrowRow) (j : ℕ) → j < width_of row
 zero_number row j b z =
     ap (λ n. reduce n row.den) (get_or_default row.numbers.items j row.side (pos 0) b ∙ z)
     ∙ sym (over-zero_ℚ row.den row.above)
+
+-- a numerator within the bound is put
+pub put_within : (row : NarrowRow) (j : ℕ) (x : ℤ) → unsigned_abs x ≤ row.bound
+    → AreNumeratorsWithin row.bound (slice_set row.numbers.items j x) row.side
+put_within row j x small = record {
+  sizes = from_item (λ z. unsigned_abs z ≤ row.bound) (slice_set row.numbers.items j x) row.side
+      (λ k b. same_or_other
+      (unsigned_abs (slice_index_or (slice_set row.numbers.items j x) k (pos 0)) ≤ row.bound) k j
+      (λ e. subst (λ z. unsigned_abs z ≤ row.bound) (sym (here_lem k b e)) small)
+      (λ n. subst (λ z. unsigned_abs z ≤ row.bound)
+      (sym (get_or-set_other row.numbers.items j k x (pos 0) n))
+      (at_item (λ z. unsigned_abs z ≤ row.bound) row.numbers.items row.side row.within.sizes
+      (omega arith) k)))
+      (side_of (λ z. unsigned_abs z ≤ row.bound) row.numbers.items row.side row.within.sizes);
+}
+  where
+    here_lem : (k : ℕ) → k < length (slice_set row.numbers.items j x) → k ≡ j
+        → slice_index_or (slice_set row.numbers.items j x) k (pos 0) ≡ x
+    here_lem k b e =
+        ap (λ i. slice_index_or (slice_set row.numbers.items j x) i (pos 0)) e
+        ∙ get_or-set_same row.numbers.items j x (pos 0)
+        (subst (λ i. i < width_of row) e
+        (subst (λ n. k < n) (length-set row.numbers.items j x) b))
 
 -- the numerators of a row that is copied, and its right side
 pub copied_numerators : (row : NarrowRow) (old N items : List ℤ) (side : ℤ) → items ≡ N
