@@ -1,4 +1,4 @@
-use Rattle.std.proofs.Common.{◌<◌, ◌≤◌, ◌∙◌, ap, arith, length, of_z, rules, slice_set, subst, sym, to_z, unsigned_abs, w64}
+use Rattle.std.proofs.Common.{◌<◌, ◌≤◌, ◌∙◌, ap, arith, length, of_z, slice_set, subst, sym, to_z, unsigned_abs, w64}
 use Rattle.std.proofs.lemmas.Int.{to_z-of_z}
 use Rattle.std.proofs.lemmas.List.{length-set, with_items_is}
 use Rattle.whole_rows.specs.ColumnMarks.{IsColumnMarked, MarksCover}
@@ -26,7 +26,8 @@ pub invariant_of-self-clause-covers : goal.invariant_of-self-clause-covers
 invariant_of-self-clause-covers c =
     let row = c.args.self.now in
     let number = to_z w64 (of_z w64 c.args.numerator) in
-    let within : c.args.j < width_of row = search rules in
+    let within : c.args.j < width_of row =
+    omega (arith, c.if-j-len.true, c.len.ensures, row.numbers.ok.0) in
     subst (λ l. MarksCover l (slice_set row.numbers.items c.args.j number))
     (sym (with_items_is row.marks c.mark.new.marks (c.mark.auto.marks ∙ c.deref_mut.ensures.len)))
     (covers_put row.marks.items c.mark.new.marks row.numbers.items c.args.j number row.covers
