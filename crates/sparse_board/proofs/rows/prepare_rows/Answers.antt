@@ -1,7 +1,7 @@
 use Rattle.std.proofs.Common.{◌≡◌, ◌+◌, ◌<◌, ◌≤◌, arith, length, subst, sym}
 use Rattle.simplex_laws.specs.SearchLaws.{all_below_all}
 use Rattle.sparse_board.proofs.TestSteps.{refused_on}
-use Rattle.sparse_board.proofs.RowsSteps.{ArePreparedTo, prepared-more, prepared-none, prepared-past, prepared-pivot, row_fits, rows-refused}
+use Rattle.sparse_board.proofs.RowsSteps.{ArePreparedTo, prepared-more, prepared-none, prepared-past, prepared-pivot, prepared_stays, row_fits, rows-refused}
 use Rattle.sparse_board.proofs.rows.prepare_rows.Goals as goal
 use Rattle.sparse_board.proofs.rows.prepare_rows.Goals.{then-i-r+in_ok-prepare, else-i-r}
 
@@ -73,6 +73,14 @@ returns-in_err-prepare-clause-fits c =
     c.loop-i.rows c.loop-i.i c.index-rows-i.result c.loop-i.invariant c.requires.wide
     (subst (λ n. c.loop-i.i < n) c.loop-i.invariant.long c.loop-i-test.true) c.if-i-r.true
     (sym e)) c.in_err-prepare.ensures.fits
+
+pub returns-in_err-prepare-clause-stays : goal.returns-in_err-prepare-clause-stays
+returns-in_err-prepare-clause-stays c =
+    let step = c.args.step.now in
+    prepared_stays step.width c.args.r c.args.q step c.args.marks.now c.args.rows.now c.loop-i.rows
+    c.loop-i.i c.index-rows-i.result c.prepare.new.self c.loop-i.invariant
+    (subst (λ n. c.loop-i.i < n) c.loop-i.invariant.long c.loop-i-test.true)
+    c.in_err-prepare.ensures.stays
 
 pub returns-clause-fits : goal.returns-clause-fits
 returns-clause-fits c =
