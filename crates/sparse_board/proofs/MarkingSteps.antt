@@ -1,5 +1,5 @@
 -- Marks that are set or taken away one after another.
-use Rattle.std.specs.Prelude.{◌≡◌, ℕ, ◌+◌, ◌*◌, ◌/◌, ◌%◌, ◌<◌, ◌≤◌, Bool, true, false, ◌⊎◌, nat_eq, List, length, min, pos, slice_index, slice_index_or, slice_set, take, Some, refl}
+use Rattle.std.specs.Prelude.{◌≡◌, ℕ, ◌+◌, ◌*◌, ◌/◌, ◌%◌, ◌<◌, ◌≤◌, Bool, true, false, ◌⊎◌, List, length, min, pos, slice_index, slice_index_or, slice_set, take, Some, refl}
 use Rattle.std.proofs.Common.{sym, ◌∙◌, ap, arith, subst, inl, inr, true≢false}
 use Rattle.std.proofs.lemmas.List.{get_or-take, get_or_default, length-set, length-take}
 use Rattle.std.specs.Int.{bit_at}

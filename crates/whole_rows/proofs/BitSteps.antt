@@ -1,7 +1,7 @@
 -- Bits of a word: those that are left where the lowest are cleared one by one, and a word that is
 -- shifted.
-use Rattle.std.specs.Prelude.{◌≡◌, ℕ, ◌+◌, ◌-◌, ◌*◌, ◌/◌, ◌%◌, ◌^◌, ◌<◌, ◌≤◌, ◌⊎◌, Bool, IsTrue, true, false, bit_and, bit_or, max, min, refl, suc}
-use Rattle.std.proofs.Common.{inl, inr, sym, ◌∙◌, ap, arith, mod-lt, pow_pos, subst, w64}
+use Rattle.std.specs.Prelude.{◌≡◌, ℕ, ◌+◌, ◌-◌, ◌*◌, ◌/◌, ◌%◌, ◌^◌, ◌<◌, ◌≤◌, ◌⊎◌, Bool, IsTrue, true, false, bit_and, min, refl, suc}
+use Rattle.std.proofs.Common.{inl, inr, sym, ◌∙◌, ap, arith, mod-lt, pow_pos, w64}
 use Rattle.std.proofs.Math.Nat.{two-pow-succ}
 use Rattle.std.specs.Int.{bit_at, bit_not, trailing_zeros}
 use Rattle.std.proofs.lemmas.Bool.{cases_lt}

@@ -1,5 +1,5 @@
 -- Words of marks that are noted, and joined at listed places.
-use Rattle.std.specs.Prelude.{◌≡◌, ℕ, ◌+◌, ◌/◌, ◌%◌, ◌<◌, ◌≤◌, ◌⊎◌, List, bit_or, length, map, max, slice_index, slice_index_or, slice_set, ℤ, pos, unsigned_abs, refl}
+use Rattle.std.specs.Prelude.{◌≡◌, ℕ, ◌+◌, ◌/◌, ◌%◌, ◌<◌, ◌≤◌, ◌⊎◌, List, bit_or, length, map, max, slice_index, slice_index_or, slice_set, pos, unsigned_abs, refl}
 use Rattle.std.proofs.Common.{inl, inr, sym, ◌∙◌, ap, ap₂, arith, subst}
 use Rattle.std.specs.Int.{bit_at}
 use Rattle.std.proofs.lemmas.Bool.{cases_lt}

@@ -8,7 +8,7 @@ use Rattle.std.proofs.lemmas.Int.{unsigned_abs-mul}
 use Rattle.std.proofs.lemmas.List.{get_or-replicate, get_or-set_other, get_or-set_same, get_or_default, get_or_past, length-replicate, length-set}
 use Rattle.std.proofs.lemmas.Nat.Bits.{bit_at-lt, bit_at-zero, bit_at_or}
 use Rattle.simplex_laws.specs.BoundedSumLaws.{same_or_other}
-use Rattle.whole_rows.specs.ColumnMarks.{AreColumnsUnmarked, AreMarksJoined, AreScaled, IsColumnMarked, MarksCover, WordCovers, mark_of, words_of}
+use Rattle.whole_rows.specs.ColumnMarks.{AreColumnsUnmarked, AreMarksJoined, AreScaled, IsColumnMarked, MarksCover, WordCovers, mark_of}
 use Rattle.whole_rows.specs.Numerators.{AreDivided, AreNumeratorsLowered, AreNumeratorsMade, AreShrunk, numerator}
 use Rattle.whole_rows.specs.Over.{lowered_num}
 use Rattle.whole_rows.proofs.BitSteps.{one_zero}

@@ -1,5 +1,5 @@
 -- The columns of a word that are noted, from the lowest on.
-use Rattle.std.specs.Prelude.{◌≡◌, ℕ, zero, suc, ◌+◌, ◌-◌, ◌*◌, ◌/◌, ◌<◌, ◌≤◌, Bool, true, false, nat_eq, List, length, min, slice_index_or, slice_set, ℤ, pos, refl}
+use Rattle.std.specs.Prelude.{◌≡◌, ℕ, zero, suc, ◌+◌, ◌-◌, ◌*◌, ◌/◌, ◌<◌, ◌≤◌, Bool, false, nat_eq, List, length, min, slice_index_or, slice_set, ℤ, pos, refl}
 use Rattle.std.proofs.Common.{sym, ◌∙◌, add-zero, ap, arith, subst}
 use Rattle.std.specs.Int.{bit_at}
 use Rattle.simplex_laws.specs.BoundedSumLaws.{same_or_other}

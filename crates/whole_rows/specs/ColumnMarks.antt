@@ -1,5 +1,5 @@
 -- Marks of columns as bits of words, set where a number may differ from 0.
-use Rattle.std.specs.Prelude.{◌≡◌, ℕ, ◌+◌, ◌*◌, ◌/◌, ◌%◌, ◌<◌, ◌≤◌, List, length, max, slice_index, slice_index_or, ℤ, pos, ◌*ℤ◌}
+use Rattle.std.specs.Prelude.{◌≡◌, ℕ, ◌+◌, ◌/◌, ◌%◌, ◌<◌, ◌≤◌, List, length, max, slice_index, slice_index_or, ℤ, pos, ◌*ℤ◌}
 use Rattle.std.specs.Int.{bit_at}
 
 -- how many words n columns have

@@ -1,4 +1,4 @@
-use Rattle.std.specs.Prelude.{◌+◌, ◌-◌, length, min}
+use Rattle.std.specs.Prelude.{◌+◌, ◌-◌, min}
 use Rattle.sparse_board.specs.Leaving.{IsBestTo}
 use Rattle.sparse_board.proofs.leaving.leaving_in.Given as goal
 

@@ -1,4 +1,4 @@
-use Rattle.std.proofs.Common.{◌≡◌, ◌+◌, ◌<◌, ◌∙◌, ap, arith, length, sym}
+use Rattle.std.proofs.Common.{◌≡◌, ◌+◌, ◌<◌, ◌∙◌, ap, arith, length}
 use Rattle.ratio_core.specs.Rational.{zero_ℚ}
 use Rattle.sparse_board.specs.Rows.{number_in_row, numbers}
 use Rattle.sparse_board.proofs.RowsSteps.{row_is}

@@ -1,4 +1,4 @@
-use Rattle.std.proofs.Common.{◌≡◌, ◌+◌, ◌*◌, ◌<◌, arith, length, min, refl, slice_index, subst}
+use Rattle.std.proofs.Common.{arith, length, refl, slice_index, subst}
 use Rattle.whole_rows.specs.Listed.{IsNotedTo}
 use Rattle.whole_rows.proofs.ListedSteps.{noted_all, noted_none}
 use Rattle.whole_rows.proofs.MarkSteps.{covers_word, word_covers}

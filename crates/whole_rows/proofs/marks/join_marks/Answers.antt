@@ -1,4 +1,4 @@
-use Rattle.std.proofs.Common.{◌<◌, ◌≡◌, ◌∙◌, ℕ, arith, length, refl, slice_index, subst, sym}
+use Rattle.std.proofs.Common.{◌<◌, ◌≡◌, ◌∙◌, ℕ, arith, refl, slice_index, subst, sym}
 use Rattle.whole_rows.proofs.JoiningSteps.{joins_all, joins_more, joins_none, words_long}
 use Rattle.whole_rows.proofs.marks.join_marks.Goals as goal
 

@@ -1,4 +1,4 @@
-use Rattle.std.proofs.Common.{arith, subst}
+use Rattle.std.proofs.Common.{arith}
 use Rattle.whole_rows.proofs.MarkSteps.{first_marked_more, first_marked_none}
 use Rattle.whole_rows.proofs.marks.mark_all.Goals as goal
 

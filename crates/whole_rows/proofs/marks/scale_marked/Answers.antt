@@ -1,4 +1,4 @@
-use Rattle.std.proofs.Common.{◌≡◌, ◌+◌, ◌<◌, ◌*◌, ◌^◌, ℕ, ℤ, arith, length, of_z, refl, slice_index, subst, subst₂, sym, to_z, unsigned_abs, w64}
+use Rattle.std.proofs.Common.{◌≡◌, ◌+◌, ◌<◌, ◌*◌, ◌^◌, ℕ, arith, length, of_z, refl, slice_index, subst, subst₂, sym, to_z, unsigned_abs, w64}
 use Rattle.std.proofs.lemmas.Int.{to_z-of_z}
 use Rattle.whole_rows.specs.ColumnMarks.{AreScaled}
 use Rattle.whole_rows.proofs.MarkSteps.{word_covers, word_stays}

@@ -1,4 +1,4 @@
-use Rattle.std.proofs.Common.{◌≡◌, ◌+◌, ◌<◌, ◌*◌, ◌^◌, ◌*ℤ◌, ◌∙◌, ℤ, FitsSigned, ap, arith, length, of_z, pos, rules, slice_index_or, subst, subst₂, sym, to_z, unsigned_abs, w64}
+use Rattle.std.proofs.Common.{◌+◌, ◌<◌, ◌*◌, ◌^◌, ◌*ℤ◌, ◌∙◌, ℤ, FitsSigned, ap, arith, length, of_z, pos, rules, slice_index_or, subst, subst₂, sym, to_z, unsigned_abs, w64}
 use Rattle.std.proofs.lemmas.Int.{to_z-of_z}
 use Rattle.whole_rows.specs.ColumnMarks.{IsWordChanged}
 use Rattle.whole_rows.proofs.WordSteps.{ScaledTo, scaled_first, word_end, word_next, word_read, word_within}

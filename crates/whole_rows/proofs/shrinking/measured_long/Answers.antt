@@ -1,10 +1,9 @@
-use Rattle.std.proofs.Common.{◌≡◌, ◌+◌, ◌*◌, ◌<◌, ◌≤◌, ◌∙◌, ℕ, ℤ, FitsSigned, ap, ap₂, arith, length, refl, rules, slice_index, subst, sym, to_z, of_z, unsigned_abs, w64}
+use Rattle.std.proofs.Common.{◌≡◌, ◌+◌, ◌*◌, ◌<◌, ◌≤◌, ◌∙◌, ℤ, FitsSigned, ap, ap₂, arith, length, rules, slice_index, subst, sym, to_z, of_z, unsigned_abs, w64}
 use Rattle.std.specs.Prelude.{bit_or}
 use Rattle.std.proofs.lemmas.Int.{to_z-of_z}
 use Rattle.std.proofs.lemmas.List.{get_or_read}
 use Rattle.std.proofs.lemmas.Nat.{or_comm}
 use mir.Syntax.{w128}
-use Rattle.whole_rows.specs.declared.narrow_row.NarrowRow.{NarrowRow}
 use Rattle.whole_rows.specs.Over.{lowered_num}
 use Rattle.whole_rows.specs.Rows.{width_of}
 use Rattle.whole_rows.specs.Shrinking.{DividesTo, IsBelowOrSide, IsMeasuredOn, IsSizedTo}

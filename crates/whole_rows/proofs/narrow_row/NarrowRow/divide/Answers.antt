@@ -1,4 +1,4 @@
-use Rattle.std.proofs.Common.{◌<◌, ◌^◌, ◌∙◌, ◌*ℤ◌, ℕ, FitsSigned, ap, arith, length, pos, refl, rules, slice_index_or, subst, subst₂, sym, unsigned_abs, w64, to_z, of_z}
+use Rattle.std.proofs.Common.{◌<◌, ◌^◌, ◌∙◌, ◌*ℤ◌, ℕ, FitsSigned, ap, arith, length, pos, refl, rules, slice_index_or, subst, sym, unsigned_abs, w64, to_z, of_z}
 use Rattle.std.proofs.lemmas.Int.{to_z-of_z}
 use Rattle.std.proofs.lemmas.List.{with_items_is}
 use Rattle.whole_rows.proofs.CoverSteps.{divided_covers, long_kept}
