@@ -1,6 +1,6 @@
 -- Marks that are bits of words.
-use Rattle.std.specs.Prelude.{◌≡◌, ℕ, ◌+◌, ◌*◌, ◌/◌, ◌%◌, ◌<◌, ◌≤◌, ◌⊎◌, Bool, true, false, ◌&&◌, ◌||◌, nat_eq, length, min, replicate, slice_index, slice_set, vec_len}
-use Rattle.std.proofs.Common.{inl, inr, sym, ◌∙◌, ap, arith, subst}
+use Rattle.std.specs.Prelude.{◌≡◌, ℕ, ◌+◌, ◌*◌, ◌/◌, ◌%◌, ◌<◌, ◌≤◌, ◌⊎◌, Bool, true, false, ◌&&◌, ◌||◌, nat_eq, bit_or, length, min, replicate, slice_index, slice_set, vec_len}
+use Rattle.std.proofs.Common.{inl, inr, sym, ◌∙◌, ap, arith, subst, true≢false}
 use Rattle.std.specs.Int.{bit_at}
 use Rattle.std.proofs.lemmas.Bool.{cases_lt, le-ltb, lt-ltb}
 use Rattle.std.proofs.lemmas.List.{get_or-replicate, get_or-set_other, get_or-set_same, get_or_past, length-replicate}
@@ -9,7 +9,7 @@ use Rattle.std.proofs.lemmas.Nat.Bits.{bit_at-zero}
 use Rattle.simplex_laws.specs.BoundedSumLaws.{same_or_other}
 use Rattle.sparse_board.specs.declared.marks.Marks.{Marks}
 use Rattle.sparse_board.specs.Words.{AreJoined, bit_of}
-use Rattle.sparse_board.specs.Marks.{AreRowsUnmarked, IsJoined, IsPut, IsWord, IsWordPut, SameSizes, has}
+use Rattle.sparse_board.specs.Marks.{AreRowsUnmarked, IsJoined, IsPut, IsWord, IsWordJoined, IsWordPut, SameSizes, has}
 use Rattle.sparse_board.proofs.WordSteps.{joined_bit}
 
 -- ---- a mark is a bit
@@ -24,6 +24,14 @@ has_past : (marks : Marks) (j i : ℕ) → marks.rows ≤ i → has marks j i �
 unfolding has
 has_past marks j i b =
     ap (λ t. t && nat_eq (bit_of marks.words.items marks.stride j i) 1) (le-ltb i marks.rows b)
+
+-- a row that is marked is one of the rows
+pub has_within : (marks : Marks) (j i : ℕ) → has marks j i ≡ true → i < marks.rows
+has_within marks j i e = by_row (cases_lt i marks.rows)
+  where
+    by_row : (i < marks.rows) ⊎ (marks.rows ≤ i) → i < marks.rows
+    by_row (inl b) = b
+    by_row (inr b) = absurd (true≢false (sym e ∙ has_past marks j i b))
 
 pub unset_is : (marks : Marks) (j i : ℕ) → bit_of marks.words.items marks.stride j i ≡ 0
     → has marks j i ≡ false
@@ -196,6 +204,19 @@ module _ (old new : Marks) (j k word : ℕ) (sizes : SameSizes old new)
           ∙ sym (has_is old l i b)
       by_row l i apart (inr b) =
           has_past new l i (subst (λ n. n ≤ i) (sym sizes.rows) b) ∙ sym (has_past old l i b)
+
+-- ---- a word that is joined
+
+pub word_joined : (old new : Marks) (j k left word joined : ℕ) → IsWord j k left old
+    → joined ≡ bit_or left word → IsWordPut j k joined old new → IsWordJoined j k word old new
+word_joined old new j k left word joined read is put = record {
+  sizes = put.sizes;
+  here = λ i b e. put.here i (subst (λ n. i < n) (sym put.sizes.rows) b) e
+      ∙ ap (λ w. nat_eq (bit_at w (i % 64)) 1) is
+      ∙ joined_bit left word (i % 64)
+      ∙ ap (λ t. t || nat_eq (bit_at word (i % 64)) 1) (sym (read i b e));
+  others = put.others;
+}
 
 -- ---- columns that are joined
 

@@ -1,10 +1,10 @@
 -- Marks that are set or taken away one after another.
-use Rattle.std.specs.Prelude.{◌≡◌, ℕ, ◌+◌, ◌*◌, ◌/◌, ◌%◌, ◌<◌, ◌≤◌, Bool, true, false, ◌⊎◌, List, length, min, pos, slice_index, slice_index_or, slice_set, take, Some, refl}
+use Rattle.std.specs.Prelude.{◌≡◌, ℕ, ◌+◌, ◌*◌, ◌/◌, ◌%◌, ◌<◌, ◌≤◌, Bool, true, false, ◌⊎◌, nat_eq, List, length, min, pos, slice_index, slice_index_or, slice_set, take, Some, refl}
 use Rattle.std.proofs.Common.{sym, ◌∙◌, ap, arith, subst, inl, inr, true≢false}
 use Rattle.std.proofs.lemmas.List.{get_or-take, get_or_default, length-set, length-take}
 use Rattle.std.specs.Int.{bit_at}
 use Rattle.std.proofs.lemmas.Bool.{cases_lt, or_left, or_right}
-use Rattle.std.proofs.lemmas.Nat.Bits.{bit_at-lt}
+use Rattle.std.proofs.lemmas.Nat.Bits.{bit_at-lt, bit_at-zero}
 use Rattle.ratio_core.specs.Rational.{Rational, inverse_ℚ, reduce, zero_ℚ, ◌*ℚ◌, ◌/ℚ◌}
 use Rattle.rational_laws.specs.Field.{zero-*ℚ}
 use Rattle.rational_laws.specs.Over.{over-zero_ℚ}
@@ -19,11 +19,13 @@ use Rattle.whole_rows.specs.Rows as whole
 use Rattle.whole_rows.specs.declared.step.NarrowStep.{NarrowStep}
 use Rattle.sparse_board.specs.Numbers.{number_of, row_columns, row_values, width_of}
 use Rattle.sparse_board.specs.Rows.{AreSparseRowsLowered, AreSparseRowsWide, now_at, now_of, number_in_row, numbers}
-use Rattle.sparse_board.specs.Marks.{IsJoined, IsPut, IsWord, IsWordPut, SameSizes, has}
-use Rattle.sparse_board.specs.Marking.{AreNumbersMarked, KeepMarks, MarksNumbers, MarksRow, MarksUnits}
+use Rattle.sparse_board.specs.Marks.{IsJoined, IsPut, IsWord, IsWordJoined, IsWordPut, SameSizes, has}
+use Rattle.sparse_board.specs.Marking.{AreNumbersMarked, KeepMarks, MarksNumbers, MarksRow, MarksUnits, MarksWord}
 use Rattle.sparse_board.specs.Words.{Clears}
 use Rattle.tableau_core.specs.BoardNumbers.{quotient_at}
+use Rattle.sparse_board.proofs.MarkSteps.{has_within}
 use Rattle.sparse_board.proofs.NumberLemmas.{number_missing, sought}
+use Rattle.whole_rows.proofs.BitSteps.{one_zero}
 use Rattle.sparse_board.proofs.WordSteps.{bit_none, bit_one}
 use Rattle.tableau_core.specs.ItemLaws.{written_at, written_off}
 
@@ -68,6 +70,26 @@ join_keeps from to old new join = record {
       (λ f. ap (λ n. has new n i) f ∙ join.here i
       ∙ or_left (has old to i) (has old from i) (ap (λ n. has old n i) (sym f) ∙ e))
       (λ n. join.others j i n ∙ e);
+}
+
+-- a column that is marked in the rows of a word's bits
+pub word_here : (j k word : ℕ) (old new : Marks) → IsWordJoined j k word old new → (i : ℕ)
+    → i < old.rows → i / 64 ≡ k → bit_at word (i % 64) ≡ 1 → has new j i ≡ true
+word_here j k word old new join i b e f =
+    join.here i b e
+    ∙ or_right (has old j i) (nat_eq (bit_at word (i % 64)) 1) (ap (λ x. nat_eq x 1) f)
+
+pub word_keeps : (j k word : ℕ) (old new : Marks) → IsWordJoined j k word old new
+    → KeepMarks old new
+word_keeps j k word old new join = record {
+  sizes = join.sizes;
+  kept = λ l i e. same_or_other (has new l i ≡ true) l j
+      (λ f. same_or_other (has new l i ≡ true) (i / 64) k
+      (λ g. ap (λ n. has new n i) f ∙ join.here i (has_within old l i e) g
+      ∙ or_left (has old j i) (nat_eq (bit_at word (i % 64)) 1)
+      (ap (λ n. has old n i) (sym f) ∙ e))
+      (λ n. join.others l i (λ b. n b.1) ∙ e))
+      (λ n. join.others l i (λ b. n b.0) ∙ e);
 }
 
 -- ---- marks that are taken away
@@ -299,10 +321,45 @@ pub units_marked : (v w q : ℕ) (units others : ℕ → Rational) (old new : Ma
 units_marked v w q units others old new e is h i p j c f =
     is j ∙ h i p j (subst (λ n. j < n) (sym e) c) f
 
+-- ---- columns marked in the rows of a word's bits, which is the k-th of a column
+
+-- the first n columns are
+pub record IsWordMarkedTo (columns : List ℕ) (k word : ℕ) (old marks : Marks) (n : ℕ) : Type 0 where
+  pub keep : KeepMarks old marks
+  pub marked : (l : ℕ) → l < n → (i : ℕ) → i < old.rows → i / 64 ≡ k
+      → bit_at word (i % 64) ≡ 1 → has marks (slice_index columns l) i ≡ true
+
+pub word_marked_none : (columns : List ℕ) (k word : ℕ) (old : Marks)
+    → IsWordMarkedTo columns k word old old 0
+word_marked_none columns k word old =
+    record { keep = keep_none old; marked = λ l b. absurd (omega (arith, b)) }
+
+pub word_marked_more : (columns : List ℕ) (k word : ℕ) (old marks new : Marks) (n : ℕ)
+    → IsWordMarkedTo columns k word old marks n
+    → IsWordJoined (slice_index columns n) k word marks new
+    → IsWordMarkedTo columns k word old new (n + 1)
+word_marked_more columns k word old marks new n h join =
+    let keep = word_keeps (slice_index columns n) k word marks new join in
+    record {
+      keep = keep_more old marks new h.keep keep;
+      marked = λ l b i c d e. same_or_other (has new (slice_index columns l) i ≡ true) l n
+          (λ f. ap (λ m. has new (slice_index columns m) i) f
+          ∙ word_here (slice_index columns n) k word marks new join i
+          (subst (λ m. i < m) (sym h.keep.sizes.rows) c) d e)
+          (λ m. keep.kept (slice_index columns l) i (h.marked l (omega (arith, b, m)) i c d e));
+    }
+
+-- a word without bits
+pub no_word_marked : (w k word : ℕ) (units : ℕ → Rational) (marks : Marks) → word ≡ 0
+    → MarksWord w k word units marks
+no_word_marked w k word units marks z i b e f =
+    absurd (one_zero (bit_at word (i % 64)) f
+    (ap (λ x. bit_at x (i % 64)) z ∙ bit_at-zero (i % 64)))
+
 -- the step's listed columns, and its right side
-module _ (step : NarrowStep) (q : ℕ) (old marks new : Marks) (k : ℕ) (all : k ≡ step.used)
-    (h : IsStepMarkedTo step.columns.items q old marks k)
-    (join : IsJoined q (whole.width_of step.row) marks new) where
+module _ (step : NarrowStep) (k word : ℕ) (old marks new : Marks) (n : ℕ) (all : n ≡ step.used)
+    (h : IsWordMarkedTo step.columns.items k word old marks n)
+    (join : IsWordJoined (whole.width_of step.row) k word marks new) where
   listed_is : (l : ℕ) → l < length (take step.used step.columns.items)
       → (l < step.used) × (slice_index (take step.used step.columns.items) l
       ≡ slice_index step.columns.items l)
@@ -323,14 +380,17 @@ module _ (step : NarrowStep) (q : ℕ) (old marks new : Marks) (k : ℕ) (all : 
       ∙ sym (over-zero_ℚ step.row.den step.row.above)
 
   join_kept : KeepMarks marks new
-  join_kept = join_keeps q (whole.width_of step.row) marks new join
+  join_kept = word_keeps (whole.width_of step.row) k word marks new join
 
   pub narrow_kept : KeepMarks old new
   narrow_kept = keep_more old marks new h.keep join_kept
 
-  pub narrow_marked : MarksUnits (whole.width_of step.row + 1) q (whole.number_of step.row) old new
-  narrow_marked i p j c e = by_end (cases_lt j (whole.width_of step.row))
+  pub narrow_marked : MarksWord (whole.width_of step.row + 1) k word (whole.number_of step.row) new
+  narrow_marked i d p s j c e = by_end (cases_lt j (whole.width_of step.row))
     where
+      before : i < old.rows
+      before = subst (λ m. i < m) narrow_kept.sizes.rows d
+
       column : List ℕ
       column = take step.used step.columns.items
 
@@ -338,21 +398,65 @@ module _ (step : NarrowStep) (q : ℕ) (old marks new : Marks) (k : ℕ) (all : 
           → ((l : ℕ) × (l < length column) × (slice_index column l ≡ j))
           ⊎ ((l : ℕ) → l < length column → ¬ (slice_index column l ≡ j))
           → whole.number_of step.row j ≡ zero_ℚ
-      by_place d (inr none) = zero_numerator j d (step.lists.others j d none)
-      by_place d (inl f) =
+      by_place b (inr none) = zero_numerator j b (step.lists.others j b none)
+      by_place b (inl f) =
           let is = listed_is f.0 f.1 in
           absurd (true≢false (sym (join_kept.kept j i (subst (λ n. has marks n i ≡ true)
-          (sym is.1 ∙ f.2) (h.marked f.0 (subst (λ n. f.0 < n) (sym all) is.0) i p))) ∙ e))
+          (sym is.1 ∙ f.2) (h.marked f.0 (subst (λ m. f.0 < m) (sym all) is.0) i before p s)))
+          ∙ e))
 
       by_end : (j < whole.width_of step.row) ⊎ (whole.width_of step.row ≤ j)
           → whole.number_of step.row j ≡ zero_ℚ
-      by_end (inl d) = by_place d (sought column j (length column))
-      by_end (inr d) =
-          absurd (true≢false (sym (subst (λ n. has new n i ≡ true) (end_lem j _ c d)
-          (joined_marked q (whole.width_of step.row) old marks new h.keep join i p)) ∙ e))
+      by_end (inl b) = by_place b (sought column j (length column))
+      by_end (inr b) =
+          absurd (true≢false (sym (subst (λ m. has new m i ≡ true) (end_lem j _ c b)
+          (word_here (whole.width_of step.row) k word marks new join i
+          (subst (λ m. i < m) (sym h.keep.sizes.rows) before) p s)) ∙ e))
         where
           end_lem : (j w : ℕ) → j < w + 1 → w ≤ j → w ≡ j
           end_lem j w x y = omega (arith, x, y)
+
+-- ---- the rows of the first k words of column q
+
+pub record AreWordsMarkedTo (w q : ℕ) (units : ℕ → Rational) (old marks : Marks) (k : ℕ) : Type 0
+  where
+    pub keep : KeepMarks old marks
+    pub marked : (i : ℕ) → i < k * 64 → has old q i ≡ true → MarksNumbers w units i marks
+
+pub words_marked_none : (w q : ℕ) (units : ℕ → Rational) (old : Marks)
+    → AreWordsMarkedTo w q units old old 0
+words_marked_none w q units old =
+    record { keep = keep_none old; marked = λ i b. absurd (omega (arith, b)) }
+
+pub words_marked_more : (w q : ℕ) (units : ℕ → Rational) (old marks new : Marks) (k word : ℕ)
+    → AreWordsMarkedTo w q units old marks k → IsWord q k word marks → KeepMarks marks new
+    → MarksWord w k word units new → AreWordsMarkedTo w q units old new (k + 1)
+words_marked_more w q units old marks new k word h read keep made = record {
+  keep = keep_more old marks new h.keep keep;
+  marked = λ i b p. by_place i b p (cases_lt i (k * 64));
+}
+  where
+    place_lem : (i k : ℕ) → i < (k + 1) * 64 → k * 64 ≤ i → i / 64 ≡ k
+    place_lem i k b c = omega (arith, b, c)
+
+    by_place : (i : ℕ) → i < (k + 1) * 64 → has old q i ≡ true → (i < k * 64) ⊎ (k * 64 ≤ i)
+        → MarksNumbers w units i new
+    by_place i b p (inl c) = λ j d e. h.marked i c p j d (was_not marks new keep j i e)
+    by_place i b p (inr c) =
+        let now = h.keep.kept q i p in
+        let within = has_within marks q i now in
+        made i (subst (λ n. i < n) (sym keep.sizes.rows) within) (place_lem i k b c)
+        (bit_one (bit_at word (i % 64)) (bit_at-lt word (i % 64))
+        (sym (read i within (place_lem i k b c)) ∙ now))
+
+pub words_marked_all : (w q : ℕ) (units : ℕ → Rational) (old marks : Marks) (k : ℕ)
+    → AreWordsMarkedTo w q units old marks k → old.rows / 64 + 1 ≤ k
+    → MarksUnits w q units old marks
+words_marked_all w q units old marks k h all i p =
+    h.marked i (below_lem i old.rows k (has_within old q i p) all) p
+  where
+    below_lem : (i n k : ℕ) → i < n → n / 64 + 1 ≤ k → i < k * 64
+    below_lem i n k b c = omega (arith, b, c)
 
 -- a listed column is one of the step's
 pub listed_below : (step : NarrowStep) (k : ℕ) → k < step.used

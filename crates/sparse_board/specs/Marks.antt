@@ -25,6 +25,14 @@ pub record IsJoined (from to : ℕ) (old new : Marks) : Type 0 where
   pub here : (i : ℕ) → has new to i ≡ (has old to i || has old from i)
   pub others : (j i : ℕ) → ¬ (j ≡ to) → has new j i ≡ has old j i
 
+-- a column is marked in the rows of a word's bits, which is the k-th of a column, and all other
+-- marks stay
+pub record IsWordJoined (j k word : ℕ) (old new : Marks) : Type 0 where
+  pub sizes : SameSizes old new
+  pub here : (i : ℕ) → i < old.rows → i / 64 ≡ k
+      → has new j i ≡ (has old j i || nat_eq (bit_at word (i % 64)) 1)
+  pub others : (l i : ℕ) → ¬ ((l ≡ j) × (i / 64 ≡ k)) → has new l i ≡ has old l i
+
 -- no row from `from` on below `to` is marked in column j
 abbrev pub AreRowsUnmarked : Marks → ℕ → ℕ → ℕ → Type 0
 AreRowsUnmarked marks j from to = (i : ℕ) → from ≤ i → i < to → has marks j i ≡ false

@@ -1,12 +1,12 @@
 //! Which numbers of the rows may differ from 0: a row isn't looked at for another.
-ghost use Rattle.std.specs.Prelude.{◌≡◌, ◌+◌, ◌<◌, ◌≤◌, ◌^◌, ℕ, IsTrue, IfOk, false, length, true};
+ghost use Rattle.std.specs.Prelude.{◌≡◌, ◌+◌, ◌*◌, ◌<◌, ◌≤◌, ◌^◌, ℕ, IsTrue, IfOk, false, length, true};
 ghost use Rattle.ratio_core.specs.Rational.{zero_ℚ};
 ghost use Rattle.sparse_board.specs.Mixed as mixed;
 ghost use Rattle.sparse_board.specs.Numbers.{number_of, width_of};
 ghost use Rattle.sparse_board.specs.Rows.{AreSparseRowsWide, number_in_row};
 ghost use Rattle.sparse_board.specs.Words.{Clears};
 ghost use Rattle.sparse_board.specs.Marks.{SameSizes, has};
-ghost use Rattle.sparse_board.specs.Marking.{AreNumbersMarked, KeepMarks, MarksNumbers, MarksRow, MarksUnits};
+ghost use Rattle.sparse_board.specs.Marking.{AreNumbersMarked, KeepMarks, MarksNumbers, MarksRow, MarksUnits, MarksWord};
 ghost use Rattle.whole_rows.specs.Rows as whole;
 
 use crate::marks::Marks;
@@ -181,8 +181,27 @@ fn mark_narrow(step: &NarrowStep, q: u32, marks: &mut Marks)
     ensures marked { MarksUnits (whole.width_of step.now.row + 1) q
         (whole.number_of step.now.row) marks.old marks.new }
 {
-    for k in 0..step.used {
-        marks.join(q as usize, step.columns[k] as usize);
+    for k in 0..marks.stride() {
+        let word = marks.word(q as usize, k);
+        mark_word(step, k, word, marks);
     }
-    marks.join(q as usize, step.row.numbers.len());
+}
+
+// The same of the rows of a word's bits, which is the k-th of a column: a word of 64 rows without one
+// is passed over at once.
+#[inline]
+fn mark_word(step: &NarrowStep, k: usize, word: u64, marks: &mut Marks)
+    requires columns { marks.old.columns ≡ whole.width_of step.now.row + 1 }
+    requires place { k * 64 ≤ marks.old.rows }
+    ensures kept { KeepMarks marks.old marks.new }
+    ensures marked { MarksWord (whole.width_of step.now.row + 1) k word
+        (whole.number_of step.now.row) marks.new }
+{
+    if word == 0 {
+        return;
+    }
+    for n in 0..step.used {
+        marks.join_word(step.columns[n] as usize, k, word);
+    }
+    marks.join_word(step.row.numbers.len(), k, word);
 }

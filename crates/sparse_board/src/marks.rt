@@ -21,7 +21,7 @@ pub(crate) struct Marks {
 
 impl Marks {
     ghost use Rattle.std.specs.Prelude.{◌≤◌, ℕ, true, false, IfOk};
-    ghost use Rattle.sparse_board.specs.Marks.{AreRowsUnmarked, IsJoined, IsPut, IsWord, IsWordPut, has};
+    ghost use Rattle.sparse_board.specs.Marks.{AreRowsUnmarked, IsJoined, IsPut, IsWord, IsWordJoined, IsWordPut, has};
 
     // No marks, in this number of columns of this number of rows.
     pub(crate) fn none(alloc: Global, columns: usize, rows: usize) -> Result<Marks, AllocError>
@@ -80,6 +80,18 @@ impl Marks {
     {
         let place = column * self.stride + k;
         self.words[place] = word;
+    }
+
+    // Marks a column in the rows of a word's bits, which is the k-th of a column.
+    #[inline]
+    pub(crate) fn join_word(&mut self, column: usize, k: usize, word: u64)
+        requires column { column < self.old.columns }
+        requires place { k * 64 ≤ self.old.rows }
+        ensures { IsWordJoined column k word self.old self.new }
+    {
+        let left = self.word(column, k);
+        let joined = left | word;
+        self.set_word(column, k, joined);
     }
 
     // Marks a row in a column.
