@@ -14,21 +14,6 @@ pub(crate) fn has_bit(word: u64, k: usize) -> bool
     (word >> k) & 1 == 1
 }
 
-// How many bits from this one on aren't set before one that is, or 64.
-#[inline]
-pub(crate) fn zeros_from(word: u64, from: usize) -> usize
-    requires { from < 64 }
-    ensures passed { (k : ℕ) → from ≤ k → k < from + result → bit_at word k ≡ 0 }
-    ensures within { result < 64 → from + result < 64 }
-    ensures set { result < 64 → bit_at word (from + result) ≡ 1 }
-{
-    let rest = word >> from;
-    if rest == 0 {
-        return 64;
-    }
-    rest.trailing_zeros() as usize
-}
-
 // The first bit behind this one that is set, or 64.
 #[inline]
 pub(crate) fn bit_after(word: u64, bit: usize) -> usize
