@@ -76,28 +76,42 @@ zero_number row j b z =
     ap (λ n. reduce n row.den) (get_or_default row.numbers.items j row.side (pos 0) b ∙ z)
     ∙ sym (over-zero_ℚ row.den row.above)
 
--- a numerator within the bound is put
-pub put_within : (row : NarrowRow) (j : ℕ) (x : ℤ) → unsigned_abs x ≤ row.bound
-    → AreNumeratorsWithin row.bound (slice_set row.numbers.items j x) row.side
-put_within row j x small = record {
-  sizes = from_item (λ z. unsigned_abs z ≤ row.bound) (slice_set row.numbers.items j x) row.side
-      (λ k b. same_or_other
-      (unsigned_abs (slice_index_or (slice_set row.numbers.items j x) k (pos 0)) ≤ row.bound) k j
-      (λ e. subst (λ z. unsigned_abs z ≤ row.bound) (sym (here_lem k b e)) small)
-      (λ n. subst (λ z. unsigned_abs z ≤ row.bound)
-      (sym (get_or-set_other row.numbers.items j k x (pos 0) n))
-      (at_item (λ z. unsigned_abs z ≤ row.bound) row.numbers.items row.side row.within.sizes
-      (omega arith) k)))
-      (side_of (λ z. unsigned_abs z ≤ row.bound) row.numbers.items row.side row.within.sizes);
-}
-  where
-    here_lem : (k : ℕ) → k < length (slice_set row.numbers.items j x) → k ≡ j
-        → slice_index_or (slice_set row.numbers.items j x) k (pos 0) ≡ x
-    here_lem k b e =
-        ap (λ i. slice_index_or (slice_set row.numbers.items j x) i (pos 0)) e
-        ∙ get_or-set_same row.numbers.items j x (pos 0)
-        (subst (λ i. i < width_of row) e
-        (subst (λ n. k < n) (length-set row.numbers.items j x) b))
+-- a numerator is put, and the bound is raised to its size
+module _ (row : NarrowRow) (x : ℤ) (bound : ℕ) (small : unsigned_abs x ≤ bound)
+    (more : row.bound ≤ bound) where
+  raised : (j : ℕ) → unsigned_abs (numerator_of row j) ≤ bound
+  raised j = most_lem (unsigned_abs (numerator_of row j)) row.bound bound (row.within.sizes j) more
+    where
+      most_lem : (a b c : ℕ) → a ≤ b → b ≤ c → a ≤ c
+      most_lem a b c h k = omega (arith, h, k)
+
+  item_raised : (j : ℕ) → unsigned_abs (slice_index_or row.numbers.items j (pos 0)) ≤ bound
+  item_raised =
+      at_item (λ z. unsigned_abs z ≤ bound) row.numbers.items row.side raised (omega arith)
+
+  pub side_within : AreNumeratorsWithin bound row.numbers.items x
+  side_within = record {
+    sizes = from_item (λ z. unsigned_abs z ≤ bound) row.numbers.items x (λ j b. item_raised j) small;
+  }
+
+  pub put_within : (j : ℕ) → AreNumeratorsWithin bound (slice_set row.numbers.items j x) row.side
+  put_within j = record {
+    sizes = from_item (λ z. unsigned_abs z ≤ bound) (slice_set row.numbers.items j x) row.side
+        (λ k b. same_or_other
+        (unsigned_abs (slice_index_or (slice_set row.numbers.items j x) k (pos 0)) ≤ bound) k j
+        (λ e. subst (λ z. unsigned_abs z ≤ bound) (sym (here_lem k b e)) small)
+        (λ n. subst (λ z. unsigned_abs z ≤ bound)
+        (sym (get_or-set_other row.numbers.items j k x (pos 0) n)) (item_raised k)))
+        (side_of (λ z. unsigned_abs z ≤ bound) row.numbers.items row.side raised);
+  }
+    where
+      here_lem : (k : ℕ) → k < length (slice_set row.numbers.items j x) → k ≡ j
+          → slice_index_or (slice_set row.numbers.items j x) k (pos 0) ≡ x
+      here_lem k b e =
+          ap (λ i. slice_index_or (slice_set row.numbers.items j x) i (pos 0)) e
+          ∙ get_or-set_same row.numbers.items j x (pos 0)
+          (subst (λ i. i < width_of row) e
+          (subst (λ n. k < n) (length-set row.numbers.items j x) b))
 
 -- the numerators of a row that is copied, and its right side
 pub copied_numerators : (row : NarrowRow) (old N items : List ℤ) (side : ℤ) → items ≡ N

@@ -5,7 +5,7 @@ ghost use Rattle.whole_rows.specs.Numerators.{AreNumeratorsWithin};
 
 use crate::arithmetic::{common_divisor, exact, multiplied, next_bound, next_den, part};
 use crate::clearing::{clear_numbers, copy_marked};
-use crate::dividing::{divide_numbers, measured, quotient, with_sign};
+use crate::dividing::{divide_numbers, greater, measured, quotient, with_sign};
 use crate::listed::{less, lower_listed, note_columns};
 use crate::marks::{clear_marks, join_marks, mark, next_marked, scale_numbers, word_count};
 use crate::plan::{Division, LongPlan, LoweringPlan};
@@ -72,13 +72,11 @@ impl NarrowRow {
         self.bound = row.bound;
     }
 
-    /// Zeros, to which numerators up to the bound are to be put.
-    pub fn clear(&mut self, den: u64, bound: u64)
+    /// Zeros over this denominator.
+    pub fn clear(&mut self, den: u64)
         requires above { 0 < den }
-        requires small_den { den < 2 ^ 63 }
-        requires small_bound { bound < 2 ^ 63 }
+        requires small { den < 2 ^ 63 }
         ensures den { self.new.den ≡ den }
-        ensures bound { self.new.bound ≡ bound }
         ensures width { width_of self.new ≡ width_of self.old }
         ensures zeros { (j : ℕ) → numerator_of self.new j ≡ pos 0 }
     {
@@ -86,20 +84,21 @@ impl NarrowRow {
         clear_marks(&mut self.marks);
         self.side = 0;
         self.den = den;
-        self.bound = bound;
+        self.bound = 0;
     }
 
     /// Puts the numerator of a column; behind the columns stands the right side.
     pub fn put(&mut self, j: usize, numerator: i64)
         requires within { j ≤ width_of self.old }
-        requires small { unsigned_abs numerator ≤ self.old.bound }
+        requires small { unsigned_abs numerator < 2 ^ 63 }
         ensures den { self.new.den ≡ self.old.den }
-        ensures bound { self.new.bound ≡ self.old.bound }
         ensures width { width_of self.new ≡ width_of self.old }
         ensures here { numerator_of self.new j ≡ numerator }
         ensures elsewhere { (k : ℕ) → k ≤ width_of self.old → k ≢ j
             → numerator_of self.new k ≡ numerator_of self.old k }
     {
+        let size = numerator.unsigned_abs();
+        self.bound = greater(size, self.bound);
         if j < self.numbers.len() {
             self.numbers[j] = numerator;
             mark(&mut self.marks, j);

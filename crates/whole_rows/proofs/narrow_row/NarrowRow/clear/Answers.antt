@@ -18,11 +18,11 @@ invariant_of-self-clause-covers c =
 
 pub invariant_of-self-clause-within : goal.invariant_of-self-clause-within
 invariant_of-self-clause-within c = record {
-  sizes = from_item (λ z. unsigned_abs z ≤ c.args.bound) _ (pos 0)
-      (λ j b. subst (λ l. unsigned_abs (slice_index_or l j (pos 0)) ≤ c.args.bound)
+  sizes = from_item (λ z. unsigned_abs z ≤ 0) _ (pos 0)
+      (λ j b. subst (λ l. unsigned_abs (slice_index_or l j (pos 0)) ≤ 0)
       (sym (with_items_is c.args.self.now.numbers c.clear_numbers.new.numbers
       (c.clear_numbers.auto.numbers ∙ c.deref_mut.ensures.len)))
-      (subst (λ z. unsigned_abs z ≤ c.args.bound)
+      (subst (λ z. unsigned_abs z ≤ 0)
       (sym (made_zeros c.deref_mut.result.now c.clear_numbers.new.numbers c.clear_numbers.ensures j))
       (omega arith)))
       (omega arith);
