@@ -15,12 +15,17 @@ use Rattle.sparse_board.specs.declared.row.Row.{Row}
 use Rattle.sparse_board.specs.declared.mixed_row.MixedRow.{MixedRow}
 use Rattle.sparse_board.specs.declared.sparse_row.SparseRow.{SparseRow}
 use Rattle.sparse_board.specs.Mixed as mixed
+use Rattle.whole_rows.specs.Bits.{IsBitCleared}
+use Rattle.whole_rows.specs.ColumnMarks.{mark_of}
+use Rattle.whole_rows.specs.declared.narrow_row.NarrowRow.{NarrowRow}
 use Rattle.whole_rows.specs.Rows as whole
+use Rattle.whole_rows.proofs.CoverSteps.{zero_number}
+use Rattle.whole_rows.proofs.MarkSteps.{mark_none}
 use Rattle.whole_rows.specs.declared.step.NarrowStep.{NarrowStep}
 use Rattle.sparse_board.specs.Numbers.{number_of, row_columns, row_values, width_of}
 use Rattle.sparse_board.specs.Rows.{AreSparseRowsLowered, AreSparseRowsWide, now_at, now_of, number_in_row, numbers}
 use Rattle.sparse_board.specs.Marks.{IsJoined, IsPut, IsWord, IsWordJoined, IsWordPut, SameSizes, has}
-use Rattle.sparse_board.specs.Marking.{AreNumbersMarked, KeepMarks, MarksNumbers, MarksRow, MarksUnits, MarksWord}
+use Rattle.sparse_board.specs.Marking.{AreBitsMarked, AreNumbersMarked, KeepMarks, MarksNumbers, MarksRow, MarksUnits, MarksWord}
 use Rattle.sparse_board.specs.Words.{Clears}
 use Rattle.tableau_core.specs.BoardNumbers.{quotient_at}
 use Rattle.sparse_board.proofs.MarkSteps.{has_within}
@@ -277,42 +282,98 @@ module _ (w r q : ℕ) (before middle : List Row) (units : ℕ → Rational) (ne
       (no_product i here j c e)
       ∙ marked i here j c was)
 
--- ---- whole numbers marked up to a column
+-- ---- whole numbers marked by the words of their row's marks
 
-pub record AreNumbersMarkedTo (numbers : ℕ → Rational) (i : ℕ) (old marks : Marks) (k : ℕ) :
-    Type 0 where
+-- those of the bits that aren't left
+pub record AreBitsMarkedBut (word rest start i w : ℕ) (old marks : Marks) : Type 0 where
   pub keep : KeepMarks old marks
-  pub marked : (j : ℕ) → j < k → has marks j i ≡ false → numbers j ≡ zero_ℚ
+  pub marked : (b : ℕ) → b < 64 → bit_at word b ≡ 1 → bit_at rest b ≡ 0 → start + b < w
+      → has marks (start + b) i ≡ true
 
-pub numbers_marked_none : (numbers : ℕ → Rational) (i : ℕ) (old : Marks)
-    → AreNumbersMarkedTo numbers i old old 0
-numbers_marked_none numbers i old =
+pub bits_marked_none : (word start i w : ℕ) (old : Marks)
+    → AreBitsMarkedBut word word start i w old old
+bits_marked_none word start i w old = record {
+  keep = keep_none old;
+  marked = λ b c e f d. absurd (one_zero (bit_at word b) e f);
+}
+
+pub bits_marked_more : (word rest start i w : ℕ) (old marks new : Marks) (bit next : ℕ)
+    → AreBitsMarkedBut word rest start i w old marks → IsBitCleared bit rest next
+    → KeepMarks marks new → (start + bit < w → has new (start + bit) i ≡ true)
+    → AreBitsMarkedBut word next start i w old new
+bits_marked_more word rest start i w old marks new bit next h cleared keep here = record {
+  keep = keep_more old marks new h.keep keep;
+  marked = λ b c e f d. same_or_other (has new (start + b) i ≡ true) b bit
+      (λ g. ap (λ n. has new (start + n) i) g ∙ here (subst (λ n. start + n < w) g d))
+      (λ n. keep.kept (start + b) i (h.marked b c e (sym (cleared.others b n) ∙ f) d));
+}
+
+pub bits_marked_all : (word rest start i w : ℕ) (old marks : Marks)
+    → AreBitsMarkedBut word rest start i w old marks → rest ≡ 0
+    → AreBitsMarked word start i w marks
+bits_marked_all word rest start i w old marks h z b c e d =
+    h.marked b c e (ap (λ x. bit_at x b) z ∙ bit_at-zero b) d
+
+-- those of the first k words
+pub record AreWordsOfRowMarked (row : NarrowRow) (i w : ℕ) (old marks : Marks) (k : ℕ) : Type 0
+  where
+    pub keep : KeepMarks old marks
+    pub marked : (j : ℕ) → j < k * 64 → mark_of row.marks.items j ≡ 1 → j < w
+        → has marks j i ≡ true
+
+pub row_words_none : (row : NarrowRow) (i w : ℕ) (old : Marks)
+    → AreWordsOfRowMarked row i w old old 0
+row_words_none row i w old =
     record { keep = keep_none old; marked = λ j b. absurd (omega (arith, b)) }
 
-pub numbers_marked_more : (numbers : ℕ → Rational) (i : ℕ) (old marks new : Marks) (k : ℕ)
-    → AreNumbersMarkedTo numbers i old marks k → KeepMarks marks new
-    → (has new k i ≡ false → numbers k ≡ zero_ℚ) → AreNumbersMarkedTo numbers i old new (k + 1)
-numbers_marked_more numbers i old marks new k h keep zero = record {
+pub row_words_more : (row : NarrowRow) (i w : ℕ) (old marks new : Marks) (k word : ℕ)
+    → AreWordsOfRowMarked row i w old marks k → word ≡ slice_index row.marks.items k
+    → KeepMarks marks new → AreBitsMarked word (k * 64) i w new
+    → AreWordsOfRowMarked row i w old new (k + 1)
+row_words_more row i w old marks new k word h is keep made = record {
   keep = keep_more old marks new h.keep keep;
-  marked = λ j c e. same_or_other (numbers j ≡ zero_ℚ) j k
-      (λ f. ap numbers f ∙ zero (ap (λ n. has new n i) (sym f) ∙ e))
-      (λ n. h.marked j (omega (arith, c, n)) (was_not marks new keep j i e));
-}
-
--- columns of zeros are passed over
-pub numbers_marked_past : (numbers : ℕ → Rational) (i : ℕ) (old marks : Marks) (k to : ℕ)
-    → AreNumbersMarkedTo numbers i old marks k
-    → ((j : ℕ) → k ≤ j → j < to → numbers j ≡ zero_ℚ)
-    → AreNumbersMarkedTo numbers i old marks to
-numbers_marked_past numbers i old marks k to h zeros = record {
-  keep = h.keep;
-  marked = λ j c e. by_place j c e (cases_lt j k);
+  marked = λ j b e c. by_place j b e c (cases_lt j (k * 64));
 }
   where
-    by_place : (j : ℕ) → j < to → has marks j i ≡ false → (j < k) ⊎ (k ≤ j)
-        → numbers j ≡ zero_ℚ
-    by_place j c e (inl b) = h.marked j b e
-    by_place j c e (inr b) = zeros j b c
+    word_lem : (j k : ℕ) → j < (k + 1) * 64 → k * 64 ≤ j → j / 64 ≡ k
+    word_lem j k b c = omega (arith, b, c)
+
+    whole_lem : (j k : ℕ) → j / 64 ≡ k → k * 64 + j % 64 ≡ j
+    whole_lem j k e = omega (arith, e)
+
+    by_place : (j : ℕ) → j < (k + 1) * 64 → mark_of row.marks.items j ≡ 1 → j < w
+        → (j < k * 64) ⊎ (k * 64 ≤ j) → has new j i ≡ true
+    by_place j b e c (inl d) = keep.kept j i (h.marked j d e c)
+    by_place j b e c (inr d) =
+        let at = word_lem j k b d in
+        subst (λ n. has new n i ≡ true) (whole_lem j k at)
+        (made (j % 64) (omega arith)
+        (ap (λ x. bit_at x (j % 64)) is
+        ∙ ap (λ n. bit_at (slice_index row.marks.items n) (j % 64)) (sym at) ∙ e)
+        (subst (λ n. n < w) (sym (whole_lem j k at)) c))
+
+-- and the right side, behind the columns
+pub row_words_all : (row : NarrowRow) (i w : ℕ) (old marks new : Marks) (k : ℕ)
+    → AreWordsOfRowMarked row i w old marks k → length row.marks.items ≤ k → KeepMarks marks new
+    → (whole.width_of row < w → has new (whole.width_of row) i ≡ true)
+    → w ≤ whole.width_of row + 1 → MarksNumbers w (whole.number_of row) i new
+row_words_all row i w old marks new k h all keep here wide j b e =
+    by_end (cases_lt j (whole.width_of row))
+  where
+    below_lem : (j n l k : ℕ) → j < n → l ≡ n / 64 + 1 → l ≤ k → j < k * 64
+    below_lem j n l k b e c = omega (arith, b, e, c)
+
+    end_lem : (j n w : ℕ) → n ≤ j → j < w → w ≤ n + 1 → n ≡ j
+    end_lem j n w c b d = omega (arith, c, b, d)
+
+    by_end : (j < whole.width_of row) ⊎ (whole.width_of row ≤ j) → whole.number_of row j ≡ zero_ℚ
+    by_end (inl c) =
+        zero_number row j c (row.covers.unmarked j (mark_none row.marks.items j
+        (λ f. true≢false (sym (keep.kept j i (h.marked j (below_lem j (whole.width_of row)
+        (length row.marks.items) k c row.marks_long all) f b)) ∙ e))))
+    by_end (inr c) =
+        let at = end_lem j (whole.width_of row) w c b wide in
+        absurd (true≢false (sym (subst (λ n. n < w → has new n i ≡ true) at here b) ∙ e))
 
 -- the same units, in as many columns
 pub units_marked : (v w q : ℕ) (units others : ℕ → Rational) (old new : Marks) → v ≡ w

@@ -6,7 +6,7 @@ ghost use Rattle.sparse_board.specs.Numbers.{number_of, width_of};
 ghost use Rattle.sparse_board.specs.Rows.{AreSparseRowsWide, number_in_row};
 ghost use Rattle.sparse_board.specs.Words.{Clears};
 ghost use Rattle.sparse_board.specs.Marks.{SameSizes, has};
-ghost use Rattle.sparse_board.specs.Marking.{AreNumbersMarked, KeepMarks, MarksNumbers, MarksRow, MarksUnits, MarksWord};
+ghost use Rattle.sparse_board.specs.Marking.{AreBitsMarked, AreNumbersMarked, KeepMarks, MarksNumbers, MarksRow, MarksUnits, MarksWord};
 ghost use Rattle.whole_rows.specs.Rows as whole;
 
 use crate::marks::Marks;
@@ -16,7 +16,7 @@ use crate::sparse_row::SparseRow;
 use crate::step::Step;
 use crate::words::{bit_after, word_end};
 use std::alloc::{AllocError, Global};
-use whole_rows::{NarrowRow, NarrowStep, is_nonzero_at, next_bit, without_bit_if};
+use whole_rows::{NarrowRow, NarrowStep, is_nonzero_at, lowest, next_bit, without_bit_if, without_lowest};
 
 // The marks of the numbers of rows with this number of columns.
 pub(crate) fn marks_of(alloc: Global, rows: &[Row], width: usize) -> Result<Marks, AllocError>
@@ -60,29 +60,45 @@ fn mark_entries(row: &SparseRow, i: usize, marks: &mut Marks)
     }
 }
 
-// The same of whole numbers in this number of columns.
+// The same of whole numbers in this number of columns: of those that are marked in their row.
 fn mark_numbers(row: &NarrowRow, i: usize, width: usize, marks: &mut Marks)
     requires row { i < marks.old.rows }
     requires columns { marks.old.columns ≡ width }
+    requires wide { width ≤ whole.width_of row.now + 1 }
     ensures marked { MarksNumbers width (whole.number_of row.now) i marks.new }
     ensures kept { KeepMarks marks.old marks.new }
 {
-    let mut j = row.next_marked(0);
-    while j < width {
-        mark_number(row, j, i, marks);
-        j = row.next_marked(j + 1);
+    for k in 0..row.marks.len() {
+        mark_bits(row.marks[k], k * 64, i, width, marks);
+    }
+    mark_below(row.numbers.len(), i, width, marks);
+}
+
+// Marks the columns of a word's bits, whose first is of column `start`.
+#[inline]
+fn mark_bits(word: u64, start: usize, i: usize, width: usize, marks: &mut Marks)
+    requires few { start < 2 ^ 63 }
+    requires row { i < marks.old.rows }
+    requires columns { marks.old.columns ≡ width }
+    ensures marked { AreBitsMarked word start i width marks.new }
+    ensures kept { KeepMarks marks.old marks.new }
+{
+    let mut rest = word;
+    while rest != 0 {
+        mark_below(start + lowest(rest), i, width, marks);
+        rest = without_lowest(rest);
     }
 }
 
-// The same of the number of column j.
+// Marks column j if it is one of this number of columns.
 #[inline]
-fn mark_number(row: &NarrowRow, j: usize, i: usize, marks: &mut Marks)
+fn mark_below(j: usize, i: usize, width: usize, marks: &mut Marks)
     requires row { i < marks.old.rows }
-    requires column { j < marks.old.columns }
-    ensures marked { has marks.new j i ≡ false → whole.number_of row.now j ≡ zero_ℚ }
+    requires columns { marks.old.columns ≡ width }
+    ensures marked { j < width → has marks.new j i ≡ true }
     ensures kept { KeepMarks marks.old marks.new }
 {
-    if is_nonzero_at(row, j) {
+    if j < width {
         marks.set(j, i);
     }
 }

@@ -8,7 +8,7 @@ use Rattle.std.proofs.lemmas.Int.{unsigned_abs-mul}
 use Rattle.std.proofs.lemmas.List.{get_or-replicate, get_or-set_other, get_or-set_same, get_or_default, get_or_past, length-replicate, length-set}
 use Rattle.std.proofs.lemmas.Nat.Bits.{bit_at-lt, bit_at-zero, bit_at_or}
 use Rattle.simplex_laws.specs.BoundedSumLaws.{same_or_other}
-use Rattle.whole_rows.specs.ColumnMarks.{AreColumnsUnmarked, AreMarksJoined, AreScaled, IsColumnMarked, MarksCover, WordCovers, mark_of}
+use Rattle.whole_rows.specs.ColumnMarks.{AreMarksJoined, AreScaled, IsColumnMarked, MarksCover, WordCovers, mark_of}
 use Rattle.whole_rows.specs.Numerators.{AreDivided, AreNumeratorsLowered, AreNumeratorsMade, AreShrunk, numerator}
 use Rattle.whole_rows.specs.Over.{lowered_num}
 use Rattle.whole_rows.proofs.BitSteps.{one_zero}
@@ -190,40 +190,6 @@ first_marked_more n old now next h marked = record {
 
     above_lem : (j n : ℕ) → n + 1 ≤ j → n ≤ j
     above_lem j n b = omega (arith, b)
-
--- ---- columns that are passed over
-
-pub unmarked_none : (marks : List ℕ) (from to : ℕ) → to ≤ from → AreColumnsUnmarked from to marks
-unmarked_none marks from to h j a b = absurd (omega (arith, h, a, b))
-
--- from bit `low` of a word on no bit below `bit` is set
-pub unmarked_more : (marks : List ℕ) (k from low bit to : ℕ)
-    → AreColumnsUnmarked from (k * 64 + low) marks
-    → ((i : ℕ) → low ≤ i → i < bit → bit_at (slice_index marks k) i ≡ 0) → to ≤ k * 64 + bit
-    → to ≤ k * 64 + 64 → AreColumnsUnmarked from to marks
-unmarked_more marks k from low bit to h passed most below j f t =
-    by_place (cases_lt j (k * 64 + low))
-  where
-    rest_is : (j k low bit to : ℕ) → k * 64 + low ≤ j → j < to → to ≤ k * 64 + 64
-        → j ≡ k * 64 + (j - k * 64)
-    rest_is j k low bit to a b c = omega (arith, a)
-
-    rest_small : (j k low to : ℕ) → k * 64 + low ≤ j → j < to → to ≤ k * 64 + 64 → j - k * 64 < 64
-    rest_small j k low to a b c = omega (arith, a, b, c)
-
-    rest_from : (j k low : ℕ) → k * 64 + low ≤ j → low ≤ j - k * 64
-    rest_from j k low a = omega (arith, a)
-
-    rest_below : (j k low bit to : ℕ) → k * 64 + low ≤ j → j < to → to ≤ k * 64 + bit
-        → j - k * 64 < bit
-    rest_below j k low bit to a b c = omega (arith, a, b, c)
-
-    by_place : (j < k * 64 + low) ⊎ (k * 64 + low ≤ j) → mark_of marks j ≡ 0
-    by_place (inl b) = h j f b
-    by_place (inr b) =
-        ap (mark_of marks) (rest_is j k low bit to b t below)
-        ∙ mark_at marks k (j - k * 64) (rest_small j k low to b t below)
-        ∙ passed (j - k * 64) (rest_from j k low b) (rest_below j k low bit to b t most)
 
 -- ---- marks that are joined
 

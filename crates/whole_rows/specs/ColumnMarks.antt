@@ -21,10 +21,6 @@ pub record WordCovers (word start : ℕ) (numbers : List ℤ) : Type 0 where
       → slice_index_or numbers (start + i) (pos 0) ≡ pos 0
   pub within : (i : ℕ) → i < 64 → bit_at word i ≡ 1 → start + i < length numbers
 
--- the columns from `from` on below `to` aren't marked
-abbrev pub AreColumnsUnmarked : ℕ → ℕ → List ℕ → Type 0
-AreColumnsUnmarked from to marks = (j : ℕ) → from ≤ j → j < to → mark_of marks j ≡ 0
-
 -- column j is marked, and each other is as it was
 pub record IsColumnMarked (j : ℕ) (old new : List ℕ) : Type 0 where
   pub long : length new ≡ length old

@@ -1,10 +1,10 @@
 //! Marks of columns, as bits of words: a row of many columns has few numbers other than 0, and a
 //! number without a mark isn't read.
 ghost use Rattle.std.specs.Prelude.{◌≡◌, ◌≢◌, ◌*◌, ◌/◌, ◌<◌, ◌≤◌, ◌^◌, ℕ, ◌*ℤ◌, length, map, pos, slice_index_or, take, unsigned_abs};
-ghost use Rattle.whole_rows.specs.ColumnMarks.{AreColumnsUnmarked, AreMarksJoined, AreScaled, IsColumnMarked, IsWordChanged, MarksCover, WordCovers, mark_of, words_of};
+ghost use Rattle.whole_rows.specs.ColumnMarks.{AreMarksJoined, AreScaled, IsColumnMarked, IsWordChanged, MarksCover, WordCovers, mark_of, words_of};
 ghost use Rattle.whole_rows.specs.Listed.{ListsNonzeros};
 
-use crate::bits::{lowest, next_bit, with_bit, without_lowest};
+use crate::bits::{lowest, with_bit, without_lowest};
 
 // How many columns a word has.
 pub(crate) const WORD: usize = 64;
@@ -14,26 +14,6 @@ pub(crate) fn word_count(width: usize) -> usize
     ensures { result ≡ words_of width }
 {
     width / WORD + 1
-}
-
-// The first of `width` columns, from this one on, that is marked, or else `width`.
-pub(crate) fn next_marked(marks: &[u64], from: usize, width: usize) -> usize
-    requires long { length marks.now ≡ words_of width }
-    requires within { from ≤ width }
-    ensures from { from ≤ result }
-    ensures within { result ≤ width }
-    ensures unmarked { AreColumnsUnmarked from result marks.now }
-{
-    let mut low = from % WORD;
-    for k in from / WORD..marks.len() {
-        let bit = next_bit(marks[k], low);
-        if bit < WORD {
-            let j = k * WORD + bit;
-            return j.min(width);
-        }
-        low = 0;
-    }
-    width
 }
 
 // Marks column j.

@@ -7,7 +7,7 @@ use crate::arithmetic::{common_divisor, exact, multiplied, next_bound, next_den,
 use crate::clearing::{clear_numbers, copy_marked};
 use crate::dividing::{divide_numbers, greater, measured, quotient, with_sign};
 use crate::listed::{less, lower_listed, note_columns};
-use crate::marks::{clear_marks, join_marks, mark, next_marked, scale_numbers, word_count};
+use crate::marks::{clear_marks, join_marks, mark, scale_numbers, word_count};
 use crate::plan::{Division, LongPlan, LoweringPlan};
 use crate::quotients::inverse_of;
 use crate::shrinking::{shrink_numbers, shrunk, shrunk_measure};
@@ -39,7 +39,6 @@ pub struct NarrowRow {
 
 impl NarrowRow {
     ghost use Rattle.std.specs.Prelude.{◌≢◌, ℕ, IsTrue, false, is_some, map, pos, take, true, unsigned_abs, IfOk, IfSome};
-    ghost use Rattle.ratio_core.specs.Rational.{zero_ℚ};
     ghost use Rattle.whole_rows.specs.Listed.{ListsNonzeros};
     ghost use Rattle.whole_rows.specs.Shrinking.{IsLongPlan};
     ghost use Rattle.whole_rows.specs.Rows.{CanLower, IsDivision, IsLoweringPlan, IsNarrowDivided, IsNarrowLowered, IsNarrowReady, can_stay, lowered_by, number_of, numerator_of, stays_narrow, width_of};
@@ -105,19 +104,6 @@ impl NarrowRow {
         } else {
             self.side = numerator;
         }
-    }
-
-    /// The first column, from this one on, whose number may differ from 0.
-    #[inline]
-    pub fn next_marked(&self, from: usize) -> usize
-        ensures from { from ≤ result }
-        ensures zeros { (j : ℕ) → from ≤ j → j < result → number_of self.now j ≡ zero_ℚ }
-    {
-        let width = self.numbers.len();
-        if from >= width {
-            return from;
-        }
-        next_marked(&self.marks, from, width)
     }
 
     /// Lowers the row by its number of column q times the step, or changes nothing where its
