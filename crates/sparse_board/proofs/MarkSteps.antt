@@ -286,11 +286,6 @@ module _ (old new : Marks) (from to : ℕ) (sizes : SameSizes old new)
 
 -- ---- rows that are passed over
 
--- a word whose lowest bit is known isn't 0
-pub lowest_above : (word k : ℕ) → IsLowestBit word k → 0 < word
-lowest_above zero k h = absurd (one_zero (bit_at 0 k) h.set (bit_at-zero k))
-lowest_above (suc word) k h = omega arith
-
 pub unmarked_none : (marks : Marks) (j from : ℕ) → AreRowsUnmarked marks j from from
 unmarked_none marks j from i f t = absurd (omega (arith, f, t))
 

@@ -4,10 +4,77 @@ use Rattle.std.proofs.Common.{inl, inr, sym, ◌∙◌, ap, arith, subst, true�
 use Rattle.std.specs.Int.{bit_at}
 use Rattle.std.proofs.lemmas.Bool.{cases_lt}
 use Rattle.std.proofs.lemmas.List.{get_or-set_other, get_or-set_same}
-use Rattle.std.proofs.lemmas.Nat.Bits.{bit_at-lt, bit_at_or}
+use Rattle.std.proofs.lemmas.Nat.Bits.{bit_at-lt, bit_at-zero, bit_at_or}
 use Rattle.simplex_laws.specs.BoundedSumLaws.{same_or_other}
-use Rattle.whole_rows.proofs.BitSteps.{one_zero}
+use Rattle.whole_rows.specs.Bits.{IsBitCleared, IsLowestBit}
+use Rattle.whole_rows.proofs.BitSteps.{IsRest, one_zero, rest_next}
 use Rattle.sparse_board.specs.Words.{AreJoined, Clears}
+
+-- ---- the lowest of the bits that are left
+
+-- a word whose lowest bit is known isn't 0
+pub lowest_above : (word k : ℕ) → IsLowestBit word k → 0 < word
+lowest_above zero k h = absurd (one_zero (bit_at 0 k) h.set (bit_at-zero k))
+lowest_above (suc word) k h = omega arith
+
+-- `bit` is the lowest of a word's bits that are left, or none is
+pub record IsNextBit (word rest bit : ℕ) : Type 0 where
+  pub left : IsRest word rest bit
+  pub set : bit < 64 → bit_at rest bit ≡ 1
+
+pub next_first : (word bit : ℕ) → ((k : ℕ) → 0 ≤ k → k < bit → bit_at word k ≡ 0)
+    → (bit < 64 → bit_at word bit ≡ 1) → IsNextBit word word bit
+next_first word bit passed set = record {
+  left = record { below = λ i b. passed i (omega arith) b; same = λ i a. refl };
+  set = set;
+}
+
+pub next_lowest : (word rest bit : ℕ) → IsNextBit word rest bit → bit < 64 → IsLowestBit rest bit
+next_lowest word rest bit h small =
+    record { within = small; set = h.set small; below = h.left.below }
+
+-- the bit that comes after it
+pub record IsBitAfter (word bit left next : ℕ) : Type 0 where
+  pub after : bit < next
+  pub passed : (k : ℕ) → bit < k → k < next → bit_at word k ≡ 0
+  pub next_bit : IsNextBit word left next
+
+pub bit_cleared : (word rest bit : ℕ) → IsNextBit word rest bit → bit < 64 → (left next : ℕ)
+    → ((k : ℕ) → IsLowestBit rest k → IsBitCleared k rest left)
+    → ((k : ℕ) → 0 ≤ k → k < next → bit_at left k ≡ 0) → (next < 64 → bit_at left next ≡ 1)
+    → IsBitAfter word bit left next
+bit_cleared word rest bit h small left next cleared passed set = record {
+  after = after_lem;
+  passed = λ k a b. sym (rest_lem.same k (omega (arith, a))) ∙ passed k (omega arith) b;
+  next_bit = record {
+    left = record {
+      below = λ i b. passed i (omega arith) b;
+      same = λ i a. rest_lem.same i (order_lem bit next i after_lem a);
+    };
+    set = set;
+  };
+}
+  where
+    order_lem : (bit next i : ℕ) → bit < next → next ≤ i → bit + 1 ≤ i
+    order_lem bit next i a b = omega (arith, a, b)
+
+    small_lem : (bit next : ℕ) → next ≤ bit → bit < 64 → next < 64
+    small_lem bit next a b = omega (arith, a, b)
+
+    low : IsLowestBit rest bit
+    low = next_lowest word rest bit h small
+
+    rest_lem : IsRest word left (bit + 1)
+    rest_lem = rest_next word rest bit bit h.left low left (cleared bit low)
+
+    after_lem : bit < next
+    after_lem = by_order (cases_lt bit next)
+      where
+        by_order : (bit < next) ⊎ (next ≤ bit) → bit < next
+        by_order (inl b) = b
+        by_order (inr b) =
+            absurd (one_zero (bit_at left next) (set (small_lem bit next b small))
+            (rest_lem.below next (omega (arith, b))))
 
 -- ---- bits that are cleared one after another
 

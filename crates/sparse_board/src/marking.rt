@@ -14,7 +14,7 @@ use crate::mixed_row::MixedRow;
 use crate::row::Row;
 use crate::sparse_row::SparseRow;
 use crate::step::Step;
-use crate::words::{bit_after, word_end};
+use crate::words::word_end;
 use std::alloc::{AllocError, Global};
 use whole_rows::{NarrowRow, NarrowStep, is_nonzero_at, lowest, next_bit, without_bit_if, without_lowest};
 
@@ -140,14 +140,16 @@ fn nonzero_bits(rows: &[Row], q: u32, start: usize, word: u64) -> Looked
     let mut kept = word;
     let mut has_wide = false;
     let end = word_end(rows.len() - start);
-    let mut bit = next_bit(word, 0);
+    let mut rest = word;
+    let mut bit = next_bit(rest, 0);
     while bit < end {
         let i = start + bit;
         let row = &rows[i].now;
         let is_zero = is_zero_at(row, q);
         kept = without_bit_if(kept, bit, is_zero);
         has_wide = has_wide | (row.is_wide & !is_zero);
-        bit = bit_after(word, bit);
+        rest = without_lowest(rest);
+        bit = next_bit(rest, 0);
     }
     Looked { kept, has_wide }
 }

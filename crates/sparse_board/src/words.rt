@@ -1,9 +1,7 @@
 //! Bits of words.
-ghost use Rattle.std.specs.Prelude.{◌≡◌, ◌+◌, ◌<◌, ◌≤◌, ◌⊎◌, ℕ, length, min, nat_eq};
+ghost use Rattle.std.specs.Prelude.{◌≡◌, ◌+◌, ◌<◌, ◌≤◌, ◌⊎◌, length, min, nat_eq};
 ghost use Rattle.std.specs.Int.{bit_at};
 ghost use Rattle.sparse_board.specs.Words.{AreJoined};
-
-use whole_rows::next_bit;
 
 // Whether bit k is set.
 #[inline]
@@ -12,20 +10,6 @@ pub(crate) fn has_bit(word: u64, k: usize) -> bool
     ensures { result ≡ nat_eq (bit_at word k) 1 }
 {
     (word >> k) & 1 == 1
-}
-
-// The first bit behind this one that is set, or 64.
-#[inline]
-pub(crate) fn bit_after(word: u64, bit: usize) -> usize
-    requires { bit < 64 }
-    ensures after { bit < result }
-    ensures passed { (k : ℕ) → bit < k → k < result → bit_at word k ≡ 0 }
-    ensures set { result < 64 → bit_at word result ≡ 1 }
-{
-    if bit == 63 {
-        return 64;
-    }
-    next_bit(word, bit + 1)
 }
 
 // Where the bits of a word end whose rows are below this number.

@@ -1,6 +1,7 @@
 use Rattle.std.proofs.Common.{◌%◌, arith, refl}
 use Rattle.whole_rows.specs.Bits.{IsBitCleared}
-use Rattle.sparse_board.proofs.MarkSteps.{after_none, after_passed, after_row, after_within, lowest_above}
+use Rattle.sparse_board.proofs.MarkSteps.{after_none, after_passed, after_row, after_within}
+use Rattle.sparse_board.proofs.WordSteps.{lowest_above}
 use Rattle.sparse_board.proofs.marks.Marks.row_after.Goals as goal
 use Rattle.sparse_board.proofs.marks.Marks.row_after.Goals.{After-without_lowest-rest}
 
