@@ -1,5 +1,5 @@
 -- What a row of whole numbers or of fractions stands for.
-use Rattle.std.specs.Prelude.{◌≡◌, ℕ, ◌*◌, ◌/◌, ◌^◌, ◌<◌, ◌≤◌, true, false, List, length, if◌then◌else◌, ℤ, pos, unsigned_abs}
+use Rattle.std.specs.Prelude.{◌≡◌, ℕ, ◌^◌, ◌<◌, true, false, List, if◌then◌else◌, ℤ, pos}
 use Rattle.std.specs.Int.{◌∣◌}
 use Rattle.ratio_core.specs.Rational.{Rational, ◌*ℚ◌, ◌-ℚ◌}
 use Rattle.tableau_core.specs.Row.{cell}

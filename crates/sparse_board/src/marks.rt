@@ -129,7 +129,7 @@ impl Marks {
     #[inline]
     pub(crate) fn first_row(&self, column: usize) -> MarkedRow
         requires { column < self.now.columns }
-        ensures at { IsMarkedRow self.now column result }
+        ensures found { IsMarkedRow self.now column result }
         ensures within { result.row ≤ self.now.rows }
         ensures passed { AreRowsUnmarked self.now column 0 result.row }
     {
@@ -138,20 +138,20 @@ impl Marks {
 
     // The next one. Mostly it is of the same word.
     #[inline(always)]
-    pub(crate) fn row_after(&self, column: usize, at: MarkedRow) -> MarkedRow
+    pub(crate) fn row_after(&self, column: usize, found: MarkedRow) -> MarkedRow
         requires column { column < self.now.columns }
-        requires at { IsMarkedRow self.now column at }
-        requires row { at.row < self.now.rows }
-        ensures at { IsMarkedRow self.now column result }
-        ensures after { at.row < result.row }
+        requires found { IsMarkedRow self.now column found }
+        requires row { found.row < self.now.rows }
+        ensures found { IsMarkedRow self.now column result }
+        ensures after { found.row < result.row }
         ensures within { result.row ≤ self.now.rows }
-        ensures passed { AreRowsUnmarked self.now column (at.row + 1) result.row }
+        ensures passed { AreRowsUnmarked self.now column (found.row + 1) result.row }
     {
-        let rest = without_lowest(at.rest);
+        let rest = without_lowest(found.rest);
         if rest == 0 {
-            return self.row_from(column, at.row / 64 + 1);
+            return self.row_from(column, found.row / 64 + 1);
         }
-        let row = at.row / 64 * 64 + lowest(rest);
+        let row = found.row / 64 * 64 + lowest(rest);
         MarkedRow {
             row: row.min(self.rows),
             rest,
@@ -162,7 +162,7 @@ impl Marks {
     #[inline(never)]
     fn row_from(&self, column: usize, from: usize) -> MarkedRow
         requires { column < self.now.columns }
-        ensures at { IsMarkedRow self.now column result }
+        ensures found { IsMarkedRow self.now column result }
         ensures from { min (from * 64) self.now.rows ≤ result.row }
         ensures within { result.row ≤ self.now.rows }
         ensures passed { AreRowsUnmarked self.now column (from * 64) result.row }

@@ -1,4 +1,4 @@
-use Rattle.std.proofs.Common.{◌≡◌, ◌<◌, ◌≤◌, ◌∙◌, arith, length, slice_index, subst, sym, true}
+use Rattle.std.proofs.Common.{◌≡◌, ◌<◌, ◌∙◌, arith, length, slice_index, subst, sym, true}
 use Rattle.std.proofs.lemmas.List.{get_or_read}
 use Rattle.sparse_board.specs.Marks.{has}
 use Rattle.sparse_board.proofs.MarkingSteps.{keep_more, row_words_all, row_words_more, row_words_none}

@@ -10,13 +10,13 @@ pub loop-i-init : goal.loop-i-init
 loop-i-init c =
     let step = c.args.step.now in
     let before = c.args.rows.now in
-    let to = c.first_row-at.result.row in
+    let to = c.first_row-found.result.row in
     record {
       changed = changed-past (IsFinished step) c.args.r c.args.q c.args.marks.now before before 0 to
           (changed-none (IsFinished step) c.args.r c.args.q c.args.marks.now before) (omega arith)
-          (subst (λ n. to ≤ n) c.requires.count c.first_row-at.ensures.within)
-          c.first_row-at.ensures.passed;
-      at = c.first_row-at.ensures.at;
+          (subst (λ n. to ≤ n) c.requires.count c.first_row-found.ensures.within)
+          c.first_row-found.ensures.passed;
+      found = c.first_row-found.ensures.found;
       place = refl;
     }
 
@@ -27,14 +27,14 @@ finish-requires c =
     subst (λ n. c.loop-i.i < n) c.loop-i.invariant.changed.long c.loop-i-test.true in
     left_read (IsFinished step) c.args.r c.args.q step c.args.marks.now c.args.rows.now c.loop-i.rows c.loop-i.i
     c.index-rows-i.result c.loop-i.invariant.changed below c.if-i-r.true
-    (place_marked c.args.marks.now c.args.q c.loop-i.i c.loop-i.at c.loop-i.invariant.at
+    (place_marked c.args.marks.now c.args.q c.loop-i.i c.loop-i.found c.loop-i.invariant.found
     c.loop-i.invariant.place (subst (λ n. c.loop-i.i < n) (sym c.requires.count) below)) c.requires.left
 
-pub row_after-at-requires-clause-at : goal.row_after-at-requires-clause-at
-row_after-at-requires-clause-at c = c.loop-i.invariant.at
+pub row_after-found-requires-clause-found : goal.row_after-found-requires-clause-found
+row_after-found-requires-clause-found c = c.loop-i.invariant.found
 
-pub row_after-at-requires-clause-row : goal.row_after-at-requires-clause-row
-row_after-at-requires-clause-row c =
+pub row_after-found-requires-clause-row : goal.row_after-found-requires-clause-row
+row_after-found-requires-clause-row c =
     omega (
       arith,
       c.requires.count,
@@ -50,7 +50,7 @@ loop-i-smaller c =
       c.loop-i.invariant.changed.long,
       c.loop-i.invariant.place,
       c.loop-i-test.true,
-      c.row_after-at.ensures.after,
+      c.row_after-found.ensures.after,
     )
 
 pub loop-i-preserved : goal.loop-i-preserved
@@ -59,7 +59,7 @@ loop-i-preserved c =
     let marks = c.args.marks.now in
     let before = c.args.rows.now in
     let i = c.loop-i.i in
-    let to = c.row_after-at.result.row in
+    let to = c.row_after-found.result.row in
     let below : i < length before =
     subst (λ n. i < n) c.loop-i.invariant.changed.long c.loop-i-test.true in
     let here : AreChangedTo (IsFinished step) c.args.r c.args.q marks before c.if-i-r.rows (i + 1) =
@@ -69,7 +69,7 @@ loop-i-preserved c =
           (sym k.rows-is)
           (changed-more (IsFinished step) c.args.r c.args.q marks before c.loop-i.rows i
           k.index-rows-i.result k.finish.new.self c.loop-i.invariant.changed below k.if-i-r.true
-          (place_marked c.args.marks.now c.args.q c.loop-i.i c.loop-i.at c.loop-i.invariant.at
+          (place_marked c.args.marks.now c.args.q c.loop-i.i c.loop-i.found c.loop-i.invariant.found
     c.loop-i.invariant.place (subst (λ n. c.loop-i.i < n) (sym c.requires.count) below)) k.finish.ensures)
       | else-i-r k ↦
           subst (λ rows. AreChangedTo (IsFinished step) c.args.r c.args.q marks before rows (i + 1))
@@ -79,11 +79,11 @@ loop-i-preserved c =
     ] in
     record {
       changed = changed-past (IsFinished step) c.args.r c.args.q marks before c.if-i-r.rows (i + 1) to here
-          (omega (arith, c.loop-i.invariant.place, c.row_after-at.ensures.after))
-          (subst (λ n. to ≤ n) c.requires.count c.row_after-at.ensures.within)
+          (omega (arith, c.loop-i.invariant.place, c.row_after-found.ensures.after))
+          (subst (λ n. to ≤ n) c.requires.count c.row_after-found.ensures.within)
           (subst (λ n. AreRowsUnmarked marks c.args.q (n + 1) to) (sym c.loop-i.invariant.place)
-          c.row_after-at.ensures.passed);
-      at = c.row_after-at.ensures.at;
+          c.row_after-found.ensures.passed);
+      found = c.row_after-found.ensures.found;
       place = refl;
     }
 

@@ -7,8 +7,8 @@ use Rattle.sparse_board.proofs.rows.finish_rows.Given as goal
 abbrev pub invariant-loop-i : goal.invariant-loop-i
 invariant-loop-i l = record {
   changed : AreChangedTo (IsFinished l.step) l.r l.q l.marks l.fn.rows l.rows l.i;
-  at : IsMarkedRow l.marks l.q l.at;
-  place : l.i ≡ l.at.row;
+  found : IsMarkedRow l.marks l.q l.found;
+  place : l.i ≡ l.found.row;
 }
 
 abbrev pub decreases-loop-i : goal.decreases-loop-i

@@ -6,33 +6,33 @@ use Rattle.sparse_board.proofs.RowsSteps.{ArePreparedTo, prepared-more, prepared
 use Rattle.sparse_board.proofs.rows.prepare_rows.Goals as goal
 use Rattle.sparse_board.proofs.rows.prepare_rows.Goals.{then-i-r+in_ok-prepare, else-i-r}
 
-pub first_row-at-requires : goal.first_row-at-requires
-first_row-at-requires c =
+pub first_row-found-requires : goal.first_row-found-requires
+first_row-found-requires c =
     subst (λ n. c.args.q < n) (sym c.requires.columns) c.requires.column
 
 pub loop-i-init : goal.loop-i-init
 loop-i-init c =
     let step = c.args.step.now in
     let before = c.args.rows.now in
-    let to = c.first_row-at.result.row in
+    let to = c.first_row-found.result.row in
     record {
       done = prepared-past step.width c.args.r c.args.q step c.args.marks.now before before 0 to
           (prepared-none step.width c.args.r c.args.q step c.args.marks.now before)
-          (subst (λ n. to ≤ n) c.requires.count c.first_row-at.ensures.within)
-          c.requires.column c.requires.marked c.first_row-at.ensures.passed;
-      at = c.first_row-at.ensures.at;
+          (subst (λ n. to ≤ n) c.requires.count c.first_row-found.ensures.within)
+          c.requires.column c.requires.marked c.first_row-found.ensures.passed;
+      found = c.first_row-found.ensures.found;
       place = refl;
     }
 
-pub row_after-at-requires-clause-column : goal.row_after-at-requires-clause-column
-row_after-at-requires-clause-column c =
+pub row_after-found-requires-clause-column : goal.row_after-found-requires-clause-column
+row_after-found-requires-clause-column c =
     subst (λ n. c.args.q < n) (sym c.requires.columns) c.requires.column
 
-pub row_after-at-requires-clause-at : goal.row_after-at-requires-clause-at
-row_after-at-requires-clause-at c = c.loop-i.invariant.at
+pub row_after-found-requires-clause-found : goal.row_after-found-requires-clause-found
+row_after-found-requires-clause-found c = c.loop-i.invariant.found
 
-pub row_after-at-requires-clause-row : goal.row_after-at-requires-clause-row
-row_after-at-requires-clause-row c =
+pub row_after-found-requires-clause-row : goal.row_after-found-requires-clause-row
+row_after-found-requires-clause-row c =
     omega (
       arith,
       c.requires.count,
@@ -48,7 +48,7 @@ loop-i-smaller c =
       c.loop-i.invariant.done.long,
       c.loop-i.invariant.place,
       c.loop-i-test.true,
-      c.row_after-at.ensures.after,
+      c.row_after-found.ensures.after,
     )
 
 pub loop-i-preserved : goal.loop-i-preserved
@@ -58,7 +58,7 @@ loop-i-preserved c =
     let marks = c.args.marks.now in
     let before = c.args.rows.now in
     let i = c.loop-i.i in
-    let to = c.row_after-at.result.row in
+    let to = c.row_after-found.result.row in
     let below : i < length before = subst (λ n. i < n) c.loop-i.invariant.done.long c.loop-i-test.true in
     let here : ArePreparedTo w c.args.r c.args.q step marks before c.if-i-r.rows (i + 1) =
     elim c.if-i-r.branch [
@@ -77,11 +77,11 @@ loop-i-preserved c =
     ] in
     record {
       done = prepared-past w c.args.r c.args.q step marks before c.if-i-r.rows (i + 1) to here
-          (subst (λ n. to ≤ n) c.requires.count c.row_after-at.ensures.within)
+          (subst (λ n. to ≤ n) c.requires.count c.row_after-found.ensures.within)
           c.requires.column c.requires.marked
           (subst (λ n. AreRowsUnmarked marks c.args.q (n + 1) to) (sym c.loop-i.invariant.place)
-          c.row_after-at.ensures.passed);
-      at = c.row_after-at.ensures.at;
+          c.row_after-found.ensures.passed);
+      found = c.row_after-found.ensures.found;
       place = refl;
     }
 

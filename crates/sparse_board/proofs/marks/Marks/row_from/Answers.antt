@@ -1,4 +1,4 @@
-use Rattle.std.proofs.Common.{◌≡◌, ◌+◌, ◌*◌, arith, refl}
+use Rattle.std.proofs.Common.{◌*◌, arith, refl}
 use Rattle.sparse_board.proofs.MarkSteps.{end_row, unmarked_more, unmarked_none, unmarked_word, word_row}
 use Rattle.sparse_board.proofs.marks.Marks.row_from.Goals as goal
 
@@ -19,8 +19,8 @@ loop-k-preserved c = record {
       (omega (arith, c.if-rest-gt0.false));
 }
 
-pub returns-then-rest-gt0-clause-at : goal.returns-then-rest-gt0-clause-at
-returns-then-rest-gt0-clause-at c =
+pub returns-then-rest-gt0-clause-found : goal.returns-then-rest-gt0-clause-found
+returns-then-rest-gt0-clause-found c =
     word_row c.args.self.now c.args.column c.loop-k.k c.word-rest.result c.lowest.result _
     c.word-rest.ensures c.lowest.ensures c.min.ensures refl
 
@@ -37,8 +37,8 @@ returns-then-rest-gt0-clause-passed c =
     c.lowest.ensures.below (omega (arith, c.min.ensures))
     (omega (arith, c.min.ensures, c.lowest.ensures.within))
 
-pub returns-clause-at : goal.returns-clause-at
-returns-clause-at c = end_row c.args.self.now c.args.column _ refl
+pub returns-clause-found : goal.returns-clause-found
+returns-clause-found c = end_row c.args.self.now c.args.column _ refl
 
 pub returns-clause-from : goal.returns-clause-from
 returns-clause-from c = omega arith
