@@ -16,7 +16,9 @@ use crate::sparse_row::SparseRow;
 use crate::step::Step;
 use crate::words::word_end;
 use std::alloc::{AllocError, Global};
-use whole_rows::{NarrowRow, NarrowStep, is_nonzero_at, lowest, next_bit, without_bit_if, without_lowest};
+use whole_rows::{
+    NarrowRow, NarrowStep, is_nonzero_at, lowest, next_bit, without_bit_if, without_lowest,
+};
 
 // The marks of the numbers of rows with this number of columns.
 pub(crate) fn marks_of(alloc: Global, rows: &[Row], width: usize) -> Result<Marks, AllocError>

@@ -70,7 +70,7 @@ loop-i-preserved c =
           (changed-more (IsMixedReady c.args.q step) c.args.r c.args.q marks before c.loop-i.rows i
           k.index-rows-i.result k.ready.new.self c.loop-i.invariant.changed below k.if-i-r.true
           (place_marked c.args.marks.now c.args.q c.loop-i.i c.loop-i.found c.loop-i.invariant.found
-    c.loop-i.invariant.place (subst (λ n. c.loop-i.i < n) (sym c.requires.count) below)) k.ready.ensures)
+          c.loop-i.invariant.place (subst (λ n. c.loop-i.i < n) (sym c.requires.count) below)) k.ready.ensures)
       | else-i-r k ↦
           subst (λ rows. AreChangedTo (IsMixedReady c.args.q step) c.args.r c.args.q marks before rows (i + 1))
           (sym k.rows-is)
