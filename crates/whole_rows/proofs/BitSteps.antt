@@ -6,7 +6,7 @@ use Rattle.std.proofs.Math.Nat.{two-pow-succ}
 use Rattle.std.specs.Int.{bit_at, bit_not, trailing_zeros}
 use Rattle.std.proofs.lemmas.Bool.{cases_lt}
 use Rattle.std.proofs.lemmas.Nat.{and_le_r, div-add-mod', shr-shr, shr_le}
-use Rattle.std.proofs.lemmas.Nat.Bits.{bit_at-lt, bit_at-trailing_zeros, bit_at-zero, bit_at_above, bit_at_and, bit_at_cat_high, bit_at_cat_low, bit_at_clear_other, bit_at_clear_same, bit_at_ones, bit_at_ones_above, same_from_bits_below}
+use Rattle.std.proofs.lemmas.Nat.Bits.{bit_at-lt, bit_at-trailing_zeros, bit_at-zero, bit_at_and, bit_at_cat_high, bit_at_cat_low, bit_at_clear_other, bit_at_clear_same, bit_at_ones, bit_at_ones_above, same_from_bits_below}
 use Rattle.whole_rows.specs.Bits.{IsBitCleared, IsLowestBit}
 
 pub one_zero : (x : ℕ) → x ≡ 1 → x ≡ 0 → ⊥
@@ -199,18 +199,6 @@ module _ (word from : ℕ) (small : word < 2 ^ 64) (some : 0 < word / 2 ^ from) 
   lowest_set =
       sym (ap (λ x. x % 2) (shr-shr word from (trailing_zeros w64 (word / 2 ^ from))))
       ∙ (bit_at-trailing_zeros w64 (word / 2 ^ from) some left_small).1
-
-  pub lowest_within : from + trailing_zeros w64 (word / 2 ^ from) < 64
-  lowest_within = by_order (cases_lt (from + trailing_zeros w64 (word / 2 ^ from)) 64)
-    where
-      apart_lem : (x : ℕ) → x ≡ 0 → x ≡ 1 → ⊥
-      apart_lem x e f = omega (arith, e, f)
-
-      by_order : (from + trailing_zeros w64 (word / 2 ^ from) < 64)
-          ⊎ (64 ≤ from + trailing_zeros w64 (word / 2 ^ from))
-          → from + trailing_zeros w64 (word / 2 ^ from) < 64
-      by_order (inl b) = b
-      by_order (inr b) = absurd (apart_lem _ (bit_at_above word 64 _ small b) lowest_set)
 
   pub lowest_passed : (k : ℕ) → from ≤ k → k < from + trailing_zeros w64 (word / 2 ^ from)
       → bit_at word k ≡ 0

@@ -10,10 +10,10 @@ use Rattle.rational_laws.specs.Over.{over-zero_ℚ}
 use Rattle.simplex_laws.specs.BoundedSumLaws.{same_or_other}
 use Rattle.whole_rows.specs.ColumnMarks.{AreMarksJoined, AreScaled, MarksCover, words_of}
 use Rattle.whole_rows.specs.declared.narrow_row.NarrowRow.{NarrowRow}
-use Rattle.whole_rows.specs.Numerators.{AreDivided, AreNumeratorsMade, AreNumeratorsWithin, AreShrunk, numerator}
+use Rattle.whole_rows.specs.Numerators.{AreDivided, AreNumeratorsMade, AreNumeratorsWithin, numerator}
 use Rattle.whole_rows.specs.Rows.{can_stay, number_of, numerator_of, width_of}
 use Rattle.whole_rows.proofs.DivisionSteps.{at_item, from_item, side_of}
-use Rattle.whole_rows.proofs.MarkSteps.{covers_divided, covers_scaled, covers_shrunk, joined_covers, joined_covers_step}
+use Rattle.whole_rows.proofs.MarkSteps.{covers_divided, covers_scaled, joined_covers, joined_covers_step}
 
 -- the marks of a row and of a step are joined
 module _ (row step : NarrowRow) (A B B' marks : List ℕ) (A_is : A ≡ step.marks.items)
@@ -48,13 +48,6 @@ module _ (row step : NarrowRow) (A B B' marks : List ℕ) (A_is : A ≡ step.mar
 pub joined_long : (row step : NarrowRow) → width_of step ≡ width_of row
     → length step.marks.items ≡ length row.marks.items
 joined_long row step width = step.marks_long ∙ ap words_of width ∙ sym row.marks_long
-
-pub shrunk_covers : (over : ℕ) (by : ℤ) (common : ℕ) (marks : List ℕ) (N n N' items : List ℤ)
-    → MarksCover marks N → MarksCover marks n → items ≡ N' → 0 < common
-    → AreShrunk over by n common (length N) N N' → MarksCover marks items
-shrunk_covers over by common marks N n N' items covers step_covers items_are above shrunk =
-    subst (MarksCover marks) (sym items_are)
-    (covers_shrunk over by common marks N n N' above covers step_covers shrunk)
 
 pub divided_covers : (row : NarrowRow) (by : ℤ) (N N' items : List ℤ) → N ≡ row.numbers.items
     → items ≡ N' → ¬ (by ≡ pos 0) → AreDivided by (length N) N N'

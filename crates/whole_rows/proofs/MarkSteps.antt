@@ -5,11 +5,11 @@ use Rattle.std.proofs.Math.IntN.{*ℤ-zero, *ℤ_comm}
 use Rattle.std.specs.Int.{bit_at}
 use Rattle.std.proofs.lemmas.Bool.{cases_lt}
 use Rattle.std.proofs.lemmas.Int.{unsigned_abs-mul}
-use Rattle.std.proofs.lemmas.List.{get_or-replicate, get_or-set_other, get_or-set_same, get_or_default, get_or_past, length-replicate, length-set}
+use Rattle.std.proofs.lemmas.List.{get_or-replicate, get_or-set_other, get_or-set_same, get_or_past, length-replicate, length-set}
 use Rattle.std.proofs.lemmas.Nat.Bits.{bit_at-lt, bit_at-zero, bit_at_or}
 use Rattle.simplex_laws.specs.BoundedSumLaws.{same_or_other}
 use Rattle.whole_rows.specs.ColumnMarks.{AreMarksJoined, AreScaled, IsColumnMarked, MarksCover, WordCovers, mark_of}
-use Rattle.whole_rows.specs.Numerators.{AreDivided, AreNumeratorsLowered, AreNumeratorsMade, AreShrunk, numerator}
+use Rattle.whole_rows.specs.Numerators.{AreDivided, AreNumeratorsLowered, AreNumeratorsMade, AreShrunk}
 use Rattle.whole_rows.specs.Over.{lowered_num}
 use Rattle.whole_rows.proofs.BitSteps.{one_zero}
 
@@ -319,15 +319,6 @@ covers_shrunk over by common marks numbers step made above covers step_covers sh
     zero_lem n h e = omega (arith, h, ap unsigned_abs e)
 
 -- ---- rows that are rebuilt
-
-pub copied_made : (old items : List ℤ) (side : ℤ) → length old ≡ length items
-    → AreNumeratorsMade (numerator items side) (length old) old items
-copied_made old items side e = record {
-  long = sym e;
-  made = λ j b. sym (get_or_default items j side (pos 0) (subst (λ n. j < n) e b));
-  others = λ j h. get_or_past items j (pos 0) (subst (λ n. n ≤ j) e h)
-      ∙ sym (get_or_past old j (pos 0) h);
-}
 
 pub made_zeros : (old new : List ℤ) → AreNumeratorsMade (λ _. pos 0) (length old) old new → (j : ℕ)
     → slice_index_or new j (pos 0) ≡ pos 0

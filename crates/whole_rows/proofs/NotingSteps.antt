@@ -70,13 +70,6 @@ module _ (numbers : List ℤ) (columns : List ℕ) (used start word rest kept bi
       less_lem : (a b : ℕ) → a < b → a ≤ b
       less_lem a b c = omega (arith, c)
 
-  pub noted_room : used < length columns
-  noted_room = room_lem used start bit (length numbers) (length columns) noted_here.few noted_below
-      h.noted.room
-    where
-      room_lem : (u s b n m : ℕ) → u ≤ s + b → s + b < n → n ≤ m → u < m
-      room_lem u s b n m x y z = omega (arith, x, y, z)
-
   pub word_noted_next : (next new count : ℕ) (clears : Bool) → IsBitCleared bit rest next
       → count ≤ 1 → (count ≡ 0 → slice_index_or numbers (start + bit) (pos 0) ≡ pos 0)
       → (count ≡ 1 → ¬ (slice_index_or numbers (start + bit) (pos 0) ≡ pos 0))

@@ -149,9 +149,6 @@ module _ (P : ℕ → ℤ → Type 0) (n : ℕ) (old new : List ℤ) (h : AreCol
 pub words_past : (w n k : ℕ) → n ≡ w / 64 + 1 → n ≤ k → w ≤ k * 64
 words_past w n k e b = omega (arith, e, b)
 
-pub words_within : (w n k : ℕ) → n ≡ w / 64 + 1 → k < n → k * 64 ≤ w
-words_within w n k e b = omega (arith, e, b)
-
 -- ---- numbers that are multiplied
 
 abbrev pub ScaledTo : ℤ → List ℤ → ℕ → ℤ → Type 0
