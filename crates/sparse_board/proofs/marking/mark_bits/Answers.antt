@@ -1,5 +1,5 @@
 use Rattle.std.proofs.Common.{◌<◌, ◌∙◌, subst, sym}
-use Rattle.sparse_board.proofs.MarkingSteps.{bits_marked_all, bits_marked_more, bits_marked_none}
+use Rattle.sparse_board.proofs.WordMarkSteps.{bits_marked_all, bits_marked_more, bits_marked_none}
 use Rattle.sparse_board.proofs.marking.mark_bits.Goals as goal
 
 pub loop-rest-init : goal.loop-rest-init

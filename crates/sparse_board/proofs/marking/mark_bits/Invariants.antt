@@ -1,4 +1,4 @@
-use Rattle.sparse_board.proofs.MarkingSteps.{AreBitsMarkedBut}
+use Rattle.sparse_board.proofs.WordMarkSteps.{AreBitsMarkedBut}
 use Rattle.sparse_board.proofs.marking.mark_bits.Given as goal
 
 abbrev pub invariant-loop-rest : goal.invariant-loop-rest

@@ -1,6 +1,6 @@
 use Rattle.std.proofs.Common.{◌+◌, ◌<◌, ◌∙◌, arith, subst, sym}
 use Rattle.whole_rows.specs.Rows as whole
-use Rattle.sparse_board.proofs.MarkingSteps.{words_marked_all, words_marked_more, words_marked_none}
+use Rattle.sparse_board.proofs.WordMarkSteps.{words_marked_all, words_marked_more, words_marked_none}
 use Rattle.sparse_board.proofs.marking.mark_narrow.Goals as goal
 
 pub loop-k-init : goal.loop-k-init

@@ -1,6 +1,6 @@
 use Rattle.std.specs.Prelude.{◌+◌}
 use Rattle.whole_rows.specs.Rows as whole
-use Rattle.sparse_board.proofs.MarkingSteps.{AreWordsMarkedTo}
+use Rattle.sparse_board.proofs.WordMarkSteps.{AreWordsMarkedTo}
 use Rattle.sparse_board.proofs.marking.mark_narrow.Given as goal
 
 abbrev pub invariant-loop-k : goal.invariant-loop-k

@@ -1,7 +1,8 @@
 use Rattle.std.proofs.Common.{◌≡◌, ◌<◌, ◌∙◌, arith, length, slice_index, subst, sym, true}
 use Rattle.std.proofs.lemmas.List.{get_or_read}
 use Rattle.sparse_board.specs.Marks.{has}
-use Rattle.sparse_board.proofs.MarkingSteps.{keep_more, row_words_all, row_words_more, row_words_none}
+use Rattle.sparse_board.proofs.MarkingSteps.{keep_more}
+use Rattle.sparse_board.proofs.WordMarkSteps.{row_words_all, row_words_more, row_words_none}
 use Rattle.sparse_board.proofs.marking.mark_numbers.Goals as goal
 use Rattle.sparse_board.proofs.marking.mark_numbers.Goals.{After-index}
 

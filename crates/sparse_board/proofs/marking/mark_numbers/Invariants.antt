@@ -1,4 +1,4 @@
-use Rattle.sparse_board.proofs.MarkingSteps.{AreWordsOfRowMarked}
+use Rattle.sparse_board.proofs.WordMarkSteps.{AreWordsOfRowMarked}
 use Rattle.sparse_board.proofs.marking.mark_numbers.Given as goal
 
 abbrev pub invariant-loop-k : goal.invariant-loop-k

@@ -2,7 +2,8 @@ use Rattle.std.proofs.Common.{◌≡◌, ◌+◌, ◌<◌, ◌∙◌, arith, sli
 use Rattle.std.proofs.lemmas.List.{get_or_default}
 use Rattle.sparse_board.specs.Marks.{IsWordJoined}
 use Rattle.whole_rows.specs.Rows as whole
-use Rattle.sparse_board.proofs.MarkingSteps.{keep_none, listed_below, narrow_kept, narrow_marked, no_word_marked, word_marked_more, word_marked_none}
+use Rattle.sparse_board.proofs.MarkingSteps.{keep_none}
+use Rattle.sparse_board.proofs.WordMarkSteps.{listed_below, narrow_kept, narrow_marked, no_word_marked, word_marked_more, word_marked_none}
 use Rattle.sparse_board.proofs.marking.mark_word.Goals as goal
 use Rattle.sparse_board.proofs.marking.mark_word.Goals.{After-index, After-join_word-2}
 

@@ -1,4 +1,4 @@
-use Rattle.sparse_board.proofs.MarkingSteps.{IsWordMarkedTo}
+use Rattle.sparse_board.proofs.WordMarkSteps.{IsWordMarkedTo}
 use Rattle.sparse_board.proofs.marking.mark_word.Given as goal
 
 abbrev pub invariant-loop-n : goal.invariant-loop-n
