@@ -11,6 +11,7 @@ pub mod ScanSteps
 pub mod WordSteps
 pub mod MarkSteps
 pub mod MarkingSteps
+pub mod WordMarkSteps
 pub mod MixedSteps
 pub mod LeavingSteps
 pub mod NarrowingSteps

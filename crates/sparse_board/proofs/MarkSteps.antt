@@ -1,6 +1,6 @@
 -- Marks that are bits of words.
-use Rattle.std.specs.Prelude.{◌≡◌, ℕ, ◌+◌, ◌*◌, ◌/◌, ◌%◌, ◌<◌, ◌≤◌, ◌⊎◌, Bool, true, false, ◌&&◌, ◌||◌, nat_eq, length, min, replicate, slice_index, slice_set, vec_len}
-use Rattle.std.proofs.Common.{inl, inr, sym, ◌∙◌, ap, arith, subst}
+use Rattle.std.specs.Prelude.{◌≡◌, ℕ, ◌+◌, ◌*◌, ◌/◌, ◌%◌, ◌<◌, ◌≤◌, ◌⊎◌, Bool, true, false, ◌&&◌, ◌||◌, nat_eq, bit_or, length, min, replicate, slice_index, slice_set, vec_len, refl}
+use Rattle.std.proofs.Common.{inl, inr, sym, ◌∙◌, ap, arith, subst, subst₂, true≢false}
 use Rattle.std.specs.Int.{bit_at}
 use Rattle.std.proofs.lemmas.Bool.{cases_lt, le-ltb, lt-ltb}
 use Rattle.std.proofs.lemmas.List.{get_or-replicate, get_or-set_other, get_or-set_same, get_or_past, length-replicate}
@@ -8,8 +8,11 @@ use Rattle.std.proofs.lemmas.Nat.{mul-add-lt, mul-le, same_from_place}
 use Rattle.std.proofs.lemmas.Nat.Bits.{bit_at-zero}
 use Rattle.simplex_laws.specs.BoundedSumLaws.{same_or_other}
 use Rattle.sparse_board.specs.declared.marks.Marks.{Marks}
+use Rattle.sparse_board.specs.declared.marks.MarkedRow.{MarkedRow}
+use Rattle.whole_rows.specs.Bits.{IsBitCleared, IsLowestBit}
+use Rattle.whole_rows.proofs.BitSteps.{one_zero}
 use Rattle.sparse_board.specs.Words.{AreJoined, bit_of}
-use Rattle.sparse_board.specs.Marks.{AreRowsUnmarked, IsJoined, IsPut, IsWord, IsWordPut, SameSizes, has}
+use Rattle.sparse_board.specs.Marks.{AreRowsUnmarked, IsJoined, IsMarkedRow, IsPut, IsWord, IsWordJoined, IsWordPut, SameSizes, has}
 use Rattle.sparse_board.proofs.WordSteps.{joined_bit}
 
 -- ---- a mark is a bit
@@ -24,6 +27,14 @@ has_past : (marks : Marks) (j i : ℕ) → marks.rows ≤ i → has marks j i �
 unfolding has
 has_past marks j i b =
     ap (λ t. t && nat_eq (bit_of marks.words.items marks.stride j i) 1) (le-ltb i marks.rows b)
+
+-- a row that is marked is one of the rows
+pub has_within : (marks : Marks) (j i : ℕ) → has marks j i ≡ true → i < marks.rows
+has_within marks j i e = by_row (cases_lt i marks.rows)
+  where
+    by_row : (i < marks.rows) ⊎ (marks.rows ≤ i) → i < marks.rows
+    by_row (inl b) = b
+    by_row (inr b) = absurd (true≢false (sym e ∙ has_past marks j i b))
 
 pub unset_is : (marks : Marks) (j i : ℕ) → bit_of marks.words.items marks.stride j i ≡ 0
     → has marks j i ≡ false
@@ -45,10 +56,6 @@ word_within marks j k c b = omega (arith, marks.long, mul-add-lt j marks.stride 
 pub place_within : (marks : Marks) (j i : ℕ) → j < marks.columns → i < marks.rows
     → j * marks.stride + i / 64 < vec_len marks.words
 place_within marks j i c b = word_within marks j (i / 64) c (low marks i (omega (arith, b)))
-
-pub row_place : (marks : Marks) (j i : ℕ) → j < marks.columns → i ≤ marks.rows
-    → j * marks.stride + i / 64 < vec_len marks.words
-row_place marks j i c b = word_within marks j (i / 64) c (low marks i b)
 
 pub item_within : (marks : Marks) (p : ℕ) → p < vec_len marks.words → p < length marks.words.items
 item_within marks p b = subst (λ n. p < n) marks.words.ok.0 b
@@ -197,6 +204,19 @@ module _ (old new : Marks) (j k word : ℕ) (sizes : SameSizes old new)
       by_row l i apart (inr b) =
           has_past new l i (subst (λ n. n ≤ i) (sym sizes.rows) b) ∙ sym (has_past old l i b)
 
+-- ---- a word that is joined
+
+pub word_joined : (old new : Marks) (j k left word joined : ℕ) → IsWord j k left old
+    → joined ≡ bit_or left word → IsWordPut j k joined old new → IsWordJoined j k word old new
+word_joined old new j k left word joined read is put = record {
+  sizes = put.sizes;
+  here = λ i b e. put.here i (subst (λ n. i < n) (sym put.sizes.rows) b) e
+      ∙ ap (λ w. nat_eq (bit_at w (i % 64)) 1) is
+      ∙ joined_bit left word (i % 64)
+      ∙ ap (λ t. t || nat_eq (bit_at word (i % 64)) 1) (sym (read i b e));
+  others = put.others;
+}
+
 -- ---- columns that are joined
 
 -- a column's words are its own, so two columns don't overlap
@@ -266,69 +286,162 @@ module _ (old new : Marks) (from to : ℕ) (sizes : SameSizes old new)
 
 -- ---- rows that are passed over
 
-pub unmarked_more : (marks : Marks) (j k from low_bit bit to : ℕ)
-    → AreRowsUnmarked marks j from (k * 64 + low_bit)
-    → ((n : ℕ) → low_bit ≤ n → n < bit → bit_at (slice_index marks.words.items
-    (j * marks.stride + k)) n ≡ 0)
-    → to ≤ k * 64 + bit → to ≤ (k + 1) * 64 → AreRowsUnmarked marks j from to
-unmarked_more marks j k from low_bit bit to h unset near within i f t =
-    by_place (cases_lt i (k * 64 + low_bit))
+pub unmarked_none : (marks : Marks) (j from : ℕ) → AreRowsUnmarked marks j from from
+unmarked_none marks j from i f t = absurd (omega (arith, f, t))
+
+-- the rows of a word whose bits aren't set
+pub unmarked_more : (marks : Marks) (j k word bit from to : ℕ)
+    → AreRowsUnmarked marks j from (k * 64) → IsWord j k word marks
+    → ((n : ℕ) → n < bit → bit_at word n ≡ 0) → to ≤ k * 64 + bit → to ≤ (k + 1) * 64
+    → AreRowsUnmarked marks j from to
+unmarked_more marks j k word bit from to h read unset near within i f t =
+    by_place (cases_lt i (k * 64)) (cases_lt i marks.rows)
   where
-    word_lem : (i k n to : ℕ) → k * 64 + n ≤ i → i < to → to ≤ (k + 1) * 64 → k ≡ i / 64
-    word_lem i k n to b t w = omega (arith, b, t, w)
+    word_lem : (i k to : ℕ) → k * 64 ≤ i → i < to → to ≤ (k + 1) * 64 → i / 64 ≡ k
+    word_lem i k to b t w = omega (arith, b, t, w)
 
-    low_lem : (i k n to : ℕ) → k * 64 + n ≤ i → i < to → to ≤ (k + 1) * 64 → n ≤ i % 64
-    low_lem i k n to b t w = omega (arith, b, t, w)
+    bit_lem : (i k bit to : ℕ) → k * 64 ≤ i → i < to → to ≤ (k + 1) * 64 → to ≤ k * 64 + bit
+        → i % 64 < bit
+    bit_lem i k bit to b t w near = omega (arith, b, t, w, near)
 
-    bit_lem : (i k n bit to : ℕ) → k * 64 + n ≤ i → i < to → to ≤ (k + 1) * 64
-        → to ≤ k * 64 + bit → i % 64 < bit
-    bit_lem i k n bit to b t w near = omega (arith, b, t, w, near)
+    by_place : (i < k * 64) ⊎ (k * 64 ≤ i) → (i < marks.rows) ⊎ (marks.rows ≤ i)
+        → has marks j i ≡ false
+    by_place (inl b) _ = h i f b
+    by_place (inr b) (inl c) =
+        read i c (word_lem i k to b t within)
+        ∙ ap (λ x. nat_eq x 1) (unset (i % 64) (bit_lem i k bit to b t within near))
+    by_place (inr b) (inr c) = has_past marks j i c
 
-    by_place : (i < k * 64 + low_bit) ⊎ (k * 64 + low_bit ≤ i) → has marks j i ≡ false
-    by_place (inl b) = h i f b
-    by_place (inr b) =
-        unset_is marks j i
-        (subst (λ n. bit_at (slice_index marks.words.items (j * marks.stride + n)) (i % 64) ≡ 0)
-        (word_lem i k low_bit to b t within)
-        (unset (i % 64) (low_lem i k low_bit to b t within)
-        (bit_lem i k low_bit bit to b t within near)))
+-- a word without bits
+pub unmarked_word : (marks : Marks) (j k word from : ℕ) → AreRowsUnmarked marks j from (k * 64)
+    → IsWord j k word marks → word ≡ 0 → AreRowsUnmarked marks j from ((k + 1) * 64)
+unmarked_word marks j k word from h read z =
+    unmarked_more marks j k word 64 from ((k + 1) * 64) h read
+    (λ n b. ap (λ w. bit_at w n) z ∙ bit_at-zero n) (omega arith) (omega arith)
 
--- the row whose bit is found
-pub found_marked : (marks : Marks) (j k bit : ℕ) → bit < 64 → k * 64 + bit < marks.rows
-    → bit_at (slice_index marks.words.items (j * marks.stride + k)) bit ≡ 1
-    → has marks j (k * 64 + bit) ≡ true
-found_marked marks j k bit small b e =
-    has_is marks j (k * 64 + bit) b
-    ∙ ap (λ x. nat_eq x 1)
-    ((λ z. bit_at (slice_index marks.words.items (j * marks.stride + word_lem k bit small z))
-    (bit_lem k bit small z)) ∙ e)
+-- ---- a row that is marked, and the next one
+
+pub place_marked : (marks : Marks) (j i : ℕ) (at : MarkedRow) → IsMarkedRow marks j at
+    → i ≡ at.row → i < marks.rows → has marks j i ≡ true
+place_marked marks j i at h e b =
+    let within : at.row < marks.rows = subst (λ n. n < marks.rows) e b in
+    ap (has marks j) e ∙ h.bits at.row (omega arith) within refl
+    ∙ ap (λ x. nat_eq x 1) (h.low within).set
+
+pub end_row : (marks : Marks) (j : ℕ) (at : MarkedRow) → at.row ≡ marks.rows
+    → IsMarkedRow marks j at
+end_row marks j at e = record {
+  low = λ b. absurd (omega (arith, b, e));
+  bits = λ i a b f. absurd (omega (arith, a, b, e));
+}
+
+-- the row of a word's lowest bit
+pub word_row : (marks : Marks) (j k word bit : ℕ) (at : MarkedRow) → IsWord j k word marks
+    → IsLowestBit word bit → at.row ≡ min (k * 64 + bit) marks.rows → at.rest ≡ word
+    → IsMarkedRow marks j at
+word_row marks j k word bit at read is row rest = record {
+  low = λ b. subst₂ IsLowestBit (sym rest) (sym (bit_lem at.row k bit marks.rows is.within row b)) is;
+  bits = λ i a b e. read i b (e ∙ place_lem at.row k bit marks.rows i is.within row a b)
+      ∙ ap (λ w. nat_eq (bit_at w (i % 64)) 1) (sym rest);
+}
   where
-    word_lem : (k bit : ℕ) → bit < 64 → (k * 64 + bit) / 64 ≡ k
-    word_lem k bit b = omega (arith, b)
+    bit_lem : (row k bit n : ℕ) → bit < 64 → row ≡ min (k * 64 + bit) n → row < n → row % 64 ≡ bit
+    bit_lem row k bit n b e c = omega (arith, b, e, c)
 
-    bit_lem : (k bit : ℕ) → bit < 64 → (k * 64 + bit) % 64 ≡ bit
-    bit_lem k bit b = omega (arith, b)
+    place_lem : (row k bit n i : ℕ) → bit < 64 → row ≡ min (k * 64 + bit) n → row ≤ i → i < n
+        → row / 64 ≡ k
+    place_lem row k bit n i b e a c = omega (arith, b, e, a, c)
 
--- the found row, or the end where it is none
-pub least_marked : (marks : Marks) (j k bit : ℕ) → bit < 64
-    → bit_at (slice_index marks.words.items (j * marks.stride + k)) bit ≡ 1 → (row : ℕ)
-    → row ≡ min (k * 64 + bit) marks.rows → row < marks.rows → has marks j row ≡ true
-least_marked marks j k bit small e row is b =
-    ap (has marks j) (here_lem row (k * 64 + bit) marks.rows is b)
-    ∙ found_marked marks j k bit small
-    (subst (λ n. n < marks.rows) (here_lem row (k * 64 + bit) marks.rows is b) b) e
+-- the next row, where the lowest bit that is left was cleared
+module _ (marks : Marks) (j : ℕ) (at : MarkedRow) (h : IsMarkedRow marks j at)
+    (within : at.row < marks.rows) (next : ℕ) (cleared : IsBitCleared (at.row % 64) at.rest next)
   where
-    here_lem : (row a n : ℕ) → row ≡ min a n → row < n → row ≡ a
-    here_lem row a n is b = omega (arith, is, b)
+    later_bit : (i : ℕ) → at.row < i → i < marks.rows → i / 64 ≡ at.row / 64
+        → has marks j i ≡ nat_eq (bit_at next (i % 64)) 1
+    later_bit i a b e =
+        h.bits i (omega (arith, a)) b e
+        ∙ ap (λ x. nat_eq x 1) (sym (cleared.others (i % 64) (apart_lem i at.row a e)))
+      where
+        apart_lem : (i r : ℕ) → r < i → i / 64 ≡ r / 64 → i % 64 ≡ r % 64 → ⊥
+        apart_lem i r a e f = omega (arith, a, e, f)
 
--- the same of the first word that is looked at, from a row of it on
-pub first_marked : (marks : Marks) (j from zeros : ℕ) → from % 64 + zeros < 64
-    → bit_at (slice_index marks.words.items (j * marks.stride + from / 64)) (from % 64 + zeros) ≡ 1
-    → (row : ℕ) → row ≡ min (from + zeros) marks.rows → row < marks.rows → has marks j row ≡ true
-first_marked marks j from zeros small e row is b =
-    least_marked marks j (from / 64) (from % 64 + zeros) small e row
-    (same_lem from zeros marks.rows row is) b
-  where
-    same_lem : (from zeros rows row : ℕ) → row ≡ min (from + zeros) rows
-        → row ≡ min (from / 64 * 64 + (from % 64 + zeros)) rows
-    same_lem from zeros rows row is = omega (arith, is)
+    pub after_none : (to : ℕ) → next ≡ 0
+        → AreRowsUnmarked marks j ((at.row / 64 + 1) * 64) to
+        → AreRowsUnmarked marks j (at.row + 1) to
+    after_none to z passed i f t =
+        by_place (cases_lt i ((at.row / 64 + 1) * 64)) (cases_lt i marks.rows)
+      where
+        same_lem : (i r : ℕ) → r + 1 ≤ i → i < (r / 64 + 1) * 64 → i / 64 ≡ r / 64
+        same_lem i r a b = omega (arith, a, b)
+
+        by_place : (i < (at.row / 64 + 1) * 64) ⊎ ((at.row / 64 + 1) * 64 ≤ i)
+            → (i < marks.rows) ⊎ (marks.rows ≤ i) → has marks j i ≡ false
+        by_place (inl b) (inl c) =
+            later_bit i (omega (arith, f)) c (same_lem i at.row f b)
+            ∙ ap (λ w. nat_eq (bit_at w (i % 64)) 1) z
+            ∙ ap (λ x. nat_eq x 1) (bit_at-zero (i % 64))
+        by_place (inl b) (inr c) = has_past marks j i c
+        by_place (inr b) _ = passed i b t
+
+    module _ (bit : ℕ) (is : IsLowestBit next bit) where
+      pub after_bit : at.row % 64 < bit
+      after_bit = by_order (cases_lt (at.row % 64) bit)
+        where
+          less_lem : (a b : ℕ) → a ≤ b → ¬ (a ≡ b) → a < b
+          less_lem a b h n = omega (arith, h, n)
+
+          by_order : (at.row % 64 < bit) ⊎ (bit ≤ at.row % 64) → at.row % 64 < bit
+          by_order (inl b) = b
+          by_order (inr b) =
+              same_or_other (at.row % 64 < bit) bit (at.row % 64)
+              (λ e. absurd (one_zero (bit_at next bit) is.set (ap (bit_at next) e ∙ cleared.here)))
+              (λ n. absurd (one_zero (bit_at next bit) is.set
+              (cleared.others bit n ∙ (h.low within).below bit (less_lem bit (at.row % 64) b n))))
+
+      pub after_within : (to : ℕ) → to ≡ min (at.row / 64 * 64 + bit) marks.rows → at.row < to
+      after_within to e = above_lem at.row bit marks.rows to after_bit within e
+        where
+          above_lem : (r bit n to : ℕ) → r % 64 < bit → r < n → to ≡ min (r / 64 * 64 + bit) n
+              → r < to
+          above_lem r bit n to a b e = omega (arith, a, b, e)
+
+      pub after_row : (new : MarkedRow) → new.row ≡ min (at.row / 64 * 64 + bit) marks.rows
+          → new.rest ≡ next → IsMarkedRow marks j new
+      after_row new row rest = record {
+        low = λ b. subst₂ IsLowestBit (sym rest)
+            (sym (bit_lem new.row (at.row / 64) bit marks.rows is.within row b)) is;
+        bits = λ i a b e. later_bit i (order_lem at.row new.row i (after_within new.row row) a) b
+            (e ∙ place_lem new.row (at.row / 64) bit marks.rows i is.within row a b)
+            ∙ ap (λ w. nat_eq (bit_at w (i % 64)) 1) (sym rest);
+      }
+        where
+          bit_lem : (row k bit n : ℕ) → bit < 64 → row ≡ min (k * 64 + bit) n → row < n
+              → row % 64 ≡ bit
+          bit_lem row k bit n b e c = omega (arith, b, e, c)
+
+          place_lem : (row k bit n i : ℕ) → bit < 64 → row ≡ min (k * 64 + bit) n → row ≤ i → i < n
+              → row / 64 ≡ k
+          place_lem row k bit n i b e a c = omega (arith, b, e, a, c)
+
+          order_lem : (a b i : ℕ) → a < b → b ≤ i → a < i
+          order_lem a b i h k = omega (arith, h, k)
+
+      pub after_passed : (to : ℕ) → to ≡ min (at.row / 64 * 64 + bit) marks.rows
+          → AreRowsUnmarked marks j (at.row + 1) to
+      after_passed to e i f t = by_row (cases_lt i marks.rows)
+        where
+          same_lem : (i r bit n to : ℕ) → bit < 64 → to ≡ min (r / 64 * 64 + bit) n → r + 1 ≤ i
+              → i < to → i / 64 ≡ r / 64
+          same_lem i r bit n to b e f t = omega (arith, b, e, f, t)
+
+          below_lem : (i r bit n to : ℕ) → bit < 64 → to ≡ min (r / 64 * 64 + bit) n → r + 1 ≤ i
+              → i < to → i % 64 < bit
+          below_lem i r bit n to b e f t = omega (arith, b, e, f, t)
+
+          by_row : (i < marks.rows) ⊎ (marks.rows ≤ i) → has marks j i ≡ false
+          by_row (inl c) =
+              later_bit i (omega (arith, f)) c
+              (same_lem i at.row bit marks.rows to is.within e f t)
+              ∙ ap (λ x. nat_eq x 1)
+              (is.below (i % 64) (below_lem i at.row bit marks.rows to is.within e f t))
+          by_row (inr c) = has_past marks j i c

@@ -1,13 +1,12 @@
 -- Marks that are set or taken away one after another.
-use Rattle.std.specs.Prelude.{◌≡◌, ℕ, ◌+◌, ◌*◌, ◌/◌, ◌%◌, ◌<◌, ◌≤◌, Bool, true, false, ◌⊎◌, nat_eq, List, length, min, pos, slice_index, slice_index_or, slice_set, take, Some, refl}
+use Rattle.std.specs.Prelude.{◌≡◌, ℕ, ◌+◌, ◌*◌, ◌/◌, ◌%◌, ◌<◌, Bool, true, false, ◌⊎◌, List, length, slice_index, slice_set, Some, refl}
 use Rattle.std.proofs.Common.{sym, ◌∙◌, ap, arith, subst, inl, inr, true≢false}
-use Rattle.std.proofs.lemmas.List.{get_or-take, get_or_default, length-set, length-take}
+use Rattle.std.proofs.lemmas.List.{length-set}
 use Rattle.std.specs.Int.{bit_at}
-use Rattle.std.proofs.lemmas.Bool.{cases_lt, or_left, or_right}
+use Rattle.std.proofs.lemmas.Bool.{or_left, or_right}
 use Rattle.std.proofs.lemmas.Nat.Bits.{bit_at-lt}
-use Rattle.ratio_core.specs.Rational.{Rational, inverse_ℚ, reduce, zero_ℚ, ◌*ℚ◌, ◌/ℚ◌}
+use Rattle.ratio_core.specs.Rational.{Rational, inverse_ℚ, zero_ℚ, ◌*ℚ◌, ◌/ℚ◌}
 use Rattle.rational_laws.specs.Field.{zero-*ℚ}
-use Rattle.rational_laws.specs.Over.{over-zero_ℚ}
 use Rattle.simplex_laws.specs.BoundedSumLaws.{same_or_other}
 use Rattle.tableau_core.specs.LoweringLaws.{lowered-zero, step-zero, zero-step}
 use Rattle.sparse_board.specs.declared.marks.Marks.{Marks}
@@ -15,8 +14,6 @@ use Rattle.sparse_board.specs.declared.row.Row.{Row}
 use Rattle.sparse_board.specs.declared.mixed_row.MixedRow.{MixedRow}
 use Rattle.sparse_board.specs.declared.sparse_row.SparseRow.{SparseRow}
 use Rattle.sparse_board.specs.Mixed as mixed
-use Rattle.whole_rows.specs.Rows as whole
-use Rattle.whole_rows.specs.declared.step.NarrowStep.{NarrowStep}
 use Rattle.sparse_board.specs.Numbers.{number_of, row_columns, row_values, width_of}
 use Rattle.sparse_board.specs.Rows.{AreSparseRowsLowered, AreSparseRowsWide, now_at, now_of, number_in_row, numbers}
 use Rattle.sparse_board.specs.Marks.{IsJoined, IsPut, IsWord, IsWordPut, SameSizes, has}
@@ -220,6 +217,13 @@ step_marked_all step w q old marks k all h i p j c e = by_place (sought (row_col
         number_missing (row_columns step) (row_values step) j
         (λ l d. none l (subst (λ n. l < n) (sym all) d))
 
+-- the same units, in as many columns
+pub units_marked : (v w q : ℕ) (units others : ℕ → Rational) (old new : Marks) → v ≡ w
+    → ((j : ℕ) → others j ≡ units j) → MarksUnits v q units old new
+    → MarksUnits w q others old new
+units_marked v w q units others old new e is h i p j c f =
+    is j ∙ h i p j (subst (λ n. j < n) (sym e) c) f
+
 -- ---- after a pivot
 
 module _ (w r q : ℕ) (before middle : List Row) (units : ℕ → Rational) (new : Row)
@@ -254,113 +258,3 @@ module _ (w r q : ℕ) (before middle : List Row) (units : ℕ → Rational) (ne
       ∙ lowered-zero (number_in_row before i j) (number_in_row before i q) (units j)
       (no_product i here j c e)
       ∙ marked i here j c was)
-
--- ---- whole numbers marked up to a column
-
-pub record AreNumbersMarkedTo (numbers : ℕ → Rational) (i : ℕ) (old marks : Marks) (k : ℕ) :
-    Type 0 where
-  pub keep : KeepMarks old marks
-  pub marked : (j : ℕ) → j < k → has marks j i ≡ false → numbers j ≡ zero_ℚ
-
-pub numbers_marked_none : (numbers : ℕ → Rational) (i : ℕ) (old : Marks)
-    → AreNumbersMarkedTo numbers i old old 0
-numbers_marked_none numbers i old =
-    record { keep = keep_none old; marked = λ j b. absurd (omega (arith, b)) }
-
-pub numbers_marked_more : (numbers : ℕ → Rational) (i : ℕ) (old marks new : Marks) (k : ℕ)
-    → AreNumbersMarkedTo numbers i old marks k → KeepMarks marks new
-    → (has new k i ≡ false → numbers k ≡ zero_ℚ) → AreNumbersMarkedTo numbers i old new (k + 1)
-numbers_marked_more numbers i old marks new k h keep zero = record {
-  keep = keep_more old marks new h.keep keep;
-  marked = λ j c e. same_or_other (numbers j ≡ zero_ℚ) j k
-      (λ f. ap numbers f ∙ zero (ap (λ n. has new n i) (sym f) ∙ e))
-      (λ n. h.marked j (omega (arith, c, n)) (was_not marks new keep j i e));
-}
-
--- columns of zeros are passed over
-pub numbers_marked_past : (numbers : ℕ → Rational) (i : ℕ) (old marks : Marks) (k to : ℕ)
-    → AreNumbersMarkedTo numbers i old marks k
-    → ((j : ℕ) → k ≤ j → j < to → numbers j ≡ zero_ℚ)
-    → AreNumbersMarkedTo numbers i old marks to
-numbers_marked_past numbers i old marks k to h zeros = record {
-  keep = h.keep;
-  marked = λ j c e. by_place j c e (cases_lt j k);
-}
-  where
-    by_place : (j : ℕ) → j < to → has marks j i ≡ false → (j < k) ⊎ (k ≤ j)
-        → numbers j ≡ zero_ℚ
-    by_place j c e (inl b) = h.marked j b e
-    by_place j c e (inr b) = zeros j b c
-
--- the same units, in as many columns
-pub units_marked : (v w q : ℕ) (units others : ℕ → Rational) (old new : Marks) → v ≡ w
-    → ((j : ℕ) → others j ≡ units j) → MarksUnits v q units old new
-    → MarksUnits w q others old new
-units_marked v w q units others old new e is h i p j c f =
-    is j ∙ h i p j (subst (λ n. j < n) (sym e) c) f
-
--- the step's listed columns, and its right side
-module _ (step : NarrowStep) (q : ℕ) (old marks new : Marks) (k : ℕ) (all : k ≡ step.used)
-    (h : IsStepMarkedTo step.columns.items q old marks k)
-    (join : IsJoined q (whole.width_of step.row) marks new) where
-  listed_is : (l : ℕ) → l < length (take step.used step.columns.items)
-      → (l < step.used) × (slice_index (take step.used step.columns.items) l
-      ≡ slice_index step.columns.items l)
-  listed_is l b =
-      let c : l < step.used = below_lem l (subst (λ n. l < n)
-      (length-take step.used step.columns.items) b) in
-      (c, get_or-take step.used step.columns.items l 0 c)
-    where
-      below_lem : (l : ℕ) → l < min step.used (length step.columns.items) → l < step.used
-      below_lem l c = omega (arith, c)
-
-  zero_numerator : (j : ℕ) → j < whole.width_of step.row
-      → slice_index_or step.row.numbers.items j (pos 0) ≡ pos 0
-      → whole.number_of step.row j ≡ zero_ℚ
-  zero_numerator j b z =
-      ap (λ n. reduce n step.row.den)
-      (get_or_default step.row.numbers.items j step.row.side (pos 0) b ∙ z)
-      ∙ sym (over-zero_ℚ step.row.den step.row.above)
-
-  join_kept : KeepMarks marks new
-  join_kept = join_keeps q (whole.width_of step.row) marks new join
-
-  pub narrow_kept : KeepMarks old new
-  narrow_kept = keep_more old marks new h.keep join_kept
-
-  pub narrow_marked : MarksUnits (whole.width_of step.row + 1) q (whole.number_of step.row) old new
-  narrow_marked i p j c e = by_end (cases_lt j (whole.width_of step.row))
-    where
-      column : List ℕ
-      column = take step.used step.columns.items
-
-      by_place : j < whole.width_of step.row
-          → ((l : ℕ) × (l < length column) × (slice_index column l ≡ j))
-          ⊎ ((l : ℕ) → l < length column → ¬ (slice_index column l ≡ j))
-          → whole.number_of step.row j ≡ zero_ℚ
-      by_place d (inr none) = zero_numerator j d (step.lists.others j d none)
-      by_place d (inl f) =
-          let is = listed_is f.0 f.1 in
-          absurd (true≢false (sym (join_kept.kept j i (subst (λ n. has marks n i ≡ true)
-          (sym is.1 ∙ f.2) (h.marked f.0 (subst (λ n. f.0 < n) (sym all) is.0) i p))) ∙ e))
-
-      by_end : (j < whole.width_of step.row) ⊎ (whole.width_of step.row ≤ j)
-          → whole.number_of step.row j ≡ zero_ℚ
-      by_end (inl d) = by_place d (sought column j (length column))
-      by_end (inr d) =
-          absurd (true≢false (sym (subst (λ n. has new n i ≡ true) (end_lem j _ c d)
-          (joined_marked q (whole.width_of step.row) old marks new h.keep join i p)) ∙ e))
-        where
-          end_lem : (j w : ℕ) → j < w + 1 → w ≤ j → w ≡ j
-          end_lem j w x y = omega (arith, x, y)
-
--- a listed column is one of the step's
-pub listed_below : (step : NarrowStep) (k : ℕ) → k < step.used
-    → slice_index step.columns.items k < whole.width_of step.row
-listed_below step k b =
-    subst (λ n. n < whole.width_of step.row) (get_or-take step.used step.columns.items k 0 b)
-    (step.lists.within k (subst (λ n. k < n) (sym (length-take step.used step.columns.items
-    ∙ min_lem step.used (length step.columns.items) step.fits)) b))
-  where
-    min_lem : (a b : ℕ) → a ≤ b → min a b ≡ a
-    min_lem a b c = omega (arith, c)

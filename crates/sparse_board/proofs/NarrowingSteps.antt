@@ -1,8 +1,7 @@
 -- Fractions that become whole numbers over a common denominator.
-use Rattle.std.specs.Prelude.{◌≡◌, ℕ, ◌+◌, ◌*◌, ◌/◌, ◌^◌, ◌<◌, ◌≤◌, ◌⊎◌, List, length, slice_index, ℤ, pos, unsigned_abs}
+use Rattle.std.specs.Prelude.{◌≡◌, ℕ, ◌+◌, ◌<◌, ◌≤◌, ◌⊎◌, List, length, slice_index, ℤ, pos}
 use Rattle.std.specs.Int.{◌∣◌}
 use Rattle.std.proofs.Common.{inl, inr, sym, ◌∙◌, ap, ap₂, arith, subst}
-use Rattle.std.proofs.lemmas.Int.{unsigned_abs-mul}
 use Rattle.std.proofs.lemmas.Nat.Gcd.{dvd_trans}
 use Rattle.ratio_core.specs.Rational.{Rational, reduce}
 use Rattle.rational_laws.specs.Over.{over-zero_ℚ}
@@ -11,9 +10,8 @@ use Rattle.tableau_core.specs.Row.{cell}
 use Rattle.whole_rows.specs.declared.narrow_row.NarrowRow.{NarrowRow}
 use Rattle.whole_rows.specs.Common.{IsCommon, over_is, over_num}
 use Rattle.whole_rows.specs.Rows as whole
-use Rattle.sparse_board.specs.declared.narrowing.Shape.{Shape}
 use Rattle.sparse_board.specs.declared.sparse_row.SparseRow.{SparseRow}
-use Rattle.sparse_board.specs.Mixed.{IsDenominator, IsShape}
+use Rattle.sparse_board.specs.Mixed.{IsDenominator}
 use Rattle.sparse_board.specs.Numbers.{number_of, row_columns, row_values, width_of}
 use Rattle.sparse_board.proofs.NumberLemmas.{number_at_place, number_missing, sought}
 
@@ -37,93 +35,47 @@ denominator_more values n den more value h is common = record {
       (λ m. dvd_trans (cell values k).den (h.divides k (omega (arith, b, m))) common.left);
 }
 
--- ---- a bound of their numerators
-
-pub record IsBoundedTo (values : List Rational) (den bound n : ℕ) : Type 0 where
-  pub small : bound < 2 ^ 63
-  pub within : (k : ℕ) → k < n →
-      unsigned_abs (cell values k).num * (den / (cell values k).den) ≤ bound
-
-pub bounded_none : (values : List Rational) (den : ℕ) → IsBoundedTo values den 0 0
-bounded_none values den = record {
-  small = omega arith;
-  within = λ k b. absurd (omega (arith, b));
-}
-
-size_over : (value : Rational) (den : ℕ)
-    → unsigned_abs (over_num value den) ≡ unsigned_abs value.num * (den / value.den)
-size_over value den = unsigned_abs-mul value.num (pos (den / value.den))
-
-pub bounded_more : (values : List Rational) (den bound more n : ℕ) (value : Rational) (m : ℤ)
-    → IsBoundedTo values den bound n → value ≡ cell values n → m ≡ over_num value den
-    → unsigned_abs m ≤ more → bound ≤ more → more < 2 ^ 63 → IsBoundedTo values den more (n + 1)
-bounded_more values den bound more n value m h is m_is left right small = record {
-  small = small;
-  within = λ k b. same_or_other
-      (unsigned_abs (cell values k).num * (den / (cell values k).den) ≤ more) k n
-      (λ e. subst (λ x. x ≤ more) (ap unsigned_abs m_is
-      ∙ ap (λ v. unsigned_abs (over_num v den)) (is ∙ ap (cell values) (sym e))
-      ∙ size_over (cell values k) den) left)
-      (λ d. most_lem _ _ _ (h.within k (omega (arith, b, d))) right);
-}
-  where
-    most_lem : (a b c : ℕ) → a ≤ b → b ≤ c → a ≤ c
-    most_lem a b c h k = omega (arith, h, k)
-
-pub within_bound : (values : List Rational) (shape : Shape) (k : ℕ) (value : Rational) (m : ℤ)
-    → IsShape values shape → k < length values → value ≡ cell values k
-    → m ≡ over_num value shape.den → unsigned_abs m ≤ shape.bound
-within_bound values shape k value m h b is m_is =
-    subst (λ x. x ≤ shape.bound)
-    (sym (ap unsigned_abs m_is ∙ ap (λ v. unsigned_abs (over_num v shape.den)) is
-    ∙ size_over (cell values k) shape.den)) (h.within k b)
-
 -- ---- the first n numbers are put
 
-pub record IsFilledTo (wide : SparseRow) (old row : NarrowRow) (shape : Shape) (n : ℕ) : Type 0
-  where
-    pub den : row.den ≡ shape.den
-    pub bound : row.bound ≡ shape.bound
-    pub width : whole.width_of row ≡ whole.width_of old
-    pub put : (k : ℕ) → k < n →
-        whole.numerator_of row (slice_index (row_columns wide) k)
-        ≡ over_num (cell (row_values wide) k) shape.den
-    pub zeros : (j : ℕ) → j < width_of wide →
-        ((k : ℕ) → k < n → ¬ (slice_index (row_columns wide) k ≡ j)) →
-        whole.numerator_of row j ≡ pos 0
+pub record IsFilledTo (wide : SparseRow) (old row : NarrowRow) (den n : ℕ) : Type 0 where
+  pub over : row.den ≡ den
+  pub width : whole.width_of row ≡ whole.width_of old
+  pub put : (k : ℕ) → k < n → whole.numerator_of row (slice_index (row_columns wide) k)
+      ≡ over_num (cell (row_values wide) k) den
+  pub zeros : (j : ℕ) → j < width_of wide
+      → ((k : ℕ) → k < n → ¬ (slice_index (row_columns wide) k ≡ j))
+      → whole.numerator_of row j ≡ pos 0
 
-pub filled_none : (wide : SparseRow) (old row : NarrowRow) (shape : Shape) → row.den ≡ shape.den
-    → row.bound ≡ shape.bound → whole.width_of row ≡ whole.width_of old
-    → ((j : ℕ) → whole.numerator_of row j ≡ pos 0) → IsFilledTo wide old row shape 0
-filled_none wide old row shape d b w z = record {
-  den = d;
-  bound = b;
+pub filled_none : (wide : SparseRow) (old row : NarrowRow) (den : ℕ) → row.den ≡ den
+    → whole.width_of row ≡ whole.width_of old → ((j : ℕ) → whole.numerator_of row j ≡ pos 0)
+    → IsFilledTo wide old row den 0
+filled_none wide old row den d w z = record {
+  over = d;
   width = w;
   put = λ k c. absurd (omega (arith, c));
   zeros = λ j c n. z j;
 }
 
-module _ (wide : SparseRow) (old row next : NarrowRow) (shape : Shape) (n column : ℕ) (m : ℤ)
-    (h : IsFilledTo wide old row shape n) (few : width_of wide ≤ whole.width_of old + 1)
+module _ (wide : SparseRow) (old row next : NarrowRow) (den n column : ℕ) (m : ℤ)
+    (h : IsFilledTo wide old row den n) (few : width_of wide ≤ whole.width_of old + 1)
     (b : n < length (row_columns wide)) (column_is : column ≡ slice_index (row_columns wide) n)
-    (m_is : m ≡ over_num (cell (row_values wide) n) shape.den) where
+    (m_is : m ≡ over_num (cell (row_values wide) n) den) where
   at : ℕ
   at = slice_index (row_columns wide) n
 
-  pub filled_more : next.den ≡ row.den → next.bound ≡ row.bound
-      → whole.width_of next ≡ whole.width_of row → whole.numerator_of next column ≡ m
+  pub filled_more : next.den ≡ row.den → whole.width_of next ≡ whole.width_of row
+      → whole.numerator_of next column ≡ m
       → ((k : ℕ) → k ≤ whole.width_of row → ¬ (k ≡ column)
       → whole.numerator_of next k ≡ whole.numerator_of row k)
-      → IsFilledTo wide old next shape (n + 1)
-  filled_more den bound width here elsewhere = record {
-    den = den ∙ h.den;
-    bound = bound ∙ h.bound;
+      → IsFilledTo wide old next den (n + 1)
+  filled_more same width here elsewhere = record {
+    over = same ∙ h.over;
     width = width ∙ h.width;
     put = λ k c. same_or_other
         (whole.numerator_of next (slice_index (row_columns wide) k)
-        ≡ over_num (cell (row_values wide) k) shape.den) k n
+        ≡ over_num (cell (row_values wide) k) den) k n
         (λ e. subst (λ i. whole.numerator_of next (slice_index (row_columns wide) i)
-        ≡ over_num (cell (row_values wide) i) shape.den) (sym e)
+        ≡ over_num (cell (row_values wide) i) den) (sym e)
         (ap (whole.numerator_of next) (sym column_is) ∙ here ∙ m_is))
         (λ d. let before : k < n = omega (arith, c, d) in
         elsewhere (slice_index (row_columns wide) k) (within_lem _ (wide.within k
@@ -141,19 +93,19 @@ module _ (wide : SparseRow) (old row next : NarrowRow) (shape : Shape) (n column
       rise_lem : (x y : ℕ) → x < y → x ≡ y → ⊥
       rise_lem x y c e = omega (arith, c, e)
 
-pub filled_all : (wide : SparseRow) (old row : NarrowRow) (shape : Shape) (n : ℕ)
-    → IsFilledTo wide old row shape n → IsShape (row_values wide) shape
-    → n ≡ length (row_columns wide) → (j : ℕ) → j < width_of wide
-    → whole.number_of row j ≡ number_of wide j
-filled_all wide old row shape n h shaped all j c = by_place (sought (row_columns wide) j n)
+pub filled_all : (wide : SparseRow) (old row : NarrowRow) (den n : ℕ)
+    → IsFilledTo wide old row den n → (m : ℕ) → IsDenominator (row_values wide) m den
+    → length (row_columns wide) ≡ m → n ≡ length (row_columns wide) → (j : ℕ)
+    → j < width_of wide → whole.number_of row j ≡ number_of wide j
+filled_all wide old row den n h m common long all j c = by_place (sought (row_columns wide) j n)
   where
     by_place : ((k : ℕ) × (k < n) × (slice_index (row_columns wide) k ≡ j))
         ⊎ ((k : ℕ) → k < n → ¬ (slice_index (row_columns wide) k ≡ j))
         → whole.number_of row j ≡ number_of wide j
     by_place (inl f) =
-        ap₂ reduce (ap (whole.numerator_of row) (sym f.2) ∙ h.put f.0 f.1) h.den
-        ∙ over_is (cell (row_values wide) f.0) shape.den shaped.denominator.above
-        (shaped.denominator.divides f.0 (subst (λ n. f.0 < n) (all ∙ sym wide.sparse.long) f.1))
+        ap₂ reduce (ap (whole.numerator_of row) (sym f.2) ∙ h.put f.0 f.1) h.over
+        ∙ over_is (cell (row_values wide) f.0) den common.above
+        (common.divides f.0 (subst (λ x. f.0 < x) (all ∙ long) f.1))
         ∙ sym (number_at_place (row_columns wide) (row_values wide) wide.sparse f.0 j
         (subst (λ n. f.0 < n) all f.1) f.2)
     by_place (inr none) =

@@ -135,6 +135,14 @@ module _ (w r q : ℕ) (step : Step) (marks : Marks) (before rows : List Row) (i
       same_or_other (row_fits k ≡ true) k i (λ e. ap row_fits e ∙ here)
       (λ n. h.fit k (omega (arith, b, n)))
 
+  -- what stands stays where a row is worked out
+  pub prepared_stays : (d new : Row) → ArePreparedTo w r q step marks before rows i
+      → i < length before → new.now ≡ (slice_index_or rows i d).now → (k : ℕ)
+      → now_at (slice_set rows i new) k ≡ now_at before k
+  prepared_stays d new h b same =
+      each_written (λ k o. now_of o ≡ now_at before k) rows i new
+      (subst (λ n. i < n) (sym h.long) b) (ap Some same ∙ row_stands d h b) (λ k m. h.stays k)
+
   pub prepared-more : (d new : Row) → ArePreparedTo w r q step marks before rows i
       → AreSparseRowsWide w before → i < length before → new.now ≡ (slice_index_or rows i d).now
       → true ≡ differences_fit (width_of (slice_index_or rows i d).now)
@@ -146,8 +154,7 @@ module _ (w r q : ℕ) (step : Step) (marks : Marks) (before rows : List Row) (i
       record {
         within = omega (arith, b);
         long = length-set rows i new ∙ h.long;
-        stays = each_written (λ k o. now_of o ≡ now_at before k) rows i new at (ap Some same
-            ∙ row_stands d h b) (λ k m. h.stays k);
+        stays = prepared_stays d new h b same;
         fit = fit_more h (ap (λ x. nat_eq i r || x) (fits_here d true h wide b fits)
             ∙ or-true (nat_eq i r));
         prepared =

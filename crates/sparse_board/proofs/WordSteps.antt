@@ -1,103 +1,80 @@
--- Bits of a word that is shifted, and words that are joined one after another.
-use Rattle.std.specs.Prelude.{◌≡◌, ℕ, zero, suc, ◌+◌, ◌-◌, ◌*◌, ◌/◌, ◌%◌, ◌^◌, ◌<◌, ◌≤◌, ◌⊎◌, ◌||◌, Bool, IsTrue, true, false, nat_eq, List, length, max, min, bit_and, bit_or, slice_index, slice_set, refl}
-use Rattle.std.proofs.Common.{inl, inr, sym, ◌∙◌, ap, arith, subst, true≢false, w64}
-use Rattle.std.specs.Int.{bit_at, bit_not, trailing_zeros}
+-- Bits of a word that are looked at, and words that are joined, one after another.
+use Rattle.std.specs.Prelude.{◌≡◌, ℕ, zero, suc, ◌+◌, ◌-◌, ◌<◌, ◌≤◌, ◌⊎◌, ◌||◌, Bool, true, false, nat_eq, List, length, max, min, bit_or, slice_index, slice_set, refl}
+use Rattle.std.proofs.Common.{inl, inr, sym, ◌∙◌, ap, arith, subst, true≢false}
+use Rattle.std.specs.Int.{bit_at}
 use Rattle.std.proofs.lemmas.Bool.{cases_lt}
 use Rattle.std.proofs.lemmas.List.{get_or-set_other, get_or-set_same}
-use Rattle.std.proofs.lemmas.Nat.{shr-shr, shr_le}
-use Rattle.std.proofs.lemmas.Nat.Bits.{bit_at-lt, bit_at-trailing_zeros, bit_at-zero, bit_at_above, bit_at_and, bit_at_clear_other, bit_at_clear_same, bit_at_ones, bit_at_or}
+use Rattle.std.proofs.lemmas.Nat.Bits.{bit_at-lt, bit_at-zero, bit_at_or}
 use Rattle.simplex_laws.specs.BoundedSumLaws.{same_or_other}
+use Rattle.whole_rows.specs.Bits.{IsBitCleared, IsLowestBit}
+use Rattle.whole_rows.proofs.BitSteps.{IsRest, one_zero, rest_next}
 use Rattle.sparse_board.specs.Words.{AreJoined, Clears}
 
--- ---- a word that is shifted
+-- ---- the lowest of the bits that are left
 
-shifted_bit : (word from k : ℕ) → from ≤ k → bit_at word k ≡ bit_at (word / 2 ^ from) (k - from)
-shifted_bit word from k b =
-    let e : k ≡ from + (k - from) = omega (arith, b) in
-    ap (bit_at word) e ∙ sym (ap (λ x. x % 2) (shr-shr word from (k - from)))
+-- a word whose lowest bit is known isn't 0
+pub lowest_above : (word k : ℕ) → IsLowestBit word k → 0 < word
+lowest_above zero k h = absurd (one_zero (bit_at 0 k) h.set (bit_at-zero k))
+lowest_above (suc word) k h = omega arith
 
--- where nothing is left no bit is set
-pub none_set : (word from : ℕ) → word / 2 ^ from ≡ 0 → (k : ℕ) → from ≤ k → bit_at word k ≡ 0
-none_set word from none k b =
-    shifted_bit word from k b ∙ ap (λ x. bit_at x (k - from)) none ∙ bit_at-zero (k - from)
+-- `bit` is the lowest of a word's bits that are left, or none is
+pub record IsNextBit (word rest bit : ℕ) : Type 0 where
+  pub left : IsRest word rest bit
+  pub set : bit < 64 → bit_at rest bit ≡ 1
 
--- the lowest bit of what is left
-module _ (word from : ℕ) (small : word < 2 ^ 64) (some : 0 < word / 2 ^ from) where
-  left_small : word / 2 ^ from < 2 ^ 64
-  left_small = omega (arith, small, shr_le word from)
+pub next_first : (word bit : ℕ) → ((k : ℕ) → 0 ≤ k → k < bit → bit_at word k ≡ 0)
+    → (bit < 64 → bit_at word bit ≡ 1) → IsNextBit word word bit
+next_first word bit passed set = record {
+  left = record { below = λ i b. passed i (omega arith) b; same = λ i a. refl };
+  set = set;
+}
 
-  pub lowest_set : bit_at word (from + trailing_zeros w64 (word / 2 ^ from)) ≡ 1
-  lowest_set =
-      sym (ap (λ x. x % 2) (shr-shr word from (trailing_zeros w64 (word / 2 ^ from))))
-      ∙ (bit_at-trailing_zeros w64 (word / 2 ^ from) some left_small).1
+pub next_lowest : (word rest bit : ℕ) → IsNextBit word rest bit → bit < 64 → IsLowestBit rest bit
+next_lowest word rest bit h small =
+    record { within = small; set = h.set small; below = h.left.below }
 
-  pub lowest_within : from + trailing_zeros w64 (word / 2 ^ from) < 64
-  lowest_within = by_order (cases_lt (from + trailing_zeros w64 (word / 2 ^ from)) 64)
-    where
-      apart_lem : (x : ℕ) → x ≡ 0 → x ≡ 1 → ⊥
-      apart_lem x e f = omega (arith, e, f)
+-- the bit that comes after it
+pub record IsBitAfter (word bit left next : ℕ) : Type 0 where
+  pub after : bit < next
+  pub passed : (k : ℕ) → bit < k → k < next → bit_at word k ≡ 0
+  pub next_bit : IsNextBit word left next
 
-      by_order : (from + trailing_zeros w64 (word / 2 ^ from) < 64)
-          ⊎ (64 ≤ from + trailing_zeros w64 (word / 2 ^ from))
-          → from + trailing_zeros w64 (word / 2 ^ from) < 64
-      by_order (inl b) = b
-      by_order (inr b) = absurd (apart_lem _ (bit_at_above word 64 _ small b) lowest_set)
-
-  pub lowest_passed : (k : ℕ) → from ≤ k → k < from + trailing_zeros w64 (word / 2 ^ from)
-      → bit_at word k ≡ 0
-  lowest_passed k f b =
-      shifted_bit word from k f
-      ∙ (bit_at-trailing_zeros w64 (word / 2 ^ from) some left_small).2 (k - from)
-      (below_lem k from (trailing_zeros w64 (word / 2 ^ from)) f b)
-    where
-      below_lem : (k from n : ℕ) → from ≤ k → k < from + n → k - from < n
-      below_lem k from n f b = omega (arith, f, b)
-
--- ---- a bit that is cleared where that is asked for
-
-clears_here_is : (word m k : ℕ) → k < 64 → m ≡ 1
-    → bit_at (bit_and word (bit_not w64 (m * 2 ^ k % 2 ^ 64))) k ≡ 0
-clears_here_is word m k within e =
-    ap (λ x. bit_at (bit_and word (bit_not w64 (x * 2 ^ k % 2 ^ 64))) k) e
-    ∙ bit_at_clear_same w64 word k within
-
-clears_none_is : (word m k : ℕ) → m ≡ 0 → (i : ℕ) → i < 64
-    → bit_at (bit_and word (bit_not w64 (m * 2 ^ k % 2 ^ 64))) i ≡ bit_at word i
-clears_none_is word m k e i b =
-    ap (λ x. bit_at (bit_and word (bit_not w64 x)) i) (zero_lem m (2 ^ k) e)
-    ∙ bit_at_and word (bit_not w64 0) i
-    ∙ ap (min (bit_at word i)) (bit_at_ones 64 i b)
-    ∙ least_lem (bit_at word i) (bit_at-lt word i)
+pub bit_cleared : (word rest bit : ℕ) → IsNextBit word rest bit → bit < 64 → (left next : ℕ)
+    → ((k : ℕ) → IsLowestBit rest k → IsBitCleared k rest left)
+    → ((k : ℕ) → 0 ≤ k → k < next → bit_at left k ≡ 0) → (next < 64 → bit_at left next ≡ 1)
+    → IsBitAfter word bit left next
+bit_cleared word rest bit h small left next cleared passed set = record {
+  after = after_lem;
+  passed = λ k a b. sym (rest_lem.same k (omega (arith, a))) ∙ passed k (omega arith) b;
+  next_bit = record {
+    left = record {
+      below = λ i b. passed i (omega arith) b;
+      same = λ i a. rest_lem.same i (order_lem bit next i after_lem a);
+    };
+    set = set;
+  };
+}
   where
-    zero_lem : (m p : ℕ) → m ≡ 0 → m * p % 2 ^ 64 ≡ 0
-    zero_lem m p e = ap (λ x. x * p % 2 ^ 64) e ∙ none_lem p
+    order_lem : (bit next i : ℕ) → bit < next → next ≤ i → bit + 1 ≤ i
+    order_lem bit next i a b = omega (arith, a, b)
+
+    small_lem : (bit next : ℕ) → next ≤ bit → bit < 64 → next < 64
+    small_lem bit next a b = omega (arith, a, b)
+
+    low : IsLowestBit rest bit
+    low = next_lowest word rest bit h small
+
+    rest_lem : IsRest word left (bit + 1)
+    rest_lem = rest_next word rest bit bit h.left low left (cleared bit low)
+
+    after_lem : bit < next
+    after_lem = by_order (cases_lt bit next)
       where
-        none_lem : (p : ℕ) → 0 * p % 2 ^ 64 ≡ 0
-        none_lem p = omega arith
-
-    least_lem : (x : ℕ) → x < 2 → min x 1 ≡ x
-    least_lem x h = omega (arith, h)
-
-module _ (word m k : ℕ) (within : k < 64) (clears : Bool) (one : IsTrue clears → m ≡ 1)
-    (none : clears ≡ false → m ≡ 0) where
-  pub clears_here : IsTrue clears
-      → bit_at (bit_and word (bit_not w64 (m * 2 ^ k % 2 ^ 64))) k ≡ 0
-  clears_here t = clears_here_is word m k within (one t)
-
-  pub clears_none : clears ≡ false
-      → bit_at (bit_and word (bit_not w64 (m * 2 ^ k % 2 ^ 64))) k ≡ bit_at word k
-  clears_none e = clears_none_is word m k (none e) k within
-
-  pub clears_others : (i : ℕ) → i < 64 → ¬ (i ≡ k)
-      → bit_at (bit_and word (bit_not w64 (m * 2 ^ k % 2 ^ 64))) i ≡ bit_at word i
-  clears_others i b apart = by_test clears refl
-    where
-      by_test : (t : Bool) → clears ≡ t
-          → bit_at (bit_and word (bit_not w64 (m * 2 ^ k % 2 ^ 64))) i ≡ bit_at word i
-      by_test true e =
-          ap (λ x. bit_at (bit_and word (bit_not w64 (x * 2 ^ k % 2 ^ 64))) i) (one e)
-          ∙ bit_at_clear_other w64 word k within i b apart
-      by_test false e = clears_none_is word m k (none e) i b
+        by_order : (bit < next) ⊎ (next ≤ bit) → bit < next
+        by_order (inl b) = b
+        by_order (inr b) =
+            absurd (one_zero (bit_at left next) (set (small_lem bit next b small))
+            (rest_lem.below next (omega (arith, b))))
 
 -- ---- bits that are cleared one after another
 
@@ -110,9 +87,6 @@ pub bit_one : (x : ℕ) → x < 2 → nat_eq x 1 ≡ true → x ≡ 1
 bit_one zero b e = absurd (true≢false (sym e))
 bit_one (suc zero) b e = refl
 bit_one (suc (suc x)) b e = absurd (omega (arith, b))
-
-one_zero : (x : ℕ) → x ≡ 1 → x ≡ 0 → ⊥
-one_zero x e f = omega (arith, e, f)
 
 -- of the bits below `bit` only those of rows with P are cleared, and the others stay
 pub record AreLookedTo (P : ℕ → Type 0) (n start word kept bit : ℕ) : Type 0 where

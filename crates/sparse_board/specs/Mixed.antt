@@ -1,5 +1,5 @@
 -- What a row of whole numbers or of fractions stands for.
-use Rattle.std.specs.Prelude.{◌≡◌, ℕ, ◌*◌, ◌/◌, ◌^◌, ◌<◌, ◌≤◌, true, false, List, length, if◌then◌else◌, ℤ, pos, unsigned_abs}
+use Rattle.std.specs.Prelude.{◌≡◌, ℕ, ◌^◌, ◌<◌, true, false, List, if◌then◌else◌, ℤ, pos}
 use Rattle.std.specs.Int.{◌∣◌}
 use Rattle.ratio_core.specs.Rational.{Rational, ◌*ℚ◌, ◌-ℚ◌}
 use Rattle.tableau_core.specs.Row.{cell}
@@ -7,7 +7,6 @@ use Rattle.whole_rows.specs.Rows as whole
 use Rattle.whole_rows.specs.declared.narrow_row.NarrowRow.{NarrowRow}
 use Rattle.sparse_board.specs.declared.mixed_row.MixedRow.{MixedRow}
 use Rattle.sparse_board.specs.declared.step.Step.{Step}
-use Rattle.sparse_board.specs.declared.narrowing.Shape.{Shape}
 use Rattle.sparse_board.specs.Numbers as sparse
 
 -- how many columns there are
@@ -55,10 +54,3 @@ pub record IsDenominator (values : List Rational) (n den : ℕ) : Type 0 where
   pub above : 0 < den
   pub small : den < 2 ^ 63
   pub divides : (k : ℕ) → k < n → (cell values k).den ∣ den
-
--- a denominator of the numbers, and a bound of their numerators
-pub record IsShape (values : List Rational) (shape : Shape) : Type 0 where
-  pub denominator : IsDenominator values (length values) shape.den
-  pub small : shape.bound < 2 ^ 63
-  pub within : (k : ℕ) → k < length values →
-      unsigned_abs (cell values k).num * (shape.den / (cell values k).den) ≤ shape.bound

@@ -15,10 +15,10 @@ ghost use Rattle.whole_rows.specs.Rows as whole;
 use crate::marks::Marks;
 use crate::mixed_row::MixedRow;
 use crate::row::Row;
-use crate::words::{bit_after, next_bit, without_bit_if, word_end};
+use crate::words::word_end;
 use std::cmp::Ordering;
 use tableau_core::is_positive;
-use whole_rows::{has_positive, is_before};
+use whole_rows::{has_positive, is_before, next_bit, without_bit_if, without_lowest};
 
 // The row of least ratio of its right side to its positive entry of column q, and of these that of
 // least basic column. The right sides stand in column `side`. A row that isn't marked in column q
@@ -60,12 +60,14 @@ fn positive_bits(rows: &[Row], side: usize, q: usize, start: usize, word: u64) -
 {
     let mut kept = word;
     let end = word_end(rows.len() - start);
-    let mut bit = next_bit(word, 0);
+    let mut rest = word;
+    let mut bit = next_bit(rest, 0);
     while bit < end {
         let i = start + bit;
         let is_positive = is_entry_positive(&rows[i].now, q);
         kept = without_bit_if(kept, bit, !is_positive);
-        bit = bit_after(word, bit);
+        rest = without_lowest(rest);
+        bit = next_bit(rest, 0);
     }
     kept
 }
@@ -92,13 +94,15 @@ fn leaving_in(
 {
     let mut best = first;
     let end = word_end(rows.len() - start);
-    let mut bit = next_bit(word, 0);
+    let mut rest = word;
+    let mut bit = next_bit(rest, 0);
     while bit < end {
         let i = start + bit;
         if leaves_first(rows, basis, side, q, i, best) {
             best = Some(i);
         }
-        bit = bit_after(word, bit);
+        rest = without_lowest(rest);
+        bit = next_bit(rest, 0);
     }
     best
 }

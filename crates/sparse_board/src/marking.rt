@@ -1,12 +1,12 @@
 //! Which numbers of the rows may differ from 0: a row isn't looked at for another.
-ghost use Rattle.std.specs.Prelude.{◌≡◌, ◌+◌, ◌<◌, ◌≤◌, ◌^◌, ℕ, IsTrue, IfOk, false, length, true};
+ghost use Rattle.std.specs.Prelude.{◌≡◌, ◌+◌, ◌*◌, ◌<◌, ◌≤◌, ◌^◌, ℕ, IsTrue, IfOk, false, length, true};
 ghost use Rattle.ratio_core.specs.Rational.{zero_ℚ};
 ghost use Rattle.sparse_board.specs.Mixed as mixed;
 ghost use Rattle.sparse_board.specs.Numbers.{number_of, width_of};
 ghost use Rattle.sparse_board.specs.Rows.{AreSparseRowsWide, number_in_row};
 ghost use Rattle.sparse_board.specs.Words.{Clears};
 ghost use Rattle.sparse_board.specs.Marks.{SameSizes, has};
-ghost use Rattle.sparse_board.specs.Marking.{AreNumbersMarked, KeepMarks, MarksNumbers, MarksRow, MarksUnits};
+ghost use Rattle.sparse_board.specs.Marking.{AreBitsMarked, AreNumbersMarked, KeepMarks, MarksNumbers, MarksRow, MarksUnits, MarksWord};
 ghost use Rattle.whole_rows.specs.Rows as whole;
 
 use crate::marks::Marks;
@@ -14,9 +14,11 @@ use crate::mixed_row::MixedRow;
 use crate::row::Row;
 use crate::sparse_row::SparseRow;
 use crate::step::Step;
-use crate::words::{bit_after, next_bit, without_bit_if, word_end};
+use crate::words::word_end;
 use std::alloc::{AllocError, Global};
-use whole_rows::{NarrowRow, NarrowStep, is_nonzero_at};
+use whole_rows::{
+    NarrowRow, NarrowStep, is_nonzero_at, lowest, next_bit, without_bit_if, without_lowest,
+};
 
 // The marks of the numbers of rows with this number of columns.
 pub(crate) fn marks_of(alloc: Global, rows: &[Row], width: usize) -> Result<Marks, AllocError>
@@ -60,29 +62,45 @@ fn mark_entries(row: &SparseRow, i: usize, marks: &mut Marks)
     }
 }
 
-// The same of whole numbers in this number of columns.
+// The same of whole numbers in this number of columns: of those that are marked in their row.
 fn mark_numbers(row: &NarrowRow, i: usize, width: usize, marks: &mut Marks)
     requires row { i < marks.old.rows }
     requires columns { marks.old.columns ≡ width }
+    requires wide { width ≤ whole.width_of row.now + 1 }
     ensures marked { MarksNumbers width (whole.number_of row.now) i marks.new }
     ensures kept { KeepMarks marks.old marks.new }
 {
-    let mut j = row.next_marked(0);
-    while j < width {
-        mark_number(row, j, i, marks);
-        j = row.next_marked(j + 1);
+    for k in 0..row.marks.len() {
+        mark_bits(row.marks[k], k * 64, i, width, marks);
+    }
+    mark_below(row.numbers.len(), i, width, marks);
+}
+
+// Marks the columns of a word's bits, whose first is of column `start`.
+#[inline]
+fn mark_bits(word: u64, start: usize, i: usize, width: usize, marks: &mut Marks)
+    requires few { start < 2 ^ 63 }
+    requires row { i < marks.old.rows }
+    requires columns { marks.old.columns ≡ width }
+    ensures marked { AreBitsMarked word start i width marks.new }
+    ensures kept { KeepMarks marks.old marks.new }
+{
+    let mut rest = word;
+    while rest != 0 {
+        mark_below(start + lowest(rest), i, width, marks);
+        rest = without_lowest(rest);
     }
 }
 
-// The same of the number of column j.
+// Marks column j if it is one of this number of columns.
 #[inline]
-fn mark_number(row: &NarrowRow, j: usize, i: usize, marks: &mut Marks)
+fn mark_below(j: usize, i: usize, width: usize, marks: &mut Marks)
     requires row { i < marks.old.rows }
-    requires column { j < marks.old.columns }
-    ensures marked { has marks.new j i ≡ false → whole.number_of row.now j ≡ zero_ℚ }
+    requires columns { marks.old.columns ≡ width }
+    ensures marked { j < width → has marks.new j i ≡ true }
     ensures kept { KeepMarks marks.old marks.new }
 {
-    if is_nonzero_at(row, j) {
+    if j < width {
         marks.set(j, i);
     }
 }
@@ -124,14 +142,16 @@ fn nonzero_bits(rows: &[Row], q: u32, start: usize, word: u64) -> Looked
     let mut kept = word;
     let mut has_wide = false;
     let end = word_end(rows.len() - start);
-    let mut bit = next_bit(word, 0);
+    let mut rest = word;
+    let mut bit = next_bit(rest, 0);
     while bit < end {
         let i = start + bit;
         let row = &rows[i].now;
         let is_zero = is_zero_at(row, q);
         kept = without_bit_if(kept, bit, is_zero);
         has_wide = has_wide | (row.is_wide & !is_zero);
-        bit = bit_after(word, bit);
+        rest = without_lowest(rest);
+        bit = next_bit(rest, 0);
     }
     Looked { kept, has_wide }
 }
@@ -181,8 +201,27 @@ fn mark_narrow(step: &NarrowStep, q: u32, marks: &mut Marks)
     ensures marked { MarksUnits (whole.width_of step.now.row + 1) q
         (whole.number_of step.now.row) marks.old marks.new }
 {
-    for k in 0..step.used {
-        marks.join(q as usize, step.columns[k] as usize);
+    for k in 0..marks.stride() {
+        let word = marks.word(q as usize, k);
+        mark_word(step, k, word, marks);
     }
-    marks.join(q as usize, step.row.numbers.len());
+}
+
+// The same of the rows of a word's bits, which is the k-th of a column: a word of 64 rows without one
+// is passed over at once.
+#[inline]
+fn mark_word(step: &NarrowStep, k: usize, word: u64, marks: &mut Marks)
+    requires columns { marks.old.columns ≡ whole.width_of step.now.row + 1 }
+    requires place { k * 64 ≤ marks.old.rows }
+    ensures kept { KeepMarks marks.old marks.new }
+    ensures marked { MarksWord (whole.width_of step.now.row + 1) k word
+        (whole.number_of step.now.row) marks.new }
+{
+    if word == 0 {
+        return;
+    }
+    for n in 0..step.used {
+        marks.join_word(step.columns[n] as usize, k, word);
+    }
+    marks.join_word(step.row.numbers.len(), k, word);
 }

@@ -1,8 +1,9 @@
 //! Marks of rows in columns.
 ghost use Rattle.std.specs.Prelude.{◌≡◌, ◌+◌, ◌*◌, ◌/◌, ◌^◌, ◌<◌, vec_len};
 
-use crate::words::{has_bit, join_words, next_bit, with_bit, zeros_from};
+use crate::words::{has_bit, join_words};
 use std::alloc::{AllocError, Global};
+use whole_rows::{lowest, with_bit, without_lowest};
 
 // The rows of a column are bits of words: 64 rows without a mark are passed over at once, and two
 // columns are joined word by word.
@@ -18,9 +19,17 @@ pub(crate) struct Marks {
     ghost few: { rows < 2 ^ 32 },
 }
 
+// A row that is marked in a column, and the bits of its word from it on, by which the next one is
+// found.
+#[derive(Clone, Copy, Drop)]
+pub(crate) struct MarkedRow {
+    pub(crate) row: usize,
+    rest: u64,
+}
+
 impl Marks {
-    ghost use Rattle.std.specs.Prelude.{◌≤◌, ℕ, true, false, IfOk};
-    ghost use Rattle.sparse_board.specs.Marks.{AreRowsUnmarked, IsJoined, IsPut, IsWord, IsWordPut, has};
+    ghost use Rattle.std.specs.Prelude.{◌≤◌, ℕ, true, false, IfOk, min};
+    ghost use Rattle.sparse_board.specs.Marks.{AreRowsUnmarked, IsJoined, IsMarkedRow, IsPut, IsWord, IsWordJoined, IsWordPut, has};
 
     // No marks, in this number of columns of this number of rows.
     pub(crate) fn none(alloc: Global, columns: usize, rows: usize) -> Result<Marks, AllocError>
@@ -81,6 +90,18 @@ impl Marks {
         self.words[place] = word;
     }
 
+    // Marks a column in the rows of a word's bits, which is the k-th of a column.
+    #[inline]
+    pub(crate) fn join_word(&mut self, column: usize, k: usize, word: u64)
+        requires column { column < self.old.columns }
+        requires place { k * 64 ≤ self.old.rows }
+        ensures { IsWordJoined column k word self.old self.new }
+    {
+        let left = self.word(column, k);
+        let joined = left | word;
+        self.set_word(column, k, joined);
+    }
+
     // Marks a row in a column.
     #[inline]
     pub(crate) fn set(&mut self, column: usize, row: usize)
@@ -104,46 +125,61 @@ impl Marks {
         join_words(&mut self.words, source, target, self.stride);
     }
 
-    // The first row from this one on that is marked in the column, or how many rows there are. Mostly
-    // it is of the same word.
+    // The first row that is marked in the column, or how many rows there are.
     #[inline]
-    pub(crate) fn next_row(&self, column: usize, from: usize) -> usize
-        requires column { column < self.now.columns }
-        requires from { from ≤ self.now.rows }
-        ensures from { from ≤ result }
-        ensures within { result ≤ self.now.rows }
-        ensures passed { AreRowsUnmarked self.now column from result }
-        ensures marked { result < self.now.rows → has self.now column result ≡ true }
+    pub(crate) fn first_row(&self, column: usize) -> MarkedRow
+        requires { column < self.now.columns }
+        ensures found { IsMarkedRow self.now column result }
+        ensures within { result.row ≤ self.now.rows }
+        ensures passed { AreRowsUnmarked self.now column 0 result.row }
     {
-        let place = column * self.stride + from / 64;
-        let zeros = zeros_from(self.words[place], from % 64);
-        if zeros < 64 {
-            let row = from + zeros;
-            return row.min(self.rows);
-        }
-        self.next_row_on(column, from)
+        self.row_from(column, 0)
     }
 
-    // The same word by word.
-    #[inline(never)]
-    fn next_row_on(&self, column: usize, from: usize) -> usize
+    // The next one. Mostly it is of the same word.
+    #[inline(always)]
+    pub(crate) fn row_after(&self, column: usize, found: MarkedRow) -> MarkedRow
         requires column { column < self.now.columns }
-        requires from { from ≤ self.now.rows }
-        ensures from { from ≤ result }
-        ensures within { result ≤ self.now.rows }
-        ensures passed { AreRowsUnmarked self.now column from result }
-        ensures marked { result < self.now.rows → has self.now column result ≡ true }
+        requires found { IsMarkedRow self.now column found }
+        requires row { found.row < self.now.rows }
+        ensures found { IsMarkedRow self.now column result }
+        ensures after { found.row < result.row }
+        ensures within { result.row ≤ self.now.rows }
+        ensures passed { AreRowsUnmarked self.now column (found.row + 1) result.row }
     {
-        let mut low = from % 64;
-        for k in from / 64..self.stride {
-            let place = column * self.stride + k;
-            let bit = next_bit(self.words[place], low);
-            if bit < 64 {
-                let row = k * 64 + bit;
-                return row.min(self.rows);
-            }
-            low = 0;
+        let rest = without_lowest(found.rest);
+        if rest == 0 {
+            return self.row_from(column, found.row / 64 + 1);
         }
-        self.rows
+        let row = found.row / 64 * 64 + lowest(rest);
+        MarkedRow {
+            row: row.min(self.rows),
+            rest,
+        }
+    }
+
+    // The first one of the words from this one on.
+    #[inline(never)]
+    fn row_from(&self, column: usize, from: usize) -> MarkedRow
+        requires { column < self.now.columns }
+        ensures found { IsMarkedRow self.now column result }
+        ensures from { min (from * 64) self.now.rows ≤ result.row }
+        ensures within { result.row ≤ self.now.rows }
+        ensures passed { AreRowsUnmarked self.now column (from * 64) result.row }
+    {
+        for k in from..self.stride {
+            let rest = self.word(column, k);
+            if rest > 0 {
+                let row = k * 64 + lowest(rest);
+                return MarkedRow {
+                    row: row.min(self.rows),
+                    rest,
+                };
+            }
+        }
+        MarkedRow {
+            row: self.rows,
+            rest: 0,
+        }
     }
 }

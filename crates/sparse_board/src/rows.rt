@@ -31,13 +31,15 @@ pub(crate) fn prepare_rows(
     ensures fits { IsTest (rows_fit step.now.width r q (units_of step.now) rows.old) result }
     ensures ok { OnOk result (AreMarkedPrepared r q step.now marks.now rows.new) }
 {
-    let mut i = marks.next_row(q as usize, 0);
+    let mut found = marks.first_row(q as usize);
+    let mut i = found.row;
     while i < rows.len() {
         if i != r {
             let row = &mut rows[i];
             row.prepare(q, step)?;
         }
-        i = marks.next_row(q as usize, i + 1);
+        found = marks.row_after(q as usize, found);
+        i = found.row;
     }
     Ok(())
 }
@@ -67,13 +69,15 @@ fn ready_rows(rows: &mut [Row], r: usize, q: u32, step: &Step, marks: &Marks)
     requires ready { AreMarkedPrepared r q step.now marks.now rows.old }
     ensures { AreChanged (IsMixedReady q step.now) r q marks.now rows.old rows.new }
 {
-    let mut i = marks.next_row(q as usize, 0);
+    let mut found = marks.first_row(q as usize);
+    let mut i = found.row;
     while i < rows.len() {
         if i != r {
             let row = &mut rows[i];
             row.ready(q, step);
         }
-        i = marks.next_row(q as usize, i + 1);
+        found = marks.row_after(q as usize, found);
+        i = found.row;
     }
 }
 
@@ -84,12 +88,14 @@ fn finish_rows(rows: &mut [Row], r: usize, q: u32, step: &Step, marks: &Marks)
     requires left { AreLeft r q step.now marks.now rows.old }
     ensures { AreChanged (IsFinished step.now) r q marks.now rows.old rows.new }
 {
-    let mut i = marks.next_row(q as usize, 0);
+    let mut found = marks.first_row(q as usize);
+    let mut i = found.row;
     while i < rows.len() {
         if i != r {
             let row = &mut rows[i];
             row.finish(step);
         }
-        i = marks.next_row(q as usize, i + 1);
+        found = marks.row_after(q as usize, found);
+        i = found.row;
     }
 }

@@ -1,5 +1,5 @@
 //! Bits of words.
-ghost use Rattle.std.specs.Prelude.{◌≡◌, ◌≢◌, ◌+◌, ◌<◌, ◌≤◌, ◌⊎◌, ℕ, IsTrue, false, length, min, nat_eq};
+ghost use Rattle.std.specs.Prelude.{◌≡◌, ◌+◌, ◌<◌, ◌≤◌, ◌⊎◌, length, min, nat_eq};
 ghost use Rattle.std.specs.Int.{bit_at};
 ghost use Rattle.sparse_board.specs.Words.{AreJoined};
 
@@ -10,80 +10,6 @@ pub(crate) fn has_bit(word: u64, k: usize) -> bool
     ensures { result ≡ nat_eq (bit_at word k) 1 }
 {
     (word >> k) & 1 == 1
-}
-
-// The word with bit k set.
-#[inline]
-pub(crate) fn with_bit(word: u64, k: usize) -> u64
-    requires { k < 64 }
-    ensures set { bit_at result k ≡ 1 }
-    ensures others { (i : ℕ) → i ≢ k → bit_at result i ≡ bit_at word i }
-{
-    word | 1u64 << k
-}
-
-// How many bits from this one on aren't set before one that is, or 64.
-#[inline]
-pub(crate) fn zeros_from(word: u64, from: usize) -> usize
-    requires { from < 64 }
-    ensures passed { (k : ℕ) → from ≤ k → k < from + result → bit_at word k ≡ 0 }
-    ensures within { result < 64 → from + result < 64 }
-    ensures set { result < 64 → bit_at word (from + result) ≡ 1 }
-{
-    let rest = word >> from;
-    if rest == 0 {
-        return 64;
-    }
-    rest.trailing_zeros() as usize
-}
-
-// The first bit from this one on that is set, or 64.
-#[inline]
-pub(crate) fn next_bit(word: u64, from: usize) -> usize
-    requires { from < 64 }
-    ensures from { from ≤ result }
-    ensures passed { (k : ℕ) → from ≤ k → k < result → bit_at word k ≡ 0 }
-    ensures set { result < 64 → bit_at word result ≡ 1 }
-{
-    let rest = word >> from;
-    if rest == 0 {
-        return 64;
-    }
-    from + rest.trailing_zeros() as usize
-}
-
-// The first bit behind this one that is set, or 64.
-#[inline]
-pub(crate) fn bit_after(word: u64, bit: usize) -> usize
-    requires { bit < 64 }
-    ensures after { bit < result }
-    ensures passed { (k : ℕ) → bit < k → k < result → bit_at word k ≡ 0 }
-    ensures set { result < 64 → bit_at word result ≡ 1 }
-{
-    if bit == 63 {
-        return 64;
-    }
-    next_bit(word, bit + 1)
-}
-
-// The word with bit k cleared, where that is asked for: which are can't be foreseen, so no way parts.
-#[inline]
-pub(crate) fn without_bit_if(word: u64, k: usize, clears: bool) -> u64
-    requires { k < 64 }
-    ensures cleared { IsTrue clears → bit_at result k ≡ 0 }
-    ensures kept { clears ≡ false → bit_at result k ≡ bit_at word k }
-    ensures others { (i : ℕ) → i < 64 → i ≢ k → bit_at result i ≡ bit_at word i }
-{
-    word & !(bit_if(clears) << k)
-}
-
-// 1 where it is asked for.
-#[inline]
-fn bit_if(set: bool) -> u64
-    ensures one { IsTrue set → result ≡ 1 }
-    ensures none { set ≡ false → result ≡ 0 }
-{
-    if set { 1 } else { 0 }
 }
 
 // Where the bits of a word end whose rows are below this number.

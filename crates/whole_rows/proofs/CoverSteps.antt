@@ -1,56 +1,110 @@
 -- Rows whose marks are those of their numbers, after a step. The lists are given as the code has
 -- them, with equations that say what they are.
-use Rattle.std.specs.Prelude.{◌≡◌, ℕ, ◌+◌, ◌*◌, ◌/◌, ◌^◌, ◌<◌, ◌≤◌, ◌⊎◌, Bool, ◌&&◌, true, is_some, List, length, MatchOption, Option, Some, None, slice_index_or, ℤ, pos, unsigned_abs}
+use Rattle.std.specs.Prelude.{◌≡◌, ℕ, ◌+◌, ◌*◌, ◌/◌, ◌^◌, ◌<◌, ◌≤◌, ◌⊎◌, ◌&&◌, true, is_some, List, length, MatchOption, Option, Some, None, slice_index_or, slice_set, ℤ, pos, unsigned_abs}
 use Rattle.std.proofs.Common.{inl, inr, sym, ◌∙◌, ap, ap₂, arith, div-le_self, mul-le-mul_left, mul-le-mul_right, subst, subst₂, true≢false}
 use Rattle.std.proofs.lemmas.Bool.{cases_lt, eq-eqb, lt-ltb}
-use Rattle.std.proofs.lemmas.List.{get_or_default, get_or_past}
+use Rattle.std.proofs.lemmas.List.{get_or-set_other, get_or-set_same, get_or_default, get_or_past, length-set}
 use Rattle.ratio_core.specs.Gcd.{gcd}
 use Rattle.ratio_core.specs.Rational.{reduce, zero_ℚ}
 use Rattle.rational_laws.specs.Over.{over-zero_ℚ}
-use Rattle.whole_rows.specs.Blocks.{AreScaled, BlocksCover, KeepsMarks, blocks_of}
+use Rattle.simplex_laws.specs.BoundedSumLaws.{same_or_other}
+use Rattle.whole_rows.specs.ColumnMarks.{AreMarksJoined, AreScaled, MarksCover, words_of}
 use Rattle.whole_rows.specs.declared.narrow_row.NarrowRow.{NarrowRow}
-use Rattle.whole_rows.specs.Numerators.{AreDivided, AreNumeratorsMade, AreShrunk, numerator}
+use Rattle.whole_rows.specs.Numerators.{AreDivided, AreNumeratorsMade, AreNumeratorsWithin, numerator}
 use Rattle.whole_rows.specs.Rows.{can_stay, number_of, numerator_of, width_of}
-use Rattle.whole_rows.proofs.BlockSteps.{covers_divided, covers_scaled, covers_shrunk}
+use Rattle.whole_rows.proofs.DivisionSteps.{at_item, from_item, side_of}
+use Rattle.whole_rows.proofs.MarkSteps.{covers_divided, covers_scaled, joined_covers, joined_covers_step}
 
-pub scaled_covers : (row : NarrowRow) (over : ℤ) (N N' items : List ℤ) (B B' blocks : List Bool)
-    → N ≡ row.numbers.items → items ≡ N' → B ≡ row.blocks.items → blocks ≡ B' → KeepsMarks B B'
-    → AreScaled over (length N) N N' → BlocksCover blocks items
-scaled_covers row over N N' items B B' blocks N_is items_are B_is blocks_are kept scaled =
-    subst₂ BlocksCover (sym blocks_are) (sym items_are)
-    (covers_scaled over B B' N N' kept (subst₂ BlocksCover (sym B_is) (sym N_is) row.covers) scaled)
+-- the marks of a row and of a step are joined
+module _ (row step : NarrowRow) (A B B' marks : List ℕ) (A_is : A ≡ step.marks.items)
+    (B_is : B ≡ row.marks.items) (marks_are : marks ≡ B') (width : width_of step ≡ width_of row)
+    (joined : AreMarksJoined A B B') where
+  joined_is : AreMarksJoined step.marks.items row.marks.items B'
+  joined_is = subst₂ (λ a b. AreMarksJoined a b B') A_is B_is joined
 
-module _ (row : NarrowRow) (N n N' items : List ℤ) (B B' blocks : List Bool)
-    (N_is : N ≡ row.numbers.items) (items_are : items ≡ N') (B_is : B ≡ row.blocks.items)
-    (blocks_are : blocks ≡ B') (kept : KeepsMarks B B') (step_covers : BlocksCover B' n) where
-  row_covers : BlocksCover B N
-  row_covers = subst₂ BlocksCover (sym B_is) (sym N_is) row.covers
+  pub joined_row : (N : List ℤ) → MarksCover row.marks.items N → length N ≡ width_of row
+      → MarksCover marks N
+  joined_row N covers long =
+      subst (λ l. MarksCover l N) (sym marks_are)
+      (joined_covers step.marks.items row.marks.items B' joined_is N step.numbers.items covers
+      step.covers (width ∙ sym long))
 
-  pub shrunk_covers : (over : ℕ) (by : ℤ) (common : ℕ) → 0 < common
-      → AreShrunk over by n common (length N) N N' → BlocksCover blocks items
-  shrunk_covers over by common above shrunk =
-      subst₂ BlocksCover (sym blocks_are) (sym items_are)
-      (covers_shrunk over by common B B' N n N' above kept row_covers step_covers shrunk)
+  pub joined_step : MarksCover marks step.numbers.items
+  joined_step =
+      subst (λ l. MarksCover l step.numbers.items) (sym marks_are)
+      (joined_covers_step step.marks.items row.marks.items B' joined_is row.numbers.items
+      step.numbers.items row.covers step.covers width)
+
+  pub scaled_covers : (over : ℤ) (N N' items : List ℤ) → N ≡ row.numbers.items → items ≡ N'
+      → AreScaled over (length N) N N' → MarksCover marks items
+  scaled_covers over N N' items N_is items_are scaled =
+      let scaled_row : AreScaled over (width_of row) row.numbers.items N' =
+      subst (λ l. AreScaled over (length l) l N') N_is scaled in
+      subst (MarksCover marks) (sym items_are)
+      (joined_row N' (covers_scaled over row.marks.items row.numbers.items N' row.covers scaled_row)
+      scaled_row.long)
+
+-- there are as many words of marks for a step as for a row of its columns
+pub joined_long : (row step : NarrowRow) → width_of step ≡ width_of row
+    → length step.marks.items ≡ length row.marks.items
+joined_long row step width = step.marks_long ∙ ap words_of width ∙ sym row.marks_long
 
 pub divided_covers : (row : NarrowRow) (by : ℤ) (N N' items : List ℤ) → N ≡ row.numbers.items
     → items ≡ N' → ¬ (by ≡ pos 0) → AreDivided by (length N) N N'
-    → BlocksCover row.blocks.items items
+    → MarksCover row.marks.items items
 divided_covers row by N N' items N_is items_are nonzero divided =
-    subst (BlocksCover row.blocks.items) (sym items_are)
-    (covers_divided by row.blocks.items N N' nonzero
-    (subst (BlocksCover row.blocks.items) (sym N_is) row.covers) divided)
+    subst (MarksCover row.marks.items) (sym items_are)
+    (covers_divided by row.marks.items N N' nonzero
+    (subst (MarksCover row.marks.items) (sym N_is) row.covers) divided)
 
--- there are as many blocks as there were
-pub long_kept : (row : NarrowRow) (items : List ℤ) (blocks : List Bool)
-    → length blocks ≡ length row.blocks.items → length items ≡ width_of row
-    → length blocks ≡ blocks_of (length items)
-long_kept row items blocks e f = e ∙ row.blocks_long ∙ ap blocks_of (sym f)
+-- there are as many words of marks as there were
+pub long_kept : (row : NarrowRow) (items : List ℤ) (marks : List ℕ)
+    → length marks ≡ length row.marks.items → length items ≡ width_of row
+    → length marks ≡ words_of (length items)
+long_kept row items marks e f = e ∙ row.marks_long ∙ ap words_of (sym f)
 
 pub zero_number : (row : NarrowRow) (j : ℕ) → j < width_of row
     → slice_index_or row.numbers.items j (pos 0) ≡ pos 0 → number_of row j ≡ zero_ℚ
 zero_number row j b z =
     ap (λ n. reduce n row.den) (get_or_default row.numbers.items j row.side (pos 0) b ∙ z)
     ∙ sym (over-zero_ℚ row.den row.above)
+
+-- a numerator is put, and the bound is raised to its size
+module _ (row : NarrowRow) (x : ℤ) (bound : ℕ) (small : unsigned_abs x ≤ bound)
+    (more : row.bound ≤ bound) where
+  raised : (j : ℕ) → unsigned_abs (numerator_of row j) ≤ bound
+  raised j = most_lem (unsigned_abs (numerator_of row j)) row.bound bound (row.within.sizes j) more
+    where
+      most_lem : (a b c : ℕ) → a ≤ b → b ≤ c → a ≤ c
+      most_lem a b c h k = omega (arith, h, k)
+
+  item_raised : (j : ℕ) → unsigned_abs (slice_index_or row.numbers.items j (pos 0)) ≤ bound
+  item_raised =
+      at_item (λ z. unsigned_abs z ≤ bound) row.numbers.items row.side raised (omega arith)
+
+  pub side_within : AreNumeratorsWithin bound row.numbers.items x
+  side_within = record {
+    sizes = from_item (λ z. unsigned_abs z ≤ bound) row.numbers.items x (λ j b. item_raised j) small;
+  }
+
+  pub put_within : (j : ℕ) → AreNumeratorsWithin bound (slice_set row.numbers.items j x) row.side
+  put_within j = record {
+    sizes = from_item (λ z. unsigned_abs z ≤ bound) (slice_set row.numbers.items j x) row.side
+        (λ k b. same_or_other
+        (unsigned_abs (slice_index_or (slice_set row.numbers.items j x) k (pos 0)) ≤ bound) k j
+        (λ e. subst (λ z. unsigned_abs z ≤ bound) (sym (here_lem k b e)) small)
+        (λ n. subst (λ z. unsigned_abs z ≤ bound)
+        (sym (get_or-set_other row.numbers.items j k x (pos 0) n)) (item_raised k)))
+        (side_of (λ z. unsigned_abs z ≤ bound) row.numbers.items row.side raised);
+  }
+    where
+      here_lem : (k : ℕ) → k < length (slice_set row.numbers.items j x) → k ≡ j
+          → slice_index_or (slice_set row.numbers.items j x) k (pos 0) ≡ x
+      here_lem k b e =
+          ap (λ i. slice_index_or (slice_set row.numbers.items j x) i (pos 0)) e
+          ∙ get_or-set_same row.numbers.items j x (pos 0)
+          (subst (λ i. i < width_of row) e
+          (subst (λ n. k < n) (length-set row.numbers.items j x) b))
 
 -- the numerators of a row that is copied, and its right side
 pub copied_numerators : (row : NarrowRow) (old N items : List ℤ) (side : ℤ) → items ≡ N

@@ -1,5 +1,7 @@
 pub mod BitLaws
-pub mod BlockSteps
+pub mod BitSteps
+pub mod MarkSteps
+pub mod WordSteps
 pub mod RowSteps
 pub mod PlanSteps
 pub mod OnceSteps
@@ -10,6 +12,9 @@ pub mod WideSteps
 pub mod ShrinkSteps
 pub mod LongSteps
 pub mod ListedSteps
+pub mod NotingSteps
+pub mod JoiningSteps
+pub mod MeasuringSteps
 pub mod ListedDividingSteps
 pub mod CoverSteps
 pub mod CommonSteps

@@ -8,7 +8,7 @@ use Rattle.rational_laws.specs.Whole.{*ℤ_pos_one}
 use Rattle.simplex_laws.specs.BoundedSumLaws.{same_or_other}
 use Rattle.whole_rows.specs.Listed.{ListsNonzeros}
 use Rattle.whole_rows.specs.Numerators.{AreDivided, AreSized, DividesAll}
-use Rattle.whole_rows.proofs.BlockSteps.{factor_zero, zero_times}
+use Rattle.whole_rows.proofs.MarkSteps.{factor_zero, zero_times}
 use Rattle.whole_rows.proofs.ListedSteps.{sought}
 
 -- the numbers of the listed columns

@@ -7,8 +7,8 @@ use Rattle.std.proofs.lemmas.Int.{to_z-of_z, unsigned_abs-mul}
 use Rattle.std.proofs.lemmas.List.{get_or-set_other, get_or-set_same, get_or-take, length-set, length-take}
 use Rattle.rational_laws.specs.Fitting.{size_neg}
 use Rattle.simplex_laws.specs.BoundedSumLaws.{same_or_other}
-use Rattle.whole_rows.specs.Blocks.{AreScaled}
-use Rattle.whole_rows.specs.Listed.{IsLoweredAt, ListsNonzeros, lowered_once}
+use Rattle.whole_rows.specs.ColumnMarks.{AreScaled}
+use Rattle.whole_rows.specs.Listed.{IsLoweredAt, IsNotedTo, ListsNonzeros, lowered_once}
 use Rattle.whole_rows.specs.Numerators.{AreNumeratorsLowered, LoweringFits}
 use Rattle.whole_rows.specs.Over.{lowered_num}
 use Rattle.rational_laws.specs.Whole.{*ℤ_pos_one}
@@ -133,18 +133,6 @@ listed_all by columns step old new n lists long all made = record {
         ∙ lowered_once_is _ by _)
 
 -- ---- the columns that are noted
-
--- of the numbers below j those that aren't 0 are noted
-pub record IsNotedTo (numbers : List ℤ) (columns : List ℕ) (used j : ℕ) : Type 0 where
-  pub few : used ≤ j
-  pub row_end : j ≤ length numbers
-  pub room : length numbers ≤ length columns
-  pub within : (k : ℕ) → k < used → slice_index columns k < j
-  pub rising : (k l : ℕ) → k < l → l < used → slice_index columns k < slice_index columns l
-  pub nonzero : (k : ℕ) → k < used
-      → ¬ (slice_index_or numbers (slice_index columns k) (pos 0) ≡ pos 0)
-  pub found : (i : ℕ) → i < j → (slice_index_or numbers i (pos 0) ≡ pos 0)
-      ⊎ ((k : ℕ) × (k < used) × (slice_index columns k ≡ i))
 
 pub noted_none : (numbers : List ℤ) (columns : List ℕ) → length numbers ≤ length columns
     → IsNotedTo numbers columns 0 0

@@ -7,12 +7,12 @@ use Rattle.std.proofs.lemmas.Bool.{cases_lt}
 use Rattle.std.proofs.lemmas.List.{get_or_default, get_or_past}
 use Rattle.ratio_core.specs.Rational.{reduce}
 use Rattle.whole_rows.specs.declared.narrow_row.NarrowRow.{NarrowRow}
-use Rattle.whole_rows.specs.Blocks.{BlocksCover}
+use Rattle.whole_rows.specs.ColumnMarks.{MarksCover}
 use Rattle.whole_rows.specs.Listed.{lowered_once}
 use Rattle.whole_rows.specs.Numerators.{AreNumeratorsLowered, AreNumeratorsWithin, LoweringFits, numerator}
 use Rattle.whole_rows.specs.Rows.{CanLower, IsNarrowLowered, IsNarrowReady, lowered_by, number_of, numerator_of, width_of}
 use Rattle.whole_rows.proofs.BitLaws.{lowered_size}
-use Rattle.whole_rows.proofs.BlockSteps.{covers_lowered, zero_times}
+use Rattle.whole_rows.proofs.MarkSteps.{covers_lowered, zero_times}
 use Rattle.whole_rows.proofs.ListedSteps.{lowered_once_is}
 
 item_lem : (x y u v b m : ℕ) → x ≡ u → y ≡ v → x + b * y ≤ m → m < 2 ^ 63 → u * 1 + b * v < 2 ^ 63
@@ -99,12 +99,12 @@ module _ (step row : NarrowRow) (by : ℤ) (can : CanLower step row by) where
           (lowered_size (numerator_of row j) 1 by (numerator_of step j)) (can.within j);
     }
 
-    pub once_covers : BlocksCover row.blocks.items items
+    pub once_covers : MarksCover row.marks.items items
     once_covers =
-        subst (BlocksCover row.blocks.items) (sym items_are)
-        (covers_lowered 1 by row.blocks.items row.blocks.items N n N' (λ b e. e)
-        (subst (BlocksCover row.blocks.items) (sym N_is) row.covers)
-        (subst (BlocksCover row.blocks.items) (sym n_is) can.covers) lowered)
+        subst (MarksCover row.marks.items) (sym items_are)
+        (covers_lowered 1 by row.marks.items N n N'
+        (subst (MarksCover row.marks.items) (sym N_is) row.covers)
+        (subst (MarksCover row.marks.items) (sym n_is) can.covers) lowered)
 
     pub once_lowered : (j : ℕ) → reduce (numerator items side j) row.den ≡ lowered_by step row by j
     once_lowered j = ap (λ z. reduce z row.den) (once_numerator j)

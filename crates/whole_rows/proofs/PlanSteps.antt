@@ -9,7 +9,7 @@ use Rattle.ratio_core.specs.Gcd.{gcd, part_pos}
 use Rattle.ratio_core.specs.Rational.{reduce}
 use Rattle.whole_rows.specs.declared.narrow_row.NarrowRow.{NarrowRow}
 use Rattle.whole_rows.specs.declared.plan.LoweringPlan.{LoweringPlan}
-use Rattle.whole_rows.specs.Blocks.{AreScaled, BlocksCover}
+use Rattle.whole_rows.specs.ColumnMarks.{AreScaled, MarksCover}
 use Rattle.whole_rows.specs.Listed.{lowered_once}
 use Rattle.whole_rows.specs.Numerators.{AreNumeratorsWithin, numerator}
 use Rattle.whole_rows.specs.Rows.{IsLoweringPlan, IsNarrowLowered, IsNarrowReady, number_of, numerator_of, width_of}
@@ -104,7 +104,7 @@ module _ (q : ℕ) (step row : NarrowRow) (plan : LoweringPlan) (planned : IsLow
 
     pub planned_ready : (next : NarrowRow) (by : ℤ) → next.numbers.items ≡ items
         → next.side ≡ side → next.den ≡ plan.den → next.bound ≡ plan.bound
-        → BlocksCover next.blocks.items step.numbers.items → by ≡ plan.by
+        → MarksCover next.marks.items step.numbers.items → by ≡ plan.by
         → IsNarrowReady q step row next by
     planned_ready next by next_items next_side next_den next_bound covers by_is = record {
       width = width_lem;

@@ -10,4 +10,5 @@ pub mod RowLaws
 pub mod Shrinking
 pub mod Listed
 pub mod Common
-pub mod Blocks
+pub mod Bits
+pub mod ColumnMarks

@@ -74,14 +74,14 @@ abbrev pub IsMeasure : List ℤ → ℕ → ℤ → ℕ → Measure → Type 0
 IsMeasure numbers n side size measure =
     IsMeasured numbers n side size measure.common measure.greatest
 
--- each number lowered can be divided, and is small then
-pub record CanShrink (over : ℕ) (by : ℤ) (step : List ℤ) (common : ℕ) (numbers : List ℤ) : Type 0
-  where
-    pub exact : (j : ℕ) → j < length numbers → common ∣ unsigned_abs
-        (lowered_num (slice_index_or numbers j (pos 0)) over by (slice_index_or step j (pos 0)))
-    pub small : (j : ℕ) → j < length numbers → unsigned_abs
-        (lowered_num (slice_index_or numbers j (pos 0)) over by (slice_index_or step j (pos 0)))
-        / common < 2 ^ 63
+-- each number from `start` on, lowered, can be divided, and is small then
+pub record CanShrink (over : ℕ) (by : ℤ) (step : List ℤ) (common start : ℕ) (numbers : List ℤ) :
+    Type 0 where
+  pub exact : (j : ℕ) → start ≤ j → j < length numbers → common ∣ unsigned_abs
+      (lowered_num (slice_index_or numbers j (pos 0)) over by (slice_index_or step j (pos 0)))
+  pub small : (j : ℕ) → start ≤ j → j < length numbers → unsigned_abs
+      (lowered_num (slice_index_or numbers j (pos 0)) over by (slice_index_or step j (pos 0)))
+      / common < 2 ^ 63
 
 -- the first n numbers are lowered and divided, and each other is as it was
 pub record AreShrunk (over : ℕ) (by : ℤ) (step : List ℤ) (common n : ℕ) (old new : List ℤ) : Type 0

@@ -6,7 +6,7 @@ use Rattle.whole_rows.specs.declared.narrow_row.NarrowRow.{NarrowRow}
 use Rattle.std.specs.Int.{◌∣◌}
 use Rattle.whole_rows.specs.declared.plan.Division.{Division}
 use Rattle.whole_rows.specs.declared.plan.LoweringPlan.{LoweringPlan}
-use Rattle.whole_rows.specs.Blocks.{BlocksCover}
+use Rattle.whole_rows.specs.ColumnMarks.{MarksCover}
 use Rattle.whole_rows.specs.Listed.{lowered_once}
 use Rattle.whole_rows.specs.Numerators.{numerator, over_left, size_left}
 
@@ -36,7 +36,7 @@ pub record CanLower (step row : NarrowRow) (by : ℤ) : Type 0 where
   pub width : width_of step ≡ width_of row
   pub within : (j : ℕ) → unsigned_abs (numerator_of row j)
       + unsigned_abs by * unsigned_abs (numerator_of step j) ≤ row.bound
-  pub covers : BlocksCover row.blocks.items step.numbers.items
+  pub covers : MarksCover row.marks.items step.numbers.items
 
 -- each number is lowered by a multiple of the step's, but for a multiple of the numerators
 pub record IsNarrowReady (q : ℕ) (step row next : NarrowRow) (by : ℤ) : Type 0 where

@@ -2,10 +2,12 @@
 ghost use Rattle.std.specs.Prelude.{◌≡◌, ◌+◌, ◌*◌, ◌/◌, ◌<◌, ◌≤◌, ◌^◌, ◌*ℤ◌, MatchOption, int_div, pos, unsigned_abs};
 ghost use Rattle.ratio_core.specs.Gcd.{gcd};
 
+use ratio_core::narrow_divisor;
+
 // Numerators, denominators and bounds are below it.
 const END: u128 = 9223372036854775808;
 
-// The greatest common divisor, by Euclid's rule.
+// The greatest common divisor: the remainder first, which mostly is small.
 #[tactic(auto, using(ratio_core::specs::Gcd::remainders))]
 pub(crate) fn common_divisor(a: u64, b: u64) -> u64
     requires { 0 < b }
@@ -16,14 +18,7 @@ pub(crate) fn common_divisor(a: u64, b: u64) -> u64
     if b == 1 {
         return 1;
     }
-    let mut x = a;
-    let mut y = b;
-    while y != 0 {
-        let rest = x % y;
-        x = y;
-        y = rest;
-    }
-    x
+    narrow_divisor(a % b, b)
 }
 
 // A number divided by what divides it.

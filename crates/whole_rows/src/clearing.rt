@@ -1,9 +1,10 @@
 //! A list of numerators that is rebuilt.
 ghost use Rattle.std.specs.Prelude.{◌≡◌, length, pos};
-ghost use Rattle.whole_rows.specs.Blocks.{BlocksCover, blocks_of};
+ghost use Rattle.whole_rows.specs.ColumnMarks.{MarksCover, words_of};
 ghost use Rattle.whole_rows.specs.Numerators.{AreNumeratorsMade};
 ghost use Rattle.whole_rows.specs.Rows.{numerator_of};
 
+use crate::marks::mark_all;
 use crate::narrow_row::NarrowRow;
 use crate::widening::numerator;
 
@@ -17,18 +18,18 @@ pub(crate) fn clear_numbers(numbers: &mut [i64])
 }
 
 // Takes the numerators of a row, and its marks.
-pub(crate) fn copy_marked(numbers: &mut [i64], blocks: &mut [bool], row: &NarrowRow)
-    requires { length blocks.old ≡ blocks_of (length numbers.old) }
+pub(crate) fn copy_marked(numbers: &mut [i64], marks: &mut [u64], row: &NarrowRow)
+    requires { length marks.old ≡ words_of (length numbers.old) }
     ensures made { AreNumeratorsMade (numerator_of row.now)
         (length numbers.old) numbers.old numbers.new }
-    ensures covers { BlocksCover blocks.new numbers.new }
+    ensures covers { MarksCover marks.new numbers.new }
 {
     if numbers.len() == row.numbers.len() {
         numbers.copy_from_slice(&row.numbers);
-        blocks.copy_from_slice(&row.blocks);
+        marks.copy_from_slice(&row.marks);
     } else {
         copy_numbers(numbers, row);
-        blocks.fill(true);
+        mark_all(marks, numbers.len());
     }
 }
 

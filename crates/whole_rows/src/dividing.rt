@@ -68,8 +68,9 @@ fn joined(part: u64, common: u64) -> u64
     common_divisor(part, common)
 }
 
+// The greater one.
 #[inline]
-fn greater(a: u64, b: u64) -> u64
+pub(crate) fn greater(a: u64, b: u64) -> u64
     ensures left { a ≤ result }
     ensures right { b ≤ result }
     ensures small { a < 2 ^ 63 → b < 2 ^ 63 → result < 2 ^ 63 }

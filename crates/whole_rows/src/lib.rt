@@ -2,11 +2,12 @@
 #![tactic(auto)]
 
 mod arithmetic;
-mod blocks;
+mod bits;
 mod clearing;
 mod common;
 mod dividing;
 mod listed;
+mod marks;
 mod narrow_row;
 mod plan;
 mod quotients;
@@ -15,6 +16,7 @@ mod shrinking;
 mod step;
 mod widening;
 
+pub use bits::{lowest, next_bit, with_bit, without_bit_if, without_lowest};
 pub use common::{common_denominator, over_denominator};
 pub use narrow_row::NarrowRow;
 pub use ratio::{has_positive, is_before, is_negative_at, is_nonzero_at};

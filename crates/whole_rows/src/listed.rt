@@ -1,30 +1,64 @@
 //! The columns where a row isn't 0: a row is lowered there alone, which a pivot does most.
-ghost use Rattle.std.specs.Prelude.{◌≡◌, ◌≢◌, ◌<◌, ◌+◌, ◌*◌, ◌≤◌, ◌^◌, length, pos, take, unsigned_abs};
-ghost use Rattle.whole_rows.specs.Listed.{ListsNonzeros, lowered_once};
-ghost use Rattle.whole_rows.specs.Blocks.{BlocksCover, blocks_of};
+ghost use Rattle.std.specs.Prelude.{◌≡◌, ◌≢◌, ◌<◌, ◌+◌, ◌*◌, ◌≤◌, ◌^◌, length, min, pos, take, unsigned_abs};
+ghost use Rattle.whole_rows.specs.Listed.{IsNotedTo, ListsNonzeros, lowered_once};
+ghost use Rattle.whole_rows.specs.ColumnMarks.{MarksCover, WordCovers, words_of};
 ghost use Rattle.whole_rows.specs.Numerators.{AreNumeratorsLowered, LoweringFits};
 
-use crate::blocks::next_marked;
+use crate::bits::{lowest, without_bit_if, without_lowest};
+use crate::marks::WORD;
 
-// Notes the columns of the numbers that aren't 0, and tells how many there are. A column is written
-// before its number is read: which are 0 can't be foreseen.
-pub(crate) fn note_columns(numbers: &[i64], blocks: &[bool], columns: &mut [u32]) -> usize
-    requires covers { BlocksCover blocks.now numbers.now }
-    requires blocks { length blocks.now ≡ blocks_of (length numbers.now) }
+// Notes the columns of the numbers that aren't 0, and tells how many there are. The marks of zeros
+// go.
+pub(crate) fn note_columns(numbers: &[i64], marks: &mut [u64], columns: &mut [u32]) -> usize
+    requires covers { MarksCover marks.old numbers.now }
+    requires marks { length marks.old ≡ words_of (length numbers.now) }
     requires long { length numbers.now ≤ length columns.old }
     requires few { length numbers.now < 2 ^ 32 }
+    ensures long { length marks.new ≡ length marks.old }
+    ensures covers { MarksCover marks.new numbers.now }
     ensures within { result ≤ length columns.new }
     ensures lists { ListsNonzeros (take result columns.new) numbers.now }
 {
     let mut used = 0;
-    let mut j = next_marked(blocks, 0, numbers.len());
-    while j < numbers.len() {
+    for k in 0..marks.len() {
+        let noted = note_word(numbers, k * WORD, marks[k], columns, used);
+        used = noted.used;
+        marks[k] = noted.kept;
+    }
+    used
+}
+
+// How many columns are noted, and the bits of those of a word.
+#[derive(Clone, Copy, Drop)]
+struct Noted {
+    used: usize,
+    kept: u64,
+}
+
+// Notes those at the bits of a word, whose first bit is of column `start`, behind the others. A
+// column is written before its number is read: which are 0 can't be foreseen.
+#[inline]
+fn note_word(numbers: &[i64], start: usize, word: u64, columns: &mut [u32], noted: usize) -> Noted
+    requires covers { WordCovers word start numbers.now }
+    requires few { length numbers.now < 2 ^ 32 }
+    requires noted { IsNotedTo numbers.now columns.old noted start }
+    ensures noted { IsNotedTo numbers.now columns.new result.used
+        (min (start + 64) (length numbers.now)) }
+    ensures kept { WordCovers result.kept start numbers.now }
+{
+    let mut used = noted;
+    let mut kept = word;
+    let mut rest = word;
+    while rest != 0 {
+        let bit = lowest(rest);
+        let j = start + bit;
         columns[used] = j as u32;
         let count = nonzero_count(numbers[j]);
         used += count;
-        j = next_marked(blocks, j + 1, numbers.len());
+        kept = without_bit_if(kept, bit, count == 0);
+        rest = without_lowest(rest);
     }
-    used
+    Noted { used, kept }
 }
 
 // 1 for a number other than 0.

@@ -1,13 +1,13 @@
 //! A row of whole numbers over one denominator, in 64 bits.
 ghost use Rattle.std.specs.Prelude.{◌≡◌, ◌+◌, ◌/◌, ◌<◌, ◌≤◌, ◌^◌, length};
-ghost use Rattle.whole_rows.specs.Blocks.{BlocksCover, blocks_of};
+ghost use Rattle.whole_rows.specs.ColumnMarks.{MarksCover, words_of};
 ghost use Rattle.whole_rows.specs.Numerators.{AreNumeratorsWithin};
 
 use crate::arithmetic::{common_divisor, exact, multiplied, next_bound, next_den, part};
-use crate::blocks::{BLOCK, block_count, mark_blocks, next_marked, remark_blocks, scale_numbers};
 use crate::clearing::{clear_numbers, copy_marked};
-use crate::dividing::{divide_numbers, measured, quotient, with_sign};
-use crate::listed::{less, lower_listed};
+use crate::dividing::{divide_numbers, greater, measured, quotient, with_sign};
+use crate::listed::{less, lower_listed, note_columns};
+use crate::marks::{clear_marks, join_marks, mark, scale_numbers, word_count};
 use crate::plan::{Division, LongPlan, LoweringPlan};
 use crate::quotients::inverse_of;
 use crate::shrinking::{shrink_numbers, shrunk, shrunk_measure};
@@ -21,8 +21,8 @@ use std::alloc::{AllocError, Global};
 pub struct NarrowRow {
     /// The numerators by column.
     pub numbers: Vec<i64>,
-    /// Marks of the blocks of columns in which a numerator may differ from 0.
-    pub blocks: Vec<bool>,
+    /// Marks of the columns where a numerator may differ from 0, as bits of words.
+    pub marks: Vec<u64>,
     /// The numerator of the right side.
     pub side: i64,
     /// The denominator, above 0 and below 2^63.
@@ -33,13 +33,12 @@ pub struct NarrowRow {
     ghost small_den: { den < 2 ^ 63 },
     ghost small_bound: { bound < 2 ^ 63 },
     ghost within: { AreNumeratorsWithin bound numbers.items side },
-    ghost blocks_long: { length blocks.items ≡ blocks_of (length numbers.items) },
-    ghost covers: { BlocksCover blocks.items numbers.items },
+    ghost marks_long: { length marks.items ≡ words_of (length numbers.items) },
+    ghost covers: { MarksCover marks.items numbers.items },
 }
 
 impl NarrowRow {
-    ghost use Rattle.std.specs.Prelude.{◌≢◌, ℕ, IsTrue, false, is_some, pos, true, unsigned_abs, IfOk, IfSome};
-    ghost use Rattle.ratio_core.specs.Rational.{zero_ℚ};
+    ghost use Rattle.std.specs.Prelude.{◌≢◌, ℕ, IsTrue, false, is_some, map, pos, take, true, unsigned_abs, IfOk, IfSome};
     ghost use Rattle.whole_rows.specs.Listed.{ListsNonzeros};
     ghost use Rattle.whole_rows.specs.Shrinking.{IsLongPlan};
     ghost use Rattle.whole_rows.specs.Rows.{CanLower, IsDivision, IsLoweringPlan, IsNarrowDivided, IsNarrowLowered, IsNarrowReady, can_stay, lowered_by, number_of, numerator_of, stays_narrow, width_of};
@@ -49,10 +48,10 @@ impl NarrowRow {
         ensures { IfOk result (λ row. width_of row ≡ width) }
     {
         let numbers = vec![in alloc; 0i64; width]?;
-        let blocks = vec![in alloc; false; block_count(width)]?;
+        let marks = vec![in alloc; 0u64; word_count(width)]?;
         Ok(NarrowRow {
             numbers,
-            blocks,
+            marks,
             side: 0,
             den: 1,
             bound: 0,
@@ -67,58 +66,44 @@ impl NarrowRow {
             → numerator_of self.new j ≡ numerator_of row.now j }
     {
         self.side = numerator(row, self.numbers.len());
-        copy_marked(&mut self.numbers, &mut self.blocks, row);
+        copy_marked(&mut self.numbers, &mut self.marks, row);
         self.den = row.den;
         self.bound = row.bound;
     }
 
-    /// Zeros, to which numerators up to the bound are to be put.
-    pub fn clear(&mut self, den: u64, bound: u64)
+    /// Zeros over this denominator.
+    pub fn clear(&mut self, den: u64)
         requires above { 0 < den }
-        requires small_den { den < 2 ^ 63 }
-        requires small_bound { bound < 2 ^ 63 }
+        requires small { den < 2 ^ 63 }
         ensures den { self.new.den ≡ den }
-        ensures bound { self.new.bound ≡ bound }
         ensures width { width_of self.new ≡ width_of self.old }
         ensures zeros { (j : ℕ) → numerator_of self.new j ≡ pos 0 }
     {
         clear_numbers(&mut self.numbers);
-        self.blocks.fill(false);
+        clear_marks(&mut self.marks);
         self.side = 0;
         self.den = den;
-        self.bound = bound;
+        self.bound = 0;
     }
 
     /// Puts the numerator of a column; behind the columns stands the right side.
     pub fn put(&mut self, j: usize, numerator: i64)
         requires within { j ≤ width_of self.old }
-        requires small { unsigned_abs numerator ≤ self.old.bound }
+        requires small { unsigned_abs numerator < 2 ^ 63 }
         ensures den { self.new.den ≡ self.old.den }
-        ensures bound { self.new.bound ≡ self.old.bound }
         ensures width { width_of self.new ≡ width_of self.old }
         ensures here { numerator_of self.new j ≡ numerator }
         ensures elsewhere { (k : ℕ) → k ≤ width_of self.old → k ≢ j
             → numerator_of self.new k ≡ numerator_of self.old k }
     {
+        let size = numerator.unsigned_abs();
+        self.bound = greater(size, self.bound);
         if j < self.numbers.len() {
             self.numbers[j] = numerator;
-            self.blocks[j / BLOCK] = true;
+            mark(&mut self.marks, j);
         } else {
             self.side = numerator;
         }
-    }
-
-    /// The first column, from this one on, whose number may differ from 0.
-    #[inline]
-    pub fn next_marked(&self, from: usize) -> usize
-        ensures from { from ≤ result }
-        ensures zeros { (j : ℕ) → from ≤ j → j < result → number_of self.now j ≡ zero_ℚ }
-    {
-        let width = self.numbers.len();
-        if from >= width {
-            return from;
-        }
-        next_marked(&self.blocks, from, width)
     }
 
     /// Lowers the row by its number of column q times the step, or changes nothing where its
@@ -139,7 +124,7 @@ impl NarrowRow {
         if self.lower_short(step, q) {
             return true;
         }
-        self.lower_long(&step.row, &step.columns[..step.used], q)
+        self.lower_long(&step.row, &step.words[..step.words_used], q)
     }
 
     /// Brings the row over the denominator of the one that it is lowered to by its number of column
@@ -156,7 +141,7 @@ impl NarrowRow {
         if q >= width || step.row.numbers.len() != width {
             return None;
         }
-        self.bring_over(&step.row, &step.columns[..step.used], q)
+        self.bring_over(&step.row, &step.words[..step.words_used], q)
     }
 
     /// Lowers the row by a multiple of the step's numerators.
@@ -207,7 +192,7 @@ impl NarrowRow {
         ensures lowered { IsTrue result → IsNarrowLowered q step.now.row self.old self.new }
         ensures kept { result ≡ false → self.new ≡ self.old }
     {
-        let Some(by) = self.bring_over(&step.row, &step.columns[..step.used], q) else {
+        let Some(by) = self.bring_over(&step.row, &step.words[..step.words_used], q) else {
             return false;
         };
         self.lower_by(by, step);
@@ -217,10 +202,10 @@ impl NarrowRow {
     // Brings the row over the denominator of the one that it is lowered to, and marks where it may
     // differ from 0 then. Tells by what multiple of the step's numerators it is to be lowered.
     #[inline(always)]
-    fn bring_over(&mut self, step: &NarrowRow, columns: &[u32], q: usize) -> Option<i64>
+    fn bring_over(&mut self, step: &NarrowRow, words: &[u32], q: usize) -> Option<i64>
         requires column { q < width_of self.old }
         requires width { width_of step.now ≡ width_of self.old }
-        requires lists { ListsNonzeros columns.now step.now.numbers.items }
+        requires words { ListsNonzeros words.now (map pos step.now.marks.items) }
         ensures narrow { is_some result ≡ stays_narrow q step.now self.old }
         ensures ready { IfSome result (IsNarrowReady q step.now self.old self.new) }
         ensures kept { is_some result ≡ false → self.new ≡ self.old }
@@ -228,8 +213,8 @@ impl NarrowRow {
         let Some(plan) = self.plan(step, q) else {
             return None;
         };
-        scale_numbers(&mut self.numbers, &self.blocks, plan.over);
-        mark_blocks(&mut self.blocks, step, columns);
+        scale_numbers(&mut self.numbers, &self.marks, plan.over);
+        join_marks(&mut self.marks, &step.marks, words);
         self.side = multiplied(self.side, plan.over);
         self.den = plan.den;
         self.bound = plan.bound;
@@ -238,10 +223,10 @@ impl NarrowRow {
 
     // The same in 128 bits, where the row stays narrow once it is divided by what divides it.
     #[inline(never)]
-    fn lower_long(&mut self, step: &NarrowRow, columns: &[u32], q: usize) -> bool
+    fn lower_long(&mut self, step: &NarrowRow, words: &[u32], q: usize) -> bool
         requires column { q < width_of self.old }
         requires width { width_of step.now ≡ width_of self.old }
-        requires lists { ListsNonzeros columns.now step.now.numbers.items }
+        requires words { ListsNonzeros words.now (map pos step.now.marks.items) }
         ensures lowered { IsTrue result → IsNarrowLowered q step.now self.old self.new }
         ensures kept { result ≡ false → self.new ≡ self.old }
     {
@@ -249,15 +234,16 @@ impl NarrowRow {
             return false;
         };
         let inverse = inverse_of(plan.common);
+        join_marks(&mut self.marks, &step.marks, words);
         shrink_numbers(
             &mut self.numbers,
+            &self.marks,
             plan.over,
             plan.by,
             &step.numbers,
             plan.common,
             inverse,
         );
-        mark_blocks(&mut self.blocks, step, columns);
         self.side = shrunk(
             self.side,
             plan.over,
@@ -273,6 +259,7 @@ impl NarrowRow {
 
     fn long_plan(&self, step: &NarrowRow, q: usize) -> Option<LongPlan>
         requires column { q < width_of self.now }
+        requires width { width_of step.now ≡ width_of self.now }
         ensures { IfSome result (λ plan. IsLongPlan q step.now self.now plan) }
     {
         let entry = self.numbers[q];
@@ -311,9 +298,22 @@ impl NarrowRow {
         })
     }
 
+    // Notes the columns of the numerators that aren't 0, and tells how many there are. Marks of others
+    // go.
+    pub(crate) fn note(&mut self, columns: &mut [u32]) -> usize
+        requires long { width_of self.old ≤ length columns.old }
+        requires few { width_of self.old < 2 ^ 32 }
+        ensures numbers { self.new.numbers ≡ self.old.numbers }
+        ensures side { self.new.side ≡ self.old.side }
+        ensures den { self.new.den ≡ self.old.den }
+        ensures within { result ≤ length columns.new }
+        ensures lists { ListsNonzeros (take result columns.new) self.new.numbers.items }
+    {
+        note_columns(&self.numbers, &mut self.marks, columns)
+    }
+
     // Divides the row by its number of column q, in lowest terms: what divides all its numerators
-    // goes out. Those that aren't 0 are of the listed columns, before and after, and only their
-    // blocks stay marked.
+    // goes out. Those that aren't 0 are of the listed columns, before and after.
     pub(crate) fn divide(&mut self, columns: &[u32], q: usize)
         requires column { q < width_of self.old }
         requires nonzero { numerator_of self.old q ≢ pos 0 }
@@ -323,7 +323,6 @@ impl NarrowRow {
     {
         let division = self.division(columns, q);
         divide_numbers(&mut self.numbers, columns, division.by);
-        remark_blocks(&mut self.blocks, columns);
         self.side = quotient(self.side, division.by);
         self.den = division.den;
         self.bound = division.bound;

@@ -1,8 +1,8 @@
 //! The row that a pivot lowers others by.
-ghost use Rattle.std.specs.Prelude.{◌≡◌, ◌<◌, ◌≤◌, ◌^◌, length, take};
+ghost use Rattle.std.specs.Prelude.{◌≡◌, ◌<◌, ◌≤◌, ◌^◌, length, map, pos, take};
 ghost use Rattle.whole_rows.specs.Listed.{ListsNonzeros};
 
-use crate::listed::note_columns;
+use crate::marks::note_words;
 use crate::narrow_row::NarrowRow;
 use std::alloc::{AllocError, Global};
 
@@ -15,10 +15,17 @@ pub struct NarrowStep {
     pub columns: Vec<u32>,
     /// How many columns there are where the row isn't 0.
     pub used: usize,
+    /// The words of the row's marks that have one, rising, in the first places.
+    pub words: Vec<u32>,
+    /// How many words there are with a mark.
+    pub words_used: usize,
     ghost room: { length columns.items ≡ length row.numbers.items },
     ghost few: { length columns.items < 2 ^ 32 },
     ghost fits: { used ≤ length columns.items },
     ghost lists: { ListsNonzeros (take used columns.items) row.numbers.items },
+    ghost words_room: { length words.items ≡ length row.marks.items },
+    ghost words_fit: { words_used ≤ length words.items },
+    ghost words_list: { ListsNonzeros (take words_used words.items) (map pos row.marks.items) },
 }
 
 impl NarrowStep {
@@ -31,10 +38,18 @@ impl NarrowStep {
         requires { width < 2 ^ 32 }
         ensures { IfOk result (λ step. width_of step.row ≡ width) }
     {
-        let row = NarrowRow::zeros(alloc, width)?;
+        let mut row = NarrowRow::zeros(alloc, width)?;
         let mut columns = vec![in alloc; 0u32; width]?;
-        let used = note_columns(&row.numbers, &row.blocks, &mut columns);
-        Ok(NarrowStep { row, columns, used })
+        let used = row.note(&mut columns);
+        let mut words = vec![in alloc; 0u32; row.marks.len()]?;
+        let words_used = note_words(&row.marks, &mut words);
+        Ok(NarrowStep {
+            row,
+            columns,
+            used,
+            words,
+            words_used,
+        })
     }
 
     /// Takes a row, divided by its number of column q.
@@ -47,7 +62,8 @@ impl NarrowStep {
             → number_of self.new.row j ≡ number_of row.now j /ℚ number_of row.now q }
     {
         self.row.copy(row);
-        self.used = note_columns(&self.row.numbers, &self.row.blocks, &mut self.columns);
+        self.used = self.row.note(&mut self.columns);
         self.row.divide(&self.columns[..self.used], q);
+        self.words_used = note_words(&self.row.marks, &mut self.words);
     }
 }

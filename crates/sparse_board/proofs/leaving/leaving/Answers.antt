@@ -1,4 +1,4 @@
-use Rattle.std.proofs.Common.{◌≡◌, ◌+◌, ◌<◌, ◌≤◌, ◌∙◌, None, arith, length, subst, sym, ℕ}
+use Rattle.std.proofs.Common.{◌≡◌, ◌+◌, ◌≤◌, None, arith, length, subst, ℕ}
 use Rattle.std.specs.Prelude.{◌*◌, ◌/◌, min}
 use Rattle.simplex_form.specs.Search.{best_below}
 use Rattle.sparse_board.specs.Leaving.{IsBestTo, leaves_before, may_leave}

@@ -2,8 +2,33 @@ use Rattle.std.proofs.Common.{◌≡◌, ◌+◌, ◌<◌, ◌∙◌, Some, arit
 use Rattle.std.specs.Prelude.{◌-◌, ◌≤◌, min}
 use Rattle.sparse_board.specs.Leaving.{IsBestTo}
 use Rattle.sparse_board.proofs.LeavingSteps.{best_bits, best_with}
+use Rattle.sparse_board.proofs.WordSteps.{IsBitAfter, bit_cleared, lowest_above, next_first, next_lowest}
 use Rattle.sparse_board.proofs.leaving.leaving_in.Goals as goal
-use Rattle.sparse_board.proofs.leaving.leaving_in.Goals.{then-leaves_first, else-leaves_first}
+use Rattle.sparse_board.proofs.leaving.leaving_in.Goals.{After-next_bit-bit-in-loop-bit, then-leaves_first, else-leaves_first}
+
+-- the bit that comes after the one that was looked at
+bit_lem : (c : After-next_bit-bit-in-loop-bit) → IsBitAfter c.args.word c.loop-bit.bit
+    c.without_lowest-rest.result c.next_bit-bit-in-loop-bit.result
+bit_lem c =
+    bit_cleared c.args.word c.loop-bit.rest c.loop-bit.bit c.loop-bit.invariant.next
+    (omega (arith, c.loop-bit-test.true, c.word_end-end.ensures)) c.without_lowest-rest.result
+    c.next_bit-bit-in-loop-bit.result c.without_lowest-rest.ensures.cleared
+    c.next_bit-bit-in-loop-bit.ensures.passed c.next_bit-bit-in-loop-bit.ensures.set
+
+pub without_lowest-rest-requires : goal.without_lowest-rest-requires
+without_lowest-rest-requires c =
+    lowest_above c.loop-bit.rest c.loop-bit.bit
+    (next_lowest c.args.word c.loop-bit.rest c.loop-bit.bit c.loop-bit.invariant.next
+    (omega (arith, c.loop-bit-test.true, c.word_end-end.ensures)))
+
+pub loop-bit-smaller : goal.loop-bit-smaller
+loop-bit-smaller c =
+    omega (
+      arith,
+      (bit_lem (goal.at.loop-bit-smaller c).After-next_bit-bit-in-loop-bit).after,
+      c.loop-bit-test.true,
+      c.word_end-end.ensures,
+    )
 
 none_lem : (s e : ℕ) → s ≡ s + min 0 e
 none_lem s e = omega arith
@@ -18,13 +43,16 @@ end_lem : (s b e l : ℕ) → e ≤ b → e ≡ min 64 (l - s) → s ≤ l → s
 end_lem s b e l h i w = omega (arith, h, i, w)
 
 pub loop-bit-init : goal.loop-bit-init
-loop-bit-init c =
-    best_bits c.args.rows.now c.args.basis.now c.args.side c.args.q c.args.start c.args.word 0
-    c.next_bit-bit.result c.word_end-end.result c.args.first
-    (subst (λ n. IsBestTo c.args.rows.now c.args.basis.now c.args.side c.args.q n c.args.first)
-    (none_lem c.args.start c.word_end-end.result) c.requires.first)
-    (omega arith) c.requires.start c.word_end-end.ensures c.next_bit-bit.ensures.passed
-    c.requires.others
+loop-bit-init c = record {
+  best = best_bits c.args.rows.now c.args.basis.now c.args.side c.args.q c.args.start c.args.word 0
+      c.next_bit-bit.result c.word_end-end.result c.args.first
+      (subst (λ n. IsBestTo c.args.rows.now c.args.basis.now c.args.side c.args.q n c.args.first)
+      (none_lem c.args.start c.word_end-end.result) c.requires.first)
+      (omega arith) c.requires.start c.word_end-end.ensures c.next_bit-bit.ensures.passed
+      c.requires.others;
+  next = next_first c.args.word c.next_bit-bit.result c.next_bit-bit.ensures.passed
+      c.next_bit-bit.ensures.set;
+}
 
 pub loop-bit-preserved : goal.loop-bit-preserved
 loop-bit-preserved c =
@@ -39,7 +67,7 @@ loop-bit-preserved c =
     omega (arith, c.loop-bit-test.true, c.word_end-end.ensures) in
     let before : IsBestTo rows basis side q i c.loop-bit.best =
     subst (λ n. IsBestTo rows basis side q n c.loop-bit.best)
-    (here_lem c.args.start bit end c.loop-bit-test.true) c.loop-bit.invariant in
+    (here_lem c.args.start bit end c.loop-bit-test.true) c.loop-bit.invariant.best in
     let here : IsBestTo rows basis side q (i + 1) c.if-leaves_first.best =
     elim c.if-leaves_first.branch [
       | then-leaves_first k ↦
@@ -53,16 +81,20 @@ loop-bit-preserved c =
           c.leaves_first.ensures.candidate
           (k.best-is ∙ (λ z. if sym k.if-leaves_first.false z then Some i else c.loop-bit.best))
     ] in
-    best_bits rows basis side q c.args.start c.args.word (bit + 1) c.bit_after-bit.result end
-    c.if-leaves_first.best
-    (subst (λ n. IsBestTo rows basis side q n c.if-leaves_first.best)
-    (next_lem c.args.start bit end c.loop-bit-test.true) here)
-    (omega (arith, c.bit_after-bit.ensures.after)) c.requires.start c.word_end-end.ensures
-    (λ k f t. c.bit_after-bit.ensures.passed k (omega (arith, f)) t) c.requires.others
+    let next = bit_lem (goal.at.loop-bit-preserved c).After-next_bit-bit-in-loop-bit in
+    record {
+      best = best_bits rows basis side q c.args.start c.args.word (bit + 1) c.next_bit-bit-in-loop-bit.result end
+          c.if-leaves_first.best
+          (subst (λ n. IsBestTo rows basis side q n c.if-leaves_first.best)
+          (next_lem c.args.start bit end c.loop-bit-test.true) here)
+          (omega (arith, next.after)) c.requires.start c.word_end-end.ensures
+          (λ k f t. next.passed k (omega (arith, f)) t) c.requires.others;
+      next = next.next_bit;
+    }
 
 pub returns : goal.returns
 returns c =
     subst (λ n. IsBestTo c.args.rows.now c.args.basis.now c.args.side c.args.q n c.loop-bit.best)
     (end_lem c.args.start c.loop-bit.bit c.word_end-end.result (length c.args.rows.now)
     (omega (arith, c.loop-bit-test.false)) c.word_end-end.ensures c.requires.start)
-    c.loop-bit.invariant
+    c.loop-bit.invariant.best

@@ -1,71 +1,41 @@
-use Rattle.std.proofs.Common.{◌≡◌, ◌+◌, ◌<◌, ◌∙◌, arith, slice_index, subst, sym}
-use Rattle.std.proofs.lemmas.List.{get_or_default}
-use Rattle.sparse_board.specs.Marks.{IsJoined}
-use Rattle.whole_rows.specs.Rows.{width_of}
-use Rattle.sparse_board.proofs.MarkingSteps.{listed_below, narrow_kept, narrow_marked, step_marked_more, step_marked_none}
+use Rattle.std.proofs.Common.{◌+◌, ◌<◌, ◌∙◌, arith, subst, sym}
+use Rattle.whole_rows.specs.Rows as whole
+use Rattle.sparse_board.proofs.WordMarkSteps.{words_marked_all, words_marked_more, words_marked_none}
 use Rattle.sparse_board.proofs.marking.mark_narrow.Goals as goal
-use Rattle.sparse_board.proofs.marking.mark_narrow.Goals.{After-index, After-join-2}
-
-column_is : (c : After-index) → c.index.result.now ≡ slice_index c.args.step.now.columns.items c.loop-k.k
-column_is c =
-    c.index.ensures
-    ∙ get_or_default c.args.step.now.columns.items c.loop-k.k c.index.result.now 0
-    (omega (arith, c.loop-k-test.true, c.args.step.now.fits))
 
 pub loop-k-init : goal.loop-k-init
-loop-k-init c = step_marked_none c.args.step.now.columns.items c.args.q c.args.marks.now
+loop-k-init c =
+    words_marked_none (whole.width_of c.args.step.now.row + 1) c.args.q
+    (whole.number_of c.args.step.now.row) c.args.marks.now
 
-pub join-requires-clause-from : goal.join-requires-clause-from
-join-requires-clause-from c =
+pub word-word-requires-clause-column : goal.word-word-requires-clause-column
+word-word-requires-clause-column c =
     subst (λ n. c.args.q < n) (sym (c.loop-k.invariant.keep.sizes.columns ∙ c.requires.columns))
     c.requires.column
 
-pub join-requires-clause-to : goal.join-requires-clause-to
-join-requires-clause-to c =
-    let step = c.args.step.now in
-    let below = listed_below step c.loop-k.k c.loop-k-test.true in
-    subst (λ n. c.index.result.now < n)
-    (sym (c.loop-k.invariant.keep.sizes.columns ∙ c.requires.columns))
-    (subst (λ n. n < width_of step.row + 1)
-    (sym (column_is (goal.at.join-requires-clause-to c).After-index)) (omega (arith, below)))
+pub word-word-requires-clause-place : goal.word-word-requires-clause-place
+word-word-requires-clause-place c =
+    omega (arith, c.loop-k.invariant.keep.sizes.rows, c.stride-k-end.ensures, c.loop-k-test.true)
 
-pub join-requires-2-clause-from : goal.join-requires-2-clause-from
-join-requires-2-clause-from c =
-    subst (λ n. c.args.q < n) (sym (c.loop-k.invariant.keep.sizes.columns ∙ c.requires.columns))
-    c.requires.column
+pub mark_word-requires-clause-columns : goal.mark_word-requires-clause-columns
+mark_word-requires-clause-columns c = c.loop-k.invariant.keep.sizes.columns ∙ c.requires.columns
 
-pub join-requires-2-clause-to : goal.join-requires-2-clause-to
-join-requires-2-clause-to c =
-    omega (
-      arith,
-      c.loop-k.invariant.keep.sizes.columns,
-      c.requires.columns,
-      c.len.ensures,
-      c.args.step.now.row.numbers.ok.0,
-    )
+pub mark_word-requires-clause-place : goal.mark_word-requires-clause-place
+mark_word-requires-clause-place c =
+    omega (arith, c.loop-k.invariant.keep.sizes.rows, c.stride-k-end.ensures, c.loop-k-test.true)
 
 pub loop-k-preserved : goal.loop-k-preserved
 loop-k-preserved c =
-    step_marked_more c.args.step.now.columns.items c.args.q c.args.marks.now
-    c.loop-k.marks c.join.new.self c.loop-k.k c.loop-k.invariant
-    (subst (λ j. IsJoined c.args.q j c.loop-k.marks c.join.new.self)
-    (column_is (goal.at.loop-k-preserved c).After-index) c.join.ensures)
-
--- the column of right sides is joined
-side_joined : (c : After-join-2) → IsJoined c.args.q (width_of c.args.step.now.row) c.loop-k.marks
-    c.join-2.new.self
-side_joined c =
-    subst (λ n. IsJoined c.args.q n c.loop-k.marks c.join-2.new.self)
-    (c.len.ensures ∙ c.args.step.now.row.numbers.ok.0) c.join-2.ensures
+    words_marked_more (whole.width_of c.args.step.now.row + 1) c.args.q
+    (whole.number_of c.args.step.now.row) c.args.marks.now c.loop-k.marks c.mark_word.new.marks
+    c.loop-k.k c.word-word.result c.loop-k.invariant c.word-word.ensures
+    c.mark_word.ensures.kept c.mark_word.ensures.marked
 
 pub returns-clause-kept : goal.returns-clause-kept
-returns-clause-kept c =
-    narrow_kept c.args.step.now c.args.q c.args.marks.now c.loop-k.marks c.join-2.new.self
-    c.loop-k.k (omega (arith, c.loop-k.auto.k-end, c.loop-k-test.false)) c.loop-k.invariant
-    (side_joined (goal.at.returns-clause-kept c).After-join-2)
+returns-clause-kept c = c.loop-k.invariant.keep
 
 pub returns-clause-marked : goal.returns-clause-marked
 returns-clause-marked c =
-    narrow_marked c.args.step.now c.args.q c.args.marks.now c.loop-k.marks c.join-2.new.self
-    c.loop-k.k (omega (arith, c.loop-k.auto.k-end, c.loop-k-test.false)) c.loop-k.invariant
-    (side_joined (goal.at.returns-clause-marked c).After-join-2)
+    words_marked_all (whole.width_of c.args.step.now.row + 1) c.args.q
+    (whole.number_of c.args.step.now.row) c.args.marks.now c.loop-k.marks c.loop-k.k
+    c.loop-k.invariant (omega (arith, c.stride-k-end.ensures, c.loop-k-test.false))

@@ -1,9 +1,11 @@
-use Rattle.std.proofs.Common.{◌≡◌, ◌<◌, arith, false, subst, sym, true, ◌∙◌}
+use Rattle.std.specs.Prelude.{Err, IsTrue, Ok, OnOk, Result}
+use Rattle.std.proofs.Common.{◌≡◌, ◌<◌, ap, arith, false, subst, sym, true, ◌∙◌}
+use Rattle.ratio_core.specs.Rational.{◌/ℚ◌}
 use Rattle.tableau_core.specs.BoardNumbers.{quotients_fit}
 use Rattle.tableau_core.specs.TestLaws.{costs-decide, others-refused}
 use Rattle.sparse_board.specs.Marking.{AreNumbersMarked}
 use Rattle.sparse_board.specs.Mixed.{units_of, width_of}
-use Rattle.sparse_board.specs.Rows.{number_in_row, numbers_in, rows_fit}
+use Rattle.sparse_board.specs.Rows.{number_in_row, numbers, numbers_in, rows_fit}
 use Rattle.sparse_board.proofs.TestSteps.{left_fails, refused_on, test_same}
 use Rattle.sparse_board.proofs.pivoting.prepare_pivot.Goals as goal
 
@@ -44,6 +46,23 @@ returns-clause-fits c =
     (subst (λ n. rows_fit n c.args.r c.args.q (units_of c.divide_row.new.step) rows ≡ true)
     (c.in_ok-divide_row.ensures.width ∙ c.requires.step_wide)
     c.in_ok-prepare_rows.ensures.fits)) c.prepare.ensures.fits
+
+both_ok : {T E : Type 0} (r : Result T E) (P Q R : Type 0) → (P → Q → R) → OnOk r P → OnOk r Q
+    → OnOk r R
+both_ok (Ok x) P Q R f p q = f p q
+both_ok (Err e) P Q R f p q = tt
+
+pub returns-clause-ok : goal.returns-clause-ok
+returns-clause-ok c =
+    both_ok c.prepare.result _ _ _ (λ first second. record {
+      both = c.in_ok-divide_row.ensures.both;
+      divided = λ j b. c.in_ok-divide_row.ensures.ok j
+          (subst (λ n. j < n) c.in_ok-divide_row.ensures.width b)
+          ∙ ap (λ o. numbers o j /ℚ numbers o c.args.q) (sym (c.prepare_rows.ensures.stays c.args.r));
+      others = c.in_ok-prepare_rows.ensures.ok;
+      first_ready = λ t. first (subst IsTrue c.prepare.ensures.use_stays t);
+      second_ready = second;
+    }) c.prepare.ensures.first_ready c.prepare.ensures.second_ready
 
 pub unmark_zeros-has_wide-requires-clause-column :
     goal.unmark_zeros-has_wide-requires-clause-column

@@ -1,4 +1,6 @@
-use Rattle.std.proofs.Common.{◌+◌, ◌<◌, ◌≤◌, arith, length, subst, sym}
+use Rattle.std.proofs.Common.{◌+◌, ◌<◌, ◌≤◌, arith, length, refl, subst, sym}
+use Rattle.sparse_board.specs.Marks.{AreRowsUnmarked}
+use Rattle.sparse_board.proofs.MarkSteps.{place_marked}
 use Rattle.sparse_board.specs.Lowering.{IsMixedReady}
 use Rattle.sparse_board.proofs.RowsSteps.{AreChangedTo, changed-all, changed-more, changed-none, changed-past, changed-pivot, prepared_read}
 use Rattle.sparse_board.proofs.rows.ready_rows.Goals as goal
@@ -8,13 +10,14 @@ pub loop-i-init : goal.loop-i-init
 loop-i-init c =
     let step = c.args.step.now in
     let before = c.args.rows.now in
-    let to = c.next_row-i.result in
+    let to = c.first_row-found.result.row in
     record {
       changed = changed-past (IsMixedReady c.args.q step) c.args.r c.args.q c.args.marks.now before before 0 to
           (changed-none (IsMixedReady c.args.q step) c.args.r c.args.q c.args.marks.now before) (omega arith)
-          (subst (λ n. to ≤ n) c.requires.count c.next_row-i.ensures.within)
-          c.next_row-i.ensures.passed;
-      here = λ b. c.next_row-i.ensures.marked (subst (λ n. to < n) (sym c.requires.count) b);
+          (subst (λ n. to ≤ n) c.requires.count c.first_row-found.ensures.within)
+          c.first_row-found.ensures.passed;
+      found = c.first_row-found.ensures.found;
+      place = refl;
     }
 
 pub ready-requires : goal.ready-requires
@@ -24,19 +27,30 @@ ready-requires c =
     subst (λ n. c.loop-i.i < n) c.loop-i.invariant.changed.long c.loop-i-test.true in
     prepared_read (IsMixedReady c.args.q step) c.args.r c.args.q step c.args.marks.now c.args.rows.now c.loop-i.rows c.loop-i.i
     c.index-rows-i.result c.loop-i.invariant.changed below c.if-i-r.true
-    (c.loop-i.invariant.here below) c.requires.ready
+    (place_marked c.args.marks.now c.args.q c.loop-i.i c.loop-i.found c.loop-i.invariant.found
+    c.loop-i.invariant.place (subst (λ n. c.loop-i.i < n) (sym c.requires.count) below)) c.requires.ready
 
-pub next_row-i-requires-in-loop-i-clause-from : goal.next_row-i-requires-in-loop-i-clause-from
-next_row-i-requires-in-loop-i-clause-from c =
-    omega (arith, c.requires.count, c.loop-i.invariant.changed.long, c.loop-i-test.true)
+pub row_after-found-requires-clause-found : goal.row_after-found-requires-clause-found
+row_after-found-requires-clause-found c = c.loop-i.invariant.found
+
+pub row_after-found-requires-clause-row : goal.row_after-found-requires-clause-row
+row_after-found-requires-clause-row c =
+    omega (
+      arith,
+      c.requires.count,
+      c.loop-i.invariant.changed.long,
+      c.loop-i.invariant.place,
+      c.loop-i-test.true,
+    )
 
 pub loop-i-smaller : goal.loop-i-smaller
 loop-i-smaller c =
     omega (
       arith,
       c.loop-i.invariant.changed.long,
+      c.loop-i.invariant.place,
       c.loop-i-test.true,
-      c.next_row-i-in-loop-i.ensures.from,
+      c.row_after-found.ensures.after,
     )
 
 pub loop-i-preserved : goal.loop-i-preserved
@@ -45,7 +59,7 @@ loop-i-preserved c =
     let marks = c.args.marks.now in
     let before = c.args.rows.now in
     let i = c.loop-i.i in
-    let to = c.next_row-i-in-loop-i.result in
+    let to = c.row_after-found.result.row in
     let below : i < length before =
     subst (λ n. i < n) c.loop-i.invariant.changed.long c.loop-i-test.true in
     let here : AreChangedTo (IsMixedReady c.args.q step) c.args.r c.args.q marks before c.if-i-r.rows (i + 1) =
@@ -55,7 +69,8 @@ loop-i-preserved c =
           (sym k.rows-is)
           (changed-more (IsMixedReady c.args.q step) c.args.r c.args.q marks before c.loop-i.rows i
           k.index-rows-i.result k.ready.new.self c.loop-i.invariant.changed below k.if-i-r.true
-          (c.loop-i.invariant.here below) k.ready.ensures)
+          (place_marked c.args.marks.now c.args.q c.loop-i.i c.loop-i.found c.loop-i.invariant.found
+          c.loop-i.invariant.place (subst (λ n. c.loop-i.i < n) (sym c.requires.count) below)) k.ready.ensures)
       | else-i-r k ↦
           subst (λ rows. AreChangedTo (IsMixedReady c.args.q step) c.args.r c.args.q marks before rows (i + 1))
           (sym k.rows-is)
@@ -64,11 +79,12 @@ loop-i-preserved c =
     ] in
     record {
       changed = changed-past (IsMixedReady c.args.q step) c.args.r c.args.q marks before c.if-i-r.rows (i + 1) to here
-          c.next_row-i-in-loop-i.ensures.from
-          (subst (λ n. to ≤ n) c.requires.count c.next_row-i-in-loop-i.ensures.within)
-          c.next_row-i-in-loop-i.ensures.passed;
-      here = λ b. c.next_row-i-in-loop-i.ensures.marked
-          (subst (λ n. to < n) (sym c.requires.count) b);
+          (omega (arith, c.loop-i.invariant.place, c.row_after-found.ensures.after))
+          (subst (λ n. to ≤ n) c.requires.count c.row_after-found.ensures.within)
+          (subst (λ n. AreRowsUnmarked marks c.args.q (n + 1) to) (sym c.loop-i.invariant.place)
+          c.row_after-found.ensures.passed);
+      found = c.row_after-found.ensures.found;
+      place = refl;
     }
 
 pub returns : goal.returns

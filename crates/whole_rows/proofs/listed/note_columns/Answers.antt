@@ -1,33 +1,43 @@
-use Rattle.std.proofs.Common.{◌+◌, ◌∙◌, ℤ, FitsSigned, arith, pos, rules, slice_index_or, sym, w64}
-use Rattle.std.proofs.lemmas.Int.{to_z-of_z}
-use Rattle.whole_rows.proofs.BlockSteps.{skipped_zero}
-use Rattle.whole_rows.proofs.ListedSteps.{noted_all, noted_next, noted_none, noted_skip}
+use Rattle.std.proofs.Common.{arith, length, refl, slice_index, subst}
+use Rattle.whole_rows.specs.Listed.{IsNotedTo}
+use Rattle.whole_rows.proofs.ListedSteps.{noted_all, noted_none}
+use Rattle.whole_rows.proofs.MarkSteps.{covers_word, word_covers}
+use Rattle.whole_rows.proofs.NotingSteps.{word_after, words_all, words_before}
 use Rattle.whole_rows.proofs.listed.note_columns.Goals as goal
 
-pub loop-j-init : goal.loop-j-init
-loop-j-init c =
-    noted_skip c.args.numbers.now c.args.columns.now 0 0 c.next_marked-j.result
-    (noted_none c.args.numbers.now c.args.columns.now c.requires.long) (omega arith)
-    c.next_marked-j.ensures.within
-    (skipped_zero c.args.blocks.now c.args.numbers.now 0 c.next_marked-j.result c.requires.covers
-    c.next_marked-j.ensures.unmarked)
+pub loop-k-init : goal.loop-k-init
+loop-k-init c = record {
+  noted = subst (IsNotedTo c.args.numbers.now c.args.columns.now 0) (omega arith)
+      (noted_none c.args.numbers.now c.args.columns.now c.requires.long);
+  covers = c.requires.covers;
+}
 
-pub loop-j-preserved : goal.loop-j-preserved
-loop-j-preserved c =
-    let j = c.loop-j.j in
-    let to = c.next_marked-j-in-loop-j.result in
-    let n : ℤ = slice_index_or c.args.numbers.now j (pos 0) in
-    let n_fits : FitsSigned w64 n = search rules in
-    noted_skip c.args.numbers.now _ _ (j + 1) to
-    (noted_next c.args.numbers.now c.loop-j.columns c.loop-j.used j c.nonzero_count-count.result
-    c.loop-j.invariant c.loop-j-test.true c.nonzero_count-count.ensures.few
-    (λ e. sym (to_z-of_z w64 n n_fits) ∙ c.nonzero_count-count.ensures.none e)
-    (λ e z. c.nonzero_count-count.ensures.one e (to_z-of_z w64 n n_fits ∙ z)))
-    c.next_marked-j-in-loop-j.ensures.from c.next_marked-j-in-loop-j.ensures.within
-    (skipped_zero c.args.blocks.now c.args.numbers.now (j + 1) to c.requires.covers
-    c.next_marked-j-in-loop-j.ensures.unmarked)
+pub note_word-noted-requires-clause-covers : goal.note_word-noted-requires-clause-covers
+note_word-noted-requires-clause-covers c =
+    word_covers c.loop-k.marks c.args.numbers.now c.loop-k.k (slice_index c.loop-k.marks c.loop-k.k)
+    c.loop-k.invariant.covers refl
+
+pub note_word-noted-requires-clause-noted : goal.note_word-noted-requires-clause-noted
+note_word-noted-requires-clause-noted c =
+    subst (IsNotedTo c.args.numbers.now c.loop-k.columns c.loop-k.used)
+    (words_before (length c.args.numbers.now) (length c.args.marks.now) c.loop-k.k c.requires.marks
+    c.loop-k-test.true) c.loop-k.invariant.noted
+
+pub loop-k-preserved : goal.loop-k-preserved
+loop-k-preserved c = record {
+  noted = subst (IsNotedTo c.args.numbers.now c.note_word-noted.new.columns
+      c.note_word-noted.result.used) (word_after (length c.args.numbers.now) c.loop-k.k)
+      c.note_word-noted.ensures.noted;
+  covers = covers_word c.loop-k.marks c.args.numbers.now c.loop-k.k c.note_word-noted.result.kept
+      c.loop-k.invariant.covers c.note_word-noted.ensures.kept
+      (omega (arith, c.loop-k-test.true, c.loop-k.auto.marks));
+}
+
+pub returns-clause-covers : goal.returns-clause-covers
+returns-clause-covers c = c.loop-k.invariant.covers
 
 pub returns-clause-lists : goal.returns-clause-lists
 returns-clause-lists c =
-    noted_all c.args.numbers.now c.loop-j.columns c.loop-j.used c.loop-j.j c.loop-j.invariant
-    (omega (arith, c.loop-j.invariant.row_end, c.loop-j-test.false))
+    noted_all c.args.numbers.now c.loop-k.columns c.loop-k.used _ c.loop-k.invariant.noted
+    (words_all (length c.args.numbers.now) (length c.args.marks.now) c.loop-k.k c.requires.marks
+    (omega (arith, c.loop-k-test.false)))

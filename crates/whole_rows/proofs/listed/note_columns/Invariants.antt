@@ -1,9 +1,10 @@
-use Rattle.std.specs.Prelude.{◌-◌, length}
-use Rattle.whole_rows.proofs.ListedSteps.{IsNotedTo}
+use Rattle.std.specs.Prelude.{◌*◌, length, min}
+use Rattle.whole_rows.specs.ColumnMarks.{MarksCover}
+use Rattle.whole_rows.specs.Listed.{IsNotedTo}
 use Rattle.whole_rows.proofs.listed.note_columns.Given as goal
 
-abbrev pub invariant-loop-j : goal.invariant-loop-j
-invariant-loop-j l = IsNotedTo l.numbers l.columns l.used l.j
-
-abbrev pub decreases-loop-j : goal.decreases-loop-j
-decreases-loop-j l = length l.numbers - l.j
+abbrev pub invariant-loop-k : goal.invariant-loop-k
+invariant-loop-k l = record {
+  noted : IsNotedTo l.numbers l.columns l.used (min (l.k * 64) (length l.numbers));
+  covers : MarksCover l.marks l.numbers;
+}

@@ -1,7 +1,8 @@
-use Rattle.whole_rows.specs.Shrinking.{DividesTo, IsSizedTo}
+use Rattle.std.specs.Prelude.{◌*◌}
+use Rattle.whole_rows.specs.Shrinking.{IsBelowOrSide, IsMeasuredOn}
 use Rattle.whole_rows.proofs.shrinking.measured_long.Given as goal
 
-abbrev pub invariant-loop-j : goal.invariant-loop-j
-invariant-loop-j l =
-    DividesTo l.row l.step l.over l.by l.j l.common
-    × IsSizedTo l.row l.step l.over l.by l.j l.greatest
+abbrev pub invariant-loop-k : goal.invariant-loop-k
+invariant-loop-k l =
+    IsMeasuredOn (IsBelowOrSide l.row (l.k * 64)) l.row l.step l.over l.by l.measure.common
+    l.measure.greatest

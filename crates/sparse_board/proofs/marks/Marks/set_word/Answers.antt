@@ -1,6 +1,5 @@
-use Rattle.std.proofs.Common.{◌+◌, ◌*◌, arith, refl, sym}
-use Rattle.std.proofs.lemmas.List.{get_or_read}
-use Rattle.sparse_board.proofs.MarkSteps.{item_within, word_place, word_put}
+use Rattle.std.proofs.Common.{arith, refl}
+use Rattle.sparse_board.proofs.MarkSteps.{word_place, word_put}
 use Rattle.sparse_board.proofs.marks.Marks.set_word.Goals as goal
 
 pub overflow_mul-place : goal.overflow_mul-place

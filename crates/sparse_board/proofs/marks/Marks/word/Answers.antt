@@ -1,4 +1,4 @@
-use Rattle.std.proofs.Common.{◌+◌, ◌*◌, arith, refl, sym}
+use Rattle.std.proofs.Common.{◌+◌, ◌*◌, arith}
 use Rattle.std.proofs.lemmas.List.{get_or_read}
 use Rattle.sparse_board.proofs.MarkSteps.{item_within, word_place, word_read}
 use Rattle.sparse_board.proofs.marks.Marks.word.Goals as goal

@@ -1,8 +1,8 @@
-use Rattle.std.proofs.Common.{◌∙◌, FitsSigned, ap, length, pos, refl, rules, subst, sym, w64}
+use Rattle.std.proofs.Common.{◌∙◌, FitsSigned, ap, length, map, pos, refl, rules, subst, sym, w64}
 use Rattle.std.proofs.lemmas.Int.{to_z-of_z}
 use Rattle.std.proofs.lemmas.List.{with_items_is}
-use Rattle.whole_rows.specs.Blocks.{BlocksCover}
-use Rattle.whole_rows.proofs.CoverSteps.{long_kept, scaled_covers}
+use Rattle.whole_rows.specs.Listed.{ListsNonzeros}
+use Rattle.whole_rows.proofs.CoverSteps.{joined_long, joined_step, long_kept, scaled_covers}
 use Rattle.whole_rows.proofs.PlanSteps.{planned_above, planned_ready, planned_side, planned_small, scaled_within}
 use Rattle.whole_rows.proofs.narrow_row.NarrowRow.bring_over.Goals as goal
 
@@ -34,24 +34,36 @@ invariant_of-self-clause-within c =
     (c.scale_numbers.auto.numbers ∙ c.deref_mut.ensures.len))
     (to_z-of_z w64 c.multiplied-self.result result_fits ∙ c.multiplied-self.ensures)
 
+pub join_marks-requires-clause-long : goal.join_marks-requires-clause-long
+join_marks-requires-clause-long c =
+    ap length c.deref-2.ensures.value
+    ∙ joined_long c.args.self.now c.args.step.now c.requires.width
+    ∙ sym (ap length c.deref_mut-2.ensures.value)
+
+pub join_marks-requires-clause-lists : goal.join_marks-requires-clause-lists
+join_marks-requires-clause-lists c =
+    subst (λ l. ListsNonzeros c.args.words.now (map pos l)) (sym c.deref-2.ensures.value)
+    c.requires.words
+
 pub invariant_of-self-clause-covers : goal.invariant_of-self-clause-covers
 invariant_of-self-clause-covers c =
     let row = c.args.self.now in
-    scaled_covers row (pos c.in-Some.plan.over) c.deref_mut.result.now c.scale_numbers.new.numbers
-    _ c.deref_mut-2.result.now c.mark_blocks.new.blocks _ c.deref_mut.ensures.value
+    scaled_covers row c.args.step.now c.deref-2.result.now c.deref_mut-2.result.now
+    c.join_marks.new.marks _ c.deref-2.ensures.value c.deref_mut-2.ensures.value
+    (with_items_is row.marks c.join_marks.new.marks
+    (c.join_marks.auto.marks ∙ c.deref_mut-2.ensures.len)) c.requires.width c.join_marks.ensures
+    (pos c.in-Some.plan.over) c.deref_mut.result.now c.scale_numbers.new.numbers _
+    c.deref_mut.ensures.value
     (with_items_is row.numbers c.scale_numbers.new.numbers
     (c.scale_numbers.auto.numbers ∙ c.deref_mut.ensures.len))
-    c.deref_mut-2.ensures.value
-    (with_items_is row.blocks c.mark_blocks.new.blocks
-    (c.mark_blocks.auto.blocks ∙ c.deref_mut-2.ensures.len))
-    c.mark_blocks.ensures.kept c.scale_numbers.ensures
+    c.scale_numbers.ensures
 
-pub invariant_of-self-clause-blocks_long : goal.invariant_of-self-clause-blocks_long
-invariant_of-self-clause-blocks_long c =
+pub invariant_of-self-clause-marks_long : goal.invariant_of-self-clause-marks_long
+invariant_of-self-clause-marks_long c =
     let row = c.args.self.now in
-    long_kept row _ _ (ap length (with_items_is row.blocks c.mark_blocks.new.blocks
-    (c.mark_blocks.auto.blocks ∙ c.deref_mut-2.ensures.len))
-    ∙ c.mark_blocks.auto.blocks ∙ ap length c.deref_mut-2.ensures.value)
+    long_kept row _ _ (ap length (with_items_is row.marks c.join_marks.new.marks
+    (c.join_marks.auto.marks ∙ c.deref_mut-2.ensures.len))
+    ∙ c.join_marks.auto.marks ∙ ap length c.deref_mut-2.ensures.value)
     (ap length (with_items_is row.numbers c.scale_numbers.new.numbers
     (c.scale_numbers.auto.numbers ∙ c.deref_mut.ensures.len))
     ∙ c.scale_numbers.auto.numbers ∙ ap length c.deref_mut.ensures.value)
@@ -69,7 +81,8 @@ returns-clause-ready c =
     (c.scale_numbers.auto.numbers ∙ c.deref_mut.ensures.len))
     (to_z-of_z w64 c.multiplied-self.result result_fits ∙ c.multiplied-self.ensures) _ _ refl refl
     refl refl
-    (subst (λ l. BlocksCover l c.args.step.now.numbers.items)
-    (sym (with_items_is row.blocks c.mark_blocks.new.blocks
-    (c.mark_blocks.auto.blocks ∙ c.deref_mut-2.ensures.len)))
-    c.mark_blocks.ensures.covers) (to_z-of_z w64 c.in-Some.plan.by by_fits)
+    (joined_step row c.args.step.now c.deref-2.result.now c.deref_mut-2.result.now
+    c.join_marks.new.marks _ c.deref-2.ensures.value c.deref_mut-2.ensures.value
+    (with_items_is row.marks c.join_marks.new.marks
+    (c.join_marks.auto.marks ∙ c.deref_mut-2.ensures.len)) c.requires.width c.join_marks.ensures)
+    (to_z-of_z w64 c.in-Some.plan.by by_fits)

@@ -1,7 +1,7 @@
 use Rattle.std.proofs.Common.{◌∙◌, ◌<◌, ◌≤◌, FitsSigned, ap, length, rules, of_z, subst, subst₂, sym, to_z, unsigned_abs, w64}
 use Rattle.std.proofs.lemmas.Int.{to_z-of_z}
 use Rattle.std.proofs.lemmas.List.{with_items_is}
-use Rattle.whole_rows.specs.Blocks.{BlocksCover}
+use Rattle.whole_rows.specs.ColumnMarks.{MarksCover}
 use Rattle.whole_rows.specs.Numerators.{AreNumeratorsWithin}
 use Rattle.whole_rows.proofs.CoverSteps.{copied_numerators, long_kept}
 use Rattle.whole_rows.proofs.DivisionSteps.{from_item}
@@ -28,19 +28,19 @@ invariant_of-self-clause-within c =
 
 pub invariant_of-self-clause-covers : goal.invariant_of-self-clause-covers
 invariant_of-self-clause-covers c =
-    subst₂ BlocksCover
-    (sym (with_items_is c.args.self.now.blocks c.copy_marked.new.blocks
-    (c.copy_marked.auto.blocks ∙ c.deref_mut-2.ensures.len)))
+    subst₂ MarksCover
+    (sym (with_items_is c.args.self.now.marks c.copy_marked.new.marks
+    (c.copy_marked.auto.marks ∙ c.deref_mut-2.ensures.len)))
     (sym (with_items_is c.args.self.now.numbers c.copy_marked.new.numbers
     (c.copy_marked.auto.numbers ∙ c.deref_mut.ensures.len)))
     c.copy_marked.ensures.covers
 
-pub invariant_of-self-clause-blocks_long : goal.invariant_of-self-clause-blocks_long
-invariant_of-self-clause-blocks_long c =
+pub invariant_of-self-clause-marks_long : goal.invariant_of-self-clause-marks_long
+invariant_of-self-clause-marks_long c =
     let row = c.args.self.now in
-    long_kept row _ _ (ap length (with_items_is row.blocks c.copy_marked.new.blocks
-    (c.copy_marked.auto.blocks ∙ c.deref_mut-2.ensures.len))
-    ∙ c.copy_marked.auto.blocks ∙ ap length c.deref_mut-2.ensures.value)
+    long_kept row _ _ (ap length (with_items_is row.marks c.copy_marked.new.marks
+    (c.copy_marked.auto.marks ∙ c.deref_mut-2.ensures.len))
+    ∙ c.copy_marked.auto.marks ∙ ap length c.deref_mut-2.ensures.value)
     (ap length (with_items_is row.numbers c.copy_marked.new.numbers
     (c.copy_marked.auto.numbers ∙ c.deref_mut.ensures.len))
     ∙ c.copy_marked.auto.numbers ∙ ap length c.deref_mut.ensures.value)

@@ -1,9 +1,7 @@
-use Rattle.std.proofs.Common.{◌<◌, ◌^◌, ◌∙◌, ◌*ℤ◌, ℕ, FitsSigned, ap, arith, length, pos, refl, rules, slice_index_or, subst, subst₂, sym, unsigned_abs, w64, to_z, of_z}
+use Rattle.std.proofs.Common.{◌<◌, ◌^◌, ◌∙◌, ◌*ℤ◌, ℕ, FitsSigned, ap, arith, length, pos, refl, rules, slice_index_or, subst, sym, unsigned_abs, w64, to_z, of_z}
 use Rattle.std.proofs.lemmas.Int.{to_z-of_z}
 use Rattle.std.proofs.lemmas.List.{with_items_is}
-use Rattle.whole_rows.specs.Blocks.{BlocksCover}
-use Rattle.whole_rows.proofs.BlockSteps.{column_block, listed_covers}
-use Rattle.whole_rows.proofs.CoverSteps.{long_kept}
+use Rattle.whole_rows.proofs.CoverSteps.{divided_covers, long_kept}
 use Rattle.whole_rows.proofs.ListedDividingSteps.{lists_divided}
 use Rattle.whole_rows.specs.Listed.{ListsNonzeros}
 use Rattle.whole_rows.proofs.DivisionSteps.{at_item, division_divided, division_within, exact_items, exact_side, numerator_small, side_is_lem, side_of}
@@ -79,23 +77,16 @@ lists_lem c =
     (subst (ListsNonzeros c.args.columns.now) (sym c.deref_mut.ensures.value) c.requires.lists)
     c.divide_numbers.ensures
 
-pub remark_blocks-requires : goal.remark_blocks-requires
-remark_blocks-requires c = λ k b.
-    let row = c.args.self.now in
-    column_block c.args.columns.now row.numbers.items k (length c.deref_mut-2.result.now)
-    c.requires.lists b (ap length c.deref_mut-2.ensures.value ∙ row.blocks_long)
-
 pub invariant_of-self-clause-covers : goal.invariant_of-self-clause-covers
 invariant_of-self-clause-covers c =
-    let row = c.args.self.now in
-    subst₂ BlocksCover
-    (sym (with_items_is row.blocks c.remark_blocks.new.blocks
-    (c.remark_blocks.auto.blocks ∙ c.deref_mut-2.ensures.len)))
-    (sym (with_items_is row.numbers c.divide_numbers.new.numbers
-    (c.divide_numbers.auto.numbers ∙ c.deref_mut.ensures.len)))
-    (listed_covers c.args.columns.now c.divide_numbers.new.numbers c.remark_blocks.new.blocks
-    (lists_lem (goal.at.invariant_of-self-clause-covers c).After-divide_numbers)
-    c.remark_blocks.ensures.marked)
+    let by_fits : FitsSigned w64 c.division-division.result.by = search rules in
+    divided_covers c.args.self.now (to_z w64 (of_z w64 c.division-division.result.by))
+    c.deref_mut.result.now c.divide_numbers.new.numbers _ c.deref_mut.ensures.value
+    (with_items_is c.args.self.now.numbers c.divide_numbers.new.numbers
+    (c.divide_numbers.auto.numbers ∙ c.deref_mut.ensures.len))
+    (λ z. c.division-division.ensures.nonzero
+    (sym (to_z-of_z w64 c.division-division.result.by by_fits) ∙ z))
+    c.divide_numbers.ensures
 
 pub divide_numbers-requires-clause-lists : goal.divide_numbers-requires-clause-lists
 divide_numbers-requires-clause-lists c =
@@ -108,12 +99,10 @@ returns-clause-lists c =
     (c.divide_numbers.auto.numbers ∙ c.deref_mut.ensures.len)))
     (lists_lem (goal.at.returns-clause-lists c).After-divide_numbers)
 
-pub invariant_of-self-clause-blocks_long : goal.invariant_of-self-clause-blocks_long
-invariant_of-self-clause-blocks_long c =
+pub invariant_of-self-clause-marks_long : goal.invariant_of-self-clause-marks_long
+invariant_of-self-clause-marks_long c =
     let row = c.args.self.now in
-    long_kept row _ _ (ap length (with_items_is row.blocks c.remark_blocks.new.blocks
-    (c.remark_blocks.auto.blocks ∙ c.deref_mut-2.ensures.len))
-    ∙ c.remark_blocks.auto.blocks ∙ ap length c.deref_mut-2.ensures.value)
+    long_kept row _ _ refl
     (ap length (with_items_is row.numbers c.divide_numbers.new.numbers
     (c.divide_numbers.auto.numbers ∙ c.deref_mut.ensures.len))
     ∙ c.divide_numbers.auto.numbers ∙ ap length c.deref_mut.ensures.value)

@@ -58,8 +58,8 @@ invariant_of-self-clause-covers c =
     (c.lower_listed.auto.numbers ∙ c.deref_mut.ensures.len))
     (to_z-of_z w64 c.less-self.result result_fits ∙ c.less-self.ensures)
 
-pub invariant_of-self-clause-blocks_long : goal.invariant_of-self-clause-blocks_long
-invariant_of-self-clause-blocks_long c =
+pub invariant_of-self-clause-marks_long : goal.invariant_of-self-clause-marks_long
+invariant_of-self-clause-marks_long c =
     let row = c.args.self.now in
     long_kept row _ _ refl
     (ap length (with_items_is row.numbers c.lower_listed.new.numbers
