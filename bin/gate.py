@@ -3,6 +3,7 @@
 import os
 import shutil
 import subprocess
+import sys
 
 TOP = os.path.dirname(os.path.dirname(os.path.abspath(__file__)))
 TICKS = os.sysconf("SC_CLK_TCK")
@@ -58,7 +59,7 @@ def copied(names, room):
 
 def started(room, **how):
     """Starts the gate in `room`. It proves all from nothing, unless the kit's gate keeps what it proved on this machine before."""
-    return subprocess.Popen(["rt", "ci"], cwd=room, stdin=subprocess.DEVNULL, stderr=subprocess.STDOUT, **how)
+    return subprocess.Popen([sys.executable, f"{TOP}/bin/gate"], cwd=room, stdin=subprocess.DEVNULL, stderr=subprocess.STDOUT, **how)
 
 
 def processes():

@@ -34,7 +34,7 @@ class Build(unittest.TestCase):
         self.addCleanup(room.cleanup)
         self.top, self.went = f"{room.name}/top", f"{room.name}/went"
         os.makedirs(f"{self.top}/bin")
-        for name in ("moi_edit", "run_program", "build_program", "gate.py"):
+        for name in ("moi_edit", "run_program", "build_program", "gate", "gate.py"):
             shutil.copy(f"{BIN}/{name}", f"{self.top}/bin")
         self.write("crates.txt", "# all: two crates\nlow: thiserror\nmoi_edit: low\nother: low\n")
         self.write("HANDLES", "Handles allowed: none.\n")
