@@ -5,6 +5,7 @@ use aff_core::Sense;
 use set_core::Set;
 use solver_store::{LeafObjective, LeafRow, LeafVar, SolverAff};
 
+// Sets first: they stand in the row itself, and terms in memory of their own.
 pub(crate) fn same_row(one: &LeafRow, other: &LeafRow) -> bool
     ensures { MatchBool result (one.now ≡ other.now) (one.now ≢ other.now) }
 {
@@ -22,14 +23,14 @@ pub(crate) fn same_row(one: &LeafRow, other: &LeafRow) -> bool
                 func: f,
                 set: another,
             },
-        ) => same_function(func, f) && same_set(set, another),
+        ) => same_set(set, another) && same_function(func, f),
         (
             LeafRow::AffineVec { func, set },
             LeafRow::AffineVec {
                 func: fs,
                 set: another,
             },
-        ) => same_functions(func.as_slice(), fs.as_slice()) && same_set(set, another),
+        ) => same_set(set, another) && same_functions(func.as_slice(), fs.as_slice()),
         _ => false,
     }
 }

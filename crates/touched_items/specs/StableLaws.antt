@@ -1,6 +1,6 @@
 -- What is found by key, where a list is sorted stably or the first of each key alone is left of it.
 use Rattle.std.specs.Prelude.{◌≡◌, ◌&&◌, Bool, true, false, cond, not, List, [], ◌∷◌, filter, find, slice_get, Option, Some, None, refl}
-use Rattle.std.specs.Cmp.{IsTotalOrder}
+use Rattle.std.specs.Cmp.{IsTotalOrder, alike_right}
 use Rattle.std.specs.List.{dedup, dedup_from}
 use Rattle.std.specs.List.Sorted.{IsStableByKey, ties}
 use Rattle.std.specs.Ordering.{eq_by_cmp, is_eq, is_lt, ordering_reverse}
@@ -37,11 +37,6 @@ module _ {B K : Type 0} {R : K → K → Ordering} (o : IsTotalOrder R) (key : B
   abbrev pub alike : B → B → Bool
   alike a b = eq_by_cmp R (key a) (key b)
 
-  -- keys that tie compare alike
-  tied : (a b c : K) → R a b ≡ Equal → R c a ≡ R c b
-  tied a b c e =
-      o.antisymm c a ∙ ap ordering_reverse (o.congr a b c e) ∙ sym (o.antisymm c b)
-
   neither_less : (a b : K) → eq_by_cmp R b a ≡ (not (is_lt (R a b)) && not (is_lt (R b a)))
   neither_less a b =
       by (R b a) ∙ ap (λ r. not (is_lt r) && not (is_lt (R b a))) (sym (o.antisymm a b))
@@ -60,7 +55,7 @@ module _ {B K : Type 0} {R : K → K → Ordering} (o : IsTotalOrder R) (key : B
 
       beside : (b : B) → has k b ≡ true → find (has k) ys ≡ find (has k) xs
       beside b t =
-          let same = λ (y : B). ap is_eq (sym (tied (key b) k (key y) (is_equal (R (key b) k) t)))
+          let same = λ (y : B). ap is_eq (sym (alike_right o (key b) k (key y) (is_equal (R (key b) k) t)))
               ∙ neither_less (key b) (key y) in
           first_passing (has k) (ties lt b) same ys
           ∙ ap (λ bs. slice_get bs 0) (stable b)
