@@ -22,13 +22,14 @@ first_passing p q same (x ∷ xs) =
 
 passes_found : {A : Type 0} (p : A → Bool) (xs : List A) (x : A) → find p xs ≡ Some x → p x ≡ true
 passes_found p [] x e = cc
-passes_found p (y ∷ ys) x e = by (p y) refl e
+passes_found p (y ∷ ys) x e = by (p y) refl e (passes_found p ys x)
   where
-    by : (b : Bool) → p y ≡ b → cond b (Some y) (find p ys) ≡ Some x → p x ≡ true
-    by true t e =
+    by : (b : Bool) → p y ≡ b → cond b (Some y) (find p ys) ≡ Some x
+        → (find p ys ≡ Some x → p x ≡ true) → p x ≡ true
+    by true t e later =
         let same : y ≡ x = cc in
         ap p (sym same) ∙ t
-    by false t e = passes_found p ys x e
+    by false t e later = later e
 
 module _ {B K : Type 0} {R : K → K → Ordering} (o : IsTotalOrder R) (key : B → K) where
   abbrev has : K → B → Bool
@@ -70,7 +71,7 @@ module _ {B K : Type 0} {R : K → K → Ordering} (o : IsTotalOrder R) (key : B
   once_from : (k : K) (b : B) (ys : List B)
       → find (has k) (dedup_from alike b ys) ≡ cond (has k b) (Some b) (find (has k) ys)
   once_from k b [] = refl
-  once_from k b (y ∷ ys) = by (alike y b) refl
+  once_from k b (y ∷ ys) = by (alike y b) refl (once_from k b ys) (once_from k y ys)
     where
       both : (s t : Bool) → s ≡ t
           → cond t (Some b) (find (has k) ys)
@@ -81,12 +82,14 @@ module _ {B K : Type 0} {R : K → K → Ordering} (o : IsTotalOrder R) (key : B
       both false true e = cc
 
       by : (t : Bool) → alike y b ≡ t
+          → find (has k) (dedup_from alike b ys) ≡ cond (has k b) (Some b) (find (has k) ys)
+          → find (has k) (dedup_from alike y ys) ≡ cond (has k y) (Some y) (find (has k) ys)
           → find (has k) (cond t (dedup_from alike b ys) (b ∷ dedup_from alike y ys))
           ≡ cond (has k b) (Some b) (cond (has k y) (Some y) (find (has k) ys))
-      by true e =
-          once_from k b ys
+      by true e from_b from_y =
+          from_b
           ∙ both (has k y) (has k b) (ap is_eq (o.congr (key y) (key b) k (is_equal _ e)))
-      by false e = ap (λ f. cond (has k b) (Some b) f) (once_from k y ys)
+      by false e from_b from_y = ap (λ f. cond (has k b) (Some b) f) from_y
 
   pub once_find : (k : K) (ys : List B) → find (has k) (dedup alike ys) ≡ find (has k) ys
   once_find k [] = refl
