@@ -57,7 +57,7 @@ module _ {B K : Type 0} {R : K → K → Ordering} (o : IsTotalOrder R) (key : B
       beside : (b : B) → has k b ≡ true → find (has k) ys ≡ find (has k) xs
       beside b t =
           let same = λ (y : B). ap is_eq (sym (alike_right o (key b) k (key y) (is_equal (R (key b) k) t)))
-              ∙ neither_less (key b) (key y) in
+          ∙ neither_less (key b) (key y) in
           first_passing (has k) (ties lt b) same ys
           ∙ ap (λ bs. slice_get bs 0) (stable b)
           ∙ sym (first_passing (has k) (ties lt b) same xs)

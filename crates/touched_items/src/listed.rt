@@ -74,7 +74,7 @@ fn list_changes<'a, X>(
 // The first change of each number, in the order of the numbers.
 fn first_of_each<'a, X>(mut changes: Vec<&'a Change<X>>) -> Result<Vec<&'a Change<X>>, Memory>
     ensures { IfOk result (λ first.
-        AreFirst (map (λ c. c.now) changes.items) (map (λ c. c.now) first.items)) }
+        AreFirst (map (λ c. c.now) changes.entry.items) (map (λ c. c.now) first.items)) }
 {
     changes.sort_by_key(|change| change.number)?;
     changes.dedup_by_key(|change| change.number);
