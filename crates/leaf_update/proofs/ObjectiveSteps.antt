@@ -7,7 +7,7 @@ use Rattle.std.proofs.Common.{true≢false, arith, sym, ◌∙◌, ap, subst}
 use Rattle.std.proofs.lemmas.List.Elements.{All-head}
 use Rattle.std.proofs.lemmas.Option.{none-some, same_Some}
 use Rattle.address_map.specs.AddressMap.{AddressMap}
-use Rattle.address_map.specs.Places.{Indices}
+use Rattle.address_map.specs.Places.{AreIndicesOneToOne, Indices}
 use Rattle.aff_core.specs.Address.{Address, address_cmp, address_eq, address_eq-Decides, address_total, exact_addresses}
 use Rattle.aff_core.specs.KeyOrder.{address_order, same_or_other}
 use Rattle.item_core.specs.declared.item.Body.{Body}
@@ -21,6 +21,7 @@ use Rattle.solver_store.specs.SolverModel.{Leaves, with_objective}
 use Rattle.solver_store.specs.declared.leaf.LeafObjective.{LeafObjective}
 use Rattle.leaf_update.specs.Steps.{CallsAtMost}
 use Rattle.leaf_update.proofs.Counted.{counts_none}
+use Rattle.leaf_update.proofs.SameLaws.{objective_read}
 use Rattle.leaf_update.specs.Splice.{spliced, without_all}
 use Rattle.leaf_update.specs.SplicedLaws.{get_beside, get_gone, get_past, get_put}
 use Rattle.leaf_update.proofs.VariableSteps.{gone_counts, one_call, set_counts}
@@ -165,40 +166,6 @@ module _ (map : AddressMap) (leaves : Leaves) (names : NamesEach map leaves) (at
           calls = call None is 1 (omega arith);
         }
 
-    -- ---- it is set
-
-    module _ (o : LeafObjective) (p : Address) (body : Body)
-        (own : ObjectiveNames map.vars.indices o) (reads : read_objective map.vars.indices o ≡ body)
-        (is : after ≡ with_objective leaves (Some o)) where
-      now_is : (read_through map after p).objective ≡ finite.insert no_body p body
-      now_is = ap (λ (l : Leaves). (read_through map l p).objective) is
-          ∙ ap (λ b. finite.insert no_body p b) reads
-
-      pub objective_set : (n : ℕ) → 1 ≤ n
-          → IsCountOf (Differ held (finite.insert no_body p body)) n
-          → SetsObjective map leaves at p body n after p
-      objective_set n h counts = record {
-        named = named_with after (Some o) is own;
-        vars = ap (λ l. l.vars) is;
-        rows = ap (λ l. l.rows) is;
-        set = now_is;
-        counts = subst (λ m. IsCountOf (Differ held m) n) (sym now_is) counts;
-        calls = call (Some o) is n h;
-      }
-
-  -- where it stays as it is
-  pub objective_same : (p : Address) (body : Body) → at ≡ p → objective_in map leaves ≡ Some body
-      → SetsObjective map leaves at p body 0 leaves at
-  objective_same p body s e = record {
-    named = names;
-    vars = refl;
-    rows = refl;
-    set = read_objective_is map leaves at ∙ ap (objective_held at) e
-        ∙ ap (λ q. finite.insert no_body q body) s;
-    counts = counts_none held;
-    calls = record { rises = omega arith; bound = omega arith };
-  }
-
   -- in the place of what goes
   pub objective_changes : (gone : List Address) (p : Address) (body : Body) (n : ℕ) (after : Leaves)
       (at_after : Address) → CanChange held gone ((p, body) ∷ [])
@@ -264,13 +231,29 @@ pub alone_of : {X : Type 0} (e : X) (es : List X) → length (e ∷ es) ≤ 1 �
 alone_of e [] h = refl
 alone_of e (f ∷ es) h = absurd (omega (arith, h))
 
-pub compared_same : (r : Bool) (a b : Body) → MatchBool r (a ≡ b) (a ≢ b) → r ≡ true → a ≡ b
-compared_same true a b h e = h
-compared_same false a b h e = absurd (true≢false (sym e))
+-- the objective that is held, tested against one that is made of a leaf
+module _ (map : AddressMap) (leaves : Leaves) (names : NamesEach map leaves)
+    (one : AreIndicesOneToOne map.vars.indices) (held made : LeafObjective) (body : Body)
+    (there : leaves.objective ≡ Some held) (own : ObjectiveNames map.vars.indices made)
+    (reads : read_objective map.vars.indices made ≡ body) (r : Bool)
+    (test : MatchBool r (held ≡ made) (held ≢ made)) where
+  tested : MatchBool r (read_objective map.vars.indices held ≡ body)
+      (read_objective map.vars.indices held ≢ body)
+  tested =
+      subst (λ b. MatchBool r (read_objective map.vars.indices held ≡ b)
+      (read_objective map.vars.indices held ≢ b)) reads
+      (objective_read map.vars.indices one held made
+      (subst (λ o. IfSome o (ObjectiveNames map.vars.indices)) there names.objective) own r test)
 
-pub compared_other : (r : Bool) (a b : Body) → MatchBool r (a ≡ b) (a ≢ b) → r ≡ false → a ≢ b
-compared_other false a b h e = h
-compared_other true a b h e = absurd (true≢false e)
+  pub same_read : r ≡ true → read_objective map.vars.indices held ≡ body
+  same_read t =
+      subst (λ b. MatchBool b (read_objective map.vars.indices held ≡ body)
+      (read_objective map.vars.indices held ≢ body)) t tested
+
+  pub other_read : r ≡ false → read_objective map.vars.indices held ≢ body
+  other_read f =
+      subst (λ b. MatchBool b (read_objective map.vars.indices held ≡ body)
+      (read_objective map.vars.indices held ≢ body)) f tested
 
 -- the objective that is made of a leaf is read as the leaf's body
 pub objective_body : (indices : Indices) (at : Address) (body : Body) (o : Option LeafObjective)

@@ -1,250 +1,155 @@
--- A function of indices is read as a function of addresses exactly where they have as many terms,
--- one constant, and each term of the first is one of the second.
-use Rattle.std.specs.Prelude.{◌≡◌, ◌≢◌, ◌↔◌, ℕ, ◌≤◌, Bool, true, false, ◌||◌, IsTrue, List, [], ◌∷◌, All, Option, Some, None, is_some, length, map, slice_index_or, unwrap_or, refl}
-use Rattle.std.specs.Cmp.{eq_by_cmp_equiv, nat_cmp_total, tied_itself}
+-- Rows, objectives and functions of indices are the same where they are read as the same: each index
+-- that they name has an address, and no two addresses have one index.
+use Rattle.std.specs.Prelude.{◌≡◌, ◌≢◌, ◌↔◌, ◌&&◌, ◌==◌, ℕ, Bool, true, false, IsTrue, MatchBool, cond, List, [], ◌∷◌, All, Option, Some, None, map, unwrap_or, refl}
+use Rattle.std.specs.Bool.{Decides}
+use Rattle.std.specs.Cmp.Lexicographic.{pointwise, pointwise_decides}
 use Rattle.std.specs.FinMap as finite
 use Rattle.std.specs.FinMap.{find}
-use Rattle.std.specs.FinMap.Entries.{is_some-find}
-use Rattle.std.specs.List.{AllByRecursion, list_any}
-use Rattle.std.specs.Set.{is_member}
-use Rattle.std.specs.Ordering.{nat_cmp}
-use Rattle.std.specs.declared.cmp.Ordering.TheVariants.{Less}
-use Rattle.std.proofs.Common.{sym, ◌∙◌, ap, subst, arith, true≢false}
-use Rattle.std.proofs.lemmas.List.{length-map}
-use Rattle.std.proofs.lemmas.List.Elements.{All-map, All-weaker}
-use Rattle.std.proofs.lemmas.List.Sums.{AllPass-from_list_all, list_all-from_AllPass}
-use Rattle.std.proofs.lemmas.Map.Keys.{IsDistinct-cons}
-use Rattle.std.proofs.lemmas.Map.Made.{length-le_from_is_member}
-use Rattle.std.proofs.lemmas.Option.{same_Some}
-use Rattle.rational_laws.specs.Tests.{zero_test}
-use Rattle.ratio_core.specs.Rational.{Rational, zero_ℚ}
+use Rattle.std.specs.Ordering.{eq_by_cmp, nat_cmp}
+use Rattle.std.proofs.Common.{sym, ◌∙◌, ap, subst}
+use Rattle.std.proofs.lemmas.Bool.Decides.{Decides-and, Decides-eqb}
+use Rattle.std.proofs.lemmas.List.Elements.{All-head, All-tail}
+use Rattle.std.proofs.lemmas.Option.{none-some, same_Some}
+use Rattle.ratio_core.specs.Rational.{Rational, rational_eq, zero_ℚ}
+use Rattle.ratio_core.specs.RationalLaws.{rational_eq_Decides}
 use Rattle.address_map.specs.Places.{AreIndicesOneToOne, Indices}
-use Rattle.aff_core.specs.Address.{Address, address_cmp, address_eq, address_eq-Decides, address_total}
 use Rattle.aff_core.specs.Function.{Function, coefficient, terms_of}
-use Rattle.aff_core.specs.FunctionLaws.{coefficient-gathered, coefficient_in, coefficient_in-terms_of, same_coefficients}
-use Rattle.aff_core.specs.KeyOrder.{address_order, other_key}
-use Rattle.aff_core.specs.Rising.{HasDistinctKeys}
-use Rattle.aff_core.specs.Terms.{HaveNoZero, is_nonzero}
-use Rattle.leaf_update.specs.Named.{IsSameTerm}
-use Rattle.leaf_update.specs.ReadableLaws.{found_passes}
-use Rattle.leaf_update.proofs.KeyLaws.{less_differs, renamed_distinct, rising_distinct}
-use Rattle.leaf_update.proofs.SameRows.{refused}
-use Rattle.leaf_model.specs.ReadThrough.{address_in, named, named_terms}
-use Rattle.map_laws.specs.EntryLaws.{find_at}
+use Rattle.aff_core.specs.FunctionLaws.{same_coefficients, same_function}
+use Rattle.aff_core.specs.KeyOrder.{key_eq-Decides}
+use Rattle.leaf_update.specs.Named.{ObjectiveNames, RowNames}
+use Rattle.leaf_model.specs.ReadThrough.{address_in, named, read_objective, read_row}
 use Rattle.solver_store.specs.SolverFunction.{SolverFunction}
-use Rattle.std_form.specs.NameLaws.{IsTermIndexNamed, NamesNamed, address_in_is, coefficient_named, constant_named, index_order}
+use Rattle.solver_store.specs.declared.leaf.LeafObjective.{LeafObjective}
+use Rattle.solver_store.specs.declared.leaf.LeafObjective.TheVariants as objective
+use Rattle.solver_store.specs.declared.leaf.LeafRow.{LeafRow}
+use Rattle.solver_store.specs.declared.leaf.LeafRow.TheVariants as row
+use Rattle.std_form.specs.NameLaws.{IsIndexNamed, IsTermIndexNamed, NamesNamed, address_in_is, coefficient_named, constant_named, index_order}
 
--- ---- keys and coefficients
+-- ---- by their terms
 
-abbrev keys : List (Address × Rational) → List Address
-keys ts = map (λ t. t.0) ts
+abbrev pub term_eq : ℕ × Rational → ℕ × Rational → Bool
+term_eq s t = (s.0 == t.0) && rational_eq s.1 t.1
 
-abbrev has_key : List (Address × Rational) → Address → Bool
-has_key ts v = is_member address_eq (keys ts) v
+term_eq-Decides : (s t : ℕ × Rational) → Decides (term_eq s t) (s ≡ t)
+term_eq-Decides s t =
+    let parts = Decides-and (s.0 == t.0) (rational_eq s.1 t.1) (Decides-eqb s.0 t.0)
+    (rational_eq_Decides s.1 t.1) in
+    (λ e. λ i. ((parts.0 e).0 i, (parts.0 e).1 i), λ e. parts.1 (ap (λ u. u.0) e, ap (λ u. u.1) e))
 
--- a term that isn't 0 has a key
-key_of_nonzero : (ts : List (Address × Rational)) (v : Address) → coefficient_in address_cmp ts v
-    ≢ zero_ℚ → has_key ts v ≡ true
-key_of_nonzero ts v n = by (find address_cmp v ts) refl
+pub by_terms : (f g : SolverFunction) → f.constant ≡ g.constant → (r : Bool)
+    → r ≡ pointwise term_eq (terms_of f) (terms_of g) → IsTrue r ↔ (f ≡ g)
+by_terms f g constant r is =
+    let decides = pointwise_decides term_eq-Decides (terms_of f) (terms_of g) in
+    (λ t. same_function f g (decides.0 (sym is ∙ t)) constant, λ e. is ∙ decides.1 (ap terms_of e))
+
+-- ---- by what they are read as
+
+-- what is found among terms is one of them
+term_found : (P : ℕ × Rational → Type 0) (ts : List (ℕ × Rational)) (i : ℕ) (q : Rational)
+    → All P ts → find nat_cmp i ts ≡ Some q → P (i, q)
+term_found P [] i q h e = absurd (none-some q e)
+term_found P (t ∷ ts) i q h e =
+    by (eq_by_cmp nat_cmp i t.0) refl e (term_found P ts i q (All-tail P t ts h))
   where
-    by : (o : Option Rational) → find address_cmp v ts ≡ o → has_key ts v ≡ true
-    by None e = absurd (n (ap (λ r. unwrap_or r zero_ℚ) e))
-    by (Some q) e = sym (is_some-find address_cmp v ts) ∙ ap is_some e
+    by : (b : Bool) → eq_by_cmp nat_cmp i t.0 ≡ b → cond b (Some t.1) (find nat_cmp i ts) ≡ Some q
+        → (find nat_cmp i ts ≡ Some q → P (i, q)) → P (i, q)
+    by true same is later =
+        subst P (λ j. (sym ((key_eq-Decides index_order i t.0).0 same) j, same_Some t.1 q is j))
+        (All-head P t ts h)
+    by false other is later = later is
 
-nonzero_of_key : (ts : List (Address × Rational)) → HaveNoZero ts → (v : Address)
-    → has_key ts v ≡ true → coefficient_in address_cmp ts v ≢ zero_ℚ
-nonzero_of_key ts none v h is_zero = by (find address_cmp v ts) refl
-  where
-    by : (o : Option Rational) → find address_cmp v ts ≡ o → ⊥
-    by None e = true≢false (sym h ∙ sym (is_some-find address_cmp v ts) ∙ ap is_some e)
-    by (Some q) e =
-        true≢false (sym (found_passes (λ t. is_nonzero t ≡ true) ts v q
-        (AllPass-from_list_all is_nonzero ts none) e)
-        ∙ zero_test q (sym (ap (λ r. unwrap_or r zero_ℚ) e) ∙ is_zero))
+module _ (indices : Indices) (one : AreIndicesOneToOne indices) where
+  index_alike : (i j : ℕ) → IsIndexNamed indices i → IsIndexNamed indices j
+      → address_in indices i ≡ address_in indices j → i ≡ j
+  index_alike i j h k e =
+      same_Some i j (sym h.1
+      ∙ ap (finite.get indices)
+      (sym (address_in_is indices one h.0 i h.1) ∙ e ∙ address_in_is indices one k.0 j k.1)
+      ∙ k.1)
 
--- ---- as many terms
-
-none_equal : (v : Address) (ks : List Address) → list_any (address_eq v) ks ≡ false
-    → AllByRecursion (λ y. address_eq v y ≡ false) ks
-none_equal v [] h = tt
-none_equal v (k ∷ ks) h = by (none_equal v ks) (address_eq v k) refl h
-  where
-    by : (list_any (address_eq v) ks ≡ false → AllByRecursion (λ y. address_eq v y ≡ false) ks)
-        → (b : Bool) → address_eq v k ≡ b → (b || list_any (address_eq v) ks) ≡ false
-        → AllByRecursion (λ y. address_eq v y ≡ false) (k ∷ ks)
-    by rest true e is = absurd (true≢false is)
-    by rest false e is = (e, rest is)
-
-module _ (ts us : List (Address × Rational)) where
-  fewer : HasDistinctKeys address_cmp ts → HaveNoZero ts
-      → ((v : Address) → coefficient_in address_cmp ts v ≡ coefficient_in address_cmp us v)
-      → length ts ≤ length us
-  fewer distinct none same =
-      subst (λ n. n ≤ length us) (length-map ts (λ t. t.0))
-      (subst (λ n. length (keys ts) ≤ n) (length-map us (λ t. t.0))
-      (length-le_from_is_member (eq_by_cmp_equiv address_total) (keys ts) (keys us) distinct
-      (λ v h. key_of_nonzero us v (λ z. nonzero_of_key ts none v h (same v ∙ z)))))
-
-  -- where each term of the first stands in the second, and these are as many, the second has no
-  -- other key
-  no_other : HasDistinctKeys address_cmp ts → HaveNoZero ts → length ts ≡ length us
-      → All (λ t. coefficient_in address_cmp us t.0 ≡ t.1) ts → (v : Address) → has_key ts v ≡ false
-      → has_key us v ≡ false
-  no_other distinct none long each v out = by (has_key us v) refl
+  function_alike : (f g : SolverFunction) → NamesNamed indices f → NamesNamed indices g
+      → named indices f ≡ named indices g → f ≡ g
+  function_alike f g h k e =
+      same_coefficients index_order f g (λ i. at i (finite.get f.terms i) (finite.get g.terms i) refl refl)
+      (sym (constant_named indices f) ∙ ap (λ (w : Function). w.constant) e
+      ∙ constant_named indices g)
     where
-      there : (q : Address) → has_key us v ≡ true → is_member address_eq (v ∷ keys ts) q ≡ true
-          → is_member address_eq (keys us) q ≡ true
-      there q in_us h = by_test (address_eq q v) refl h
-        where
-          by_test : (b : Bool) → address_eq q v ≡ b → (b || list_any (address_eq q) (keys ts))
-              ≡ true → is_member address_eq (keys us) q ≡ true
-          by_test true e is = ap (has_key us) ((address_eq-Decides q v).0 e) ∙ in_us
-          by_test false e is =
-              key_of_nonzero us q (λ z. nonzero_of_key ts none q is
-              (by_found (find address_cmp q ts) refl ∙ z))
-            where
-              by_found : (o : Option Rational) → find address_cmp q ts ≡ o
-                  → coefficient_in address_cmp ts q ≡ coefficient_in address_cmp us q
-              by_found None k =
-                  absurd (true≢false (sym is ∙ sym (is_some-find address_cmp q ts) ∙ ap is_some k))
-              by_found (Some r) k =
-                  ap (λ o. unwrap_or o zero_ℚ) k
-                  ∙ sym (found_passes (λ t. coefficient_in address_cmp us t.0 ≡ t.1)
-                  ts q r each k)
+      by_address : (i : ℕ) → IsIndexNamed indices i → coefficient f i ≡ coefficient g i
+      by_address i n =
+          sym (coefficient_named indices one f n.0 i n.1 h)
+          ∙ ap (λ (w : Function). coefficient w n.0) e
+          ∙ coefficient_named indices one g n.0 i n.1 k
 
-      by : (b : Bool) → has_key us v ≡ b → b ≡ false
-      by false e = refl
-      by true e =
-          let more : length (v ∷ keys ts) ≤ length (keys us) =
-          length-le_from_is_member (eq_by_cmp_equiv address_total) (v ∷ keys ts) (keys us)
-          (IsDistinct-cons address_eq v (keys ts) (none_equal v (keys ts) out) distinct)
-          (λ q. there q e) in
-          absurd (omega (arith, more, length-map ts (λ t. t.0), length-map us (λ t. t.0), long))
+      is_named : (w : SolverFunction) → NamesNamed indices w → (i : ℕ) (q : Rational)
+          → finite.get w.terms i ≡ Some q → IsIndexNamed indices i
+      is_named w all i q there =
+          term_found (IsTermIndexNamed indices) (terms_of w) i q all
+          (sym (finite.get-entries w.terms i) ∙ there)
 
-  same_by_terms : HasDistinctKeys address_cmp ts → HaveNoZero ts → length ts ≡ length us
-      → All (λ t. coefficient_in address_cmp us t.0 ≡ t.1) ts → (v : Address)
-      → coefficient_in address_cmp ts v ≡ coefficient_in address_cmp us v
-  same_by_terms distinct none long each v = by (find address_cmp v ts) refl
-    where
-      absent : (o : Option Rational) → find address_cmp v us ≡ o → has_key us v ≡ false
-          → zero_ℚ ≡ unwrap_or o zero_ℚ
-      absent None e out = refl
-      absent (Some q) e out =
-          absurd (true≢false (ap is_some (sym e) ∙ is_some-find address_cmp v us ∙ out))
+      at : (i : ℕ) (o p : Option Rational) → finite.get f.terms i ≡ o → finite.get g.terms i ≡ p
+          → coefficient f i ≡ coefficient g i
+      at i (Some q) p m n = by_address i (is_named f h i q m)
+      at i None (Some q) m n = by_address i (is_named g k i q n)
+      at i None None m n = ap (λ o. unwrap_or o zero_ℚ) (m ∙ sym n)
 
-      by : (o : Option Rational) → find address_cmp v ts ≡ o
-          → unwrap_or o zero_ℚ ≡ coefficient_in address_cmp us v
-      by (Some q) e =
-          sym (found_passes (λ t. coefficient_in address_cmp us t.0 ≡ t.1) ts v q each e)
-      by None e =
-          absent (find address_cmp v us) refl
-          (no_other distinct none long each v (sym (is_some-find address_cmp v ts) ∙ ap is_some e))
+  functions_alike : (fs gs : List SolverFunction) → All (NamesNamed indices) fs
+      → All (NamesNamed indices) gs → map (named indices) fs ≡ map (named indices) gs → fs ≡ gs
+  functions_alike [] [] h k e = refl
+  functions_alike [] (g ∷ gs) h k e = cc
+  functions_alike (f ∷ fs) [] h k e = cc
+  functions_alike (f ∷ fs) (g ∷ gs) h k e =
+      let first : named indices f ≡ named indices g = cc in
+      let rest : map (named indices) fs ≡ map (named indices) gs = cc in
+      (λ i. function_alike f g (All-head (NamesNamed indices) f fs h)
+      (All-head (NamesNamed indices) g gs k) first i
+      ∷ functions_alike fs gs (All-tail (NamesNamed indices) f fs h)
+      (All-tail (NamesNamed indices) g gs k) rest i)
 
--- ---- a function of indices, read
+  row_alike : (r s : LeafRow) → RowNames indices r → RowNames indices s
+      → read_row indices r ≡ read_row indices s → r ≡ s
+  row_alike (row.Plain i set) (row.Plain j other) h k e =
+      let read : address_in indices i ≡ address_in indices j = cc in
+      let same : set ≡ other = cc in
+      (λ n. row.Plain (index_alike i j h k read n) (same n))
+  row_alike (row.Affine f set) (row.Affine g other) h k e =
+      let read : named indices f ≡ named indices g = cc in
+      let same : set ≡ other = cc in
+      (λ n. row.Affine (function_alike f g h k read n) (same n))
+  row_alike (row.AffineVec fs set) (row.AffineVec gs other) h k e =
+      let read : map (named indices) fs ≡ map (named indices) gs = cc in
+      let same : set ≡ other = cc in
+      (λ n. row.AffineVec (functions_alike fs gs h k read n) (same n))
+  row_alike (row.Plain i set) (row.Affine g other) h k e = cc
+  row_alike (row.Plain i set) (row.AffineVec gs other) h k e = cc
+  row_alike (row.Affine f set) (row.Plain j other) h k e = cc
+  row_alike (row.Affine f set) (row.AffineVec gs other) h k e = cc
+  row_alike (row.AffineVec fs set) (row.Plain j other) h k e = cc
+  row_alike (row.AffineVec fs set) (row.Affine g other) h k e = cc
 
-module _ (indices : Indices) (one : AreIndicesOneToOne indices) (g : SolverFunction)
-    (names : NamesNamed indices g) (f : Function) where
-  other_name : (t u : ℕ × Rational) → IsTermIndexNamed indices t → IsTermIndexNamed indices u
-      → nat_cmp t.0 u.0 ≡ Less
-      → address_eq (address_in indices t.0) (address_in indices u.0) ≡ false
-  other_name t u ht hu less =
-      other_key address_order (address_in indices t.0) (address_in indices u.0)
-      (λ e. less_differs index_order t.0 u.0 less (same_Some t.0 u.0 (sym ht.1
-      ∙ ap (finite.get indices) (sym (address_in_is indices one ht.0 t.0 ht.1) ∙ e
-      ∙ address_in_is indices one hu.0 u.0 hu.1) ∙ hu.1)))
+  objective_alike : (o p : LeafObjective) → ObjectiveNames indices o → ObjectiveNames indices p
+      → read_objective indices o ≡ read_objective indices p → o ≡ p
+  objective_alike (objective.Plain sense i) (objective.Plain other j) h k e =
+      let read : address_in indices i ≡ address_in indices j = cc in
+      let same : sense ≡ other = cc in
+      (λ n. objective.Plain (same n) (index_alike i j h k read n))
+  objective_alike (objective.Affine sense f) (objective.Affine other g) h k e =
+      let read : named indices f ≡ named indices g = cc in
+      let same : sense ≡ other = cc in
+      (λ n. objective.Affine (same n) (function_alike f g h k read n))
+  objective_alike (objective.Plain sense i) (objective.Affine other g) h k e = cc
+  objective_alike (objective.Affine sense f) (objective.Plain other j) h k e = cc
 
-  as_many : (ts : List (ℕ × Rational)) → length (named_terms indices ts) ≡ length ts
-  as_many ts = length-map {B = Address × Rational} ts (λ t. (address_in indices t.0, t.1))
+  -- so what tests them tests what they are read as
+  pub row_read : (r s : LeafRow) → RowNames indices r → RowNames indices s → (b : Bool)
+      → MatchBool b (r ≡ s) (r ≢ s)
+      → MatchBool b (read_row indices r ≡ read_row indices s)
+      (read_row indices r ≢ read_row indices s)
+  row_read r s h k true e = ap (read_row indices) e
+  row_read r s h k false n = λ e. n (row_alike r s h k e)
 
-  named_nonzero : HaveNoZero (named_terms indices (terms_of g))
-  named_nonzero =
-      list_all-from_AllPass is_nonzero (named_terms indices (terms_of g))
-      (All-map (λ t. is_nonzero t ≡ true) (λ t. (address_in indices t.0, t.1)) (terms_of g)
-      (AllPass-from_list_all is_nonzero (terms_of g) g.nonzero))
-
-  distinct : HasDistinctKeys address_cmp (named_terms indices (terms_of g))
-  distinct =
-      renamed_distinct nat_cmp address_cmp (address_in indices) (IsTermIndexNamed indices) other_name
-      (terms_of g) (finite.entries_sorted g.terms) names
-
-  read_coefficient : (v : Address) → coefficient (named indices g) v
-      ≡ coefficient_in address_cmp (named_terms indices (terms_of g)) v
-  read_coefficient v =
-      coefficient-gathered address_order (named_terms indices (terms_of g)) g.constant v
-
-  abbrev AreSame : Type 0
-  AreSame =
-      (length (terms_of g) ≡ length (terms_of f)) × (g.constant ≡ f.constant)
-      × All (IsSameTerm indices f) (terms_of g)
-
-  pub same_if : AreSame → named indices g ≡ f
-  same_if h =
-      same_coefficients address_order (named indices g) f
-      (λ v. read_coefficient v
-      ∙ same_by_terms (named_terms indices (terms_of g)) (terms_of f) distinct named_nonzero
-      (as_many (terms_of g) ∙ h.0)
-      (All-map (λ t. coefficient_in address_cmp (terms_of f) t.0 ≡ t.1)
-      (λ t. (address_in indices t.0, t.1)) (terms_of g)
-      (All-weaker (IsSameTerm indices f) (λ t. coefficient_in address_cmp (terms_of f)
-      (address_in indices t.0) ≡ t.1)
-      (λ t s. coefficient_in-terms_of f (address_in indices t.0)
-      ∙ ap (coefficient f) (address_in_is indices one s.0 t.0 s.1) ∙ s.2) (terms_of g) h.2))
-      v ∙ coefficient_in-terms_of f v)
-      (constant_named indices g ∙ h.1)
-
-  -- each term is the coefficient of its index
-  own_coefficients : All (λ t. coefficient g t.0 ≡ t.1) (terms_of g)
-  own_coefficients = λ k d end.
-      ap (λ o. unwrap_or o zero_ℚ)
-      (finite.get-entries g.terms (slice_index_or (terms_of g) k d).0
-      ∙ find_at nat_cmp_total (slice_index_or (terms_of g) k d).0 (terms_of g) k d
-      (finite.entries_sorted g.terms) end (tied_itself nat_cmp_total
-      (slice_index_or (terms_of g) k d).0))
-
-  pub same_only_if : named indices g ≡ f → AreSame
-  same_only_if e = (
-    both_fewer (fewer (named_terms indices (terms_of g)) (terms_of f) distinct named_nonzero each)
-        (fewer (terms_of f) (named_terms indices (terms_of g))
-        (rising_distinct address_cmp (terms_of f) (finite.entries_sorted f.terms)) f.nonzero
-        (λ v. sym (each v))),
-    sym (constant_named indices g) ∙ ap (λ (h : Function). h.constant) e,
-    λ k d end. term (slice_index_or (terms_of g) k d) (names k d end) (own_coefficients k d end),
-  )
-    where
-      each : (v : Address) → coefficient_in address_cmp (named_terms indices (terms_of g)) v
-          ≡ coefficient_in address_cmp (terms_of f) v
-      each v =
-          sym (read_coefficient v) ∙ ap (λ h. coefficient h v) e ∙ sym (coefficient_in-terms_of f v)
-
-      both_fewer : length (named_terms indices (terms_of g)) ≤ length (terms_of f)
-          → length (terms_of f) ≤ length (named_terms indices (terms_of g))
-          → length (terms_of g) ≡ length (terms_of f)
-      both_fewer h k = omega (arith, as_many (terms_of g))
-
-      term : (t : ℕ × Rational) → IsTermIndexNamed indices t → coefficient g t.0 ≡ t.1
-          → IsSameTerm indices f t
-      term t n own = (
-        n.0,
-        n.1,
-        ap (λ h. coefficient h n.0) (sym e)
-            ∙ coefficient_named indices one g n.0 t.0 n.1 names ∙ own,
-      )
-
--- ---- as tests
-
-module _ (indices : Indices) (one : AreIndicesOneToOne indices) (g : SolverFunction)
-    (names : NamesNamed indices g) (f : Function) where
-  pub tested_terms : (r : Bool) → length (terms_of g) ≡ length (terms_of f)
-      → g.constant ≡ f.constant → (IsTrue r ↔ All (IsSameTerm indices f) (terms_of g)) → IsTrue r
-      ↔ (named indices g ≡ f)
-  tested_terms r long constant each = (
-    λ t. same_if indices one g names f (long, constant, each.0 t),
-    λ e. each.1 (same_only_if indices one g names f e).2,
-  )
-
-  pub other_length : ¬ (length (terms_of g) ≡ length (terms_of f)) → IsTrue false
-      ↔ (named indices g ≡ f)
-  other_length other = refused (λ e. other (same_only_if indices one g names f e).0)
-
-  pub other_constant : ¬ (g.constant ≡ f.constant) → IsTrue false ↔ (named indices g ≡ f)
-  other_constant other = refused (λ e. other (same_only_if indices one g names f e).1)
+  pub objective_read : (o p : LeafObjective) → ObjectiveNames indices o → ObjectiveNames indices p
+      → (b : Bool) → MatchBool b (o ≡ p) (o ≢ p)
+      → MatchBool b (read_objective indices o ≡ read_objective indices p)
+      (read_objective indices o ≢ read_objective indices p)
+  objective_read o p h k true e = ap (read_objective indices) e
+  objective_read o p h k false n = λ e. n (objective_alike o p h k e)

@@ -5,7 +5,7 @@ use Rattle.std.specs.FinMap as finite
 use Rattle.address_map.specs.AddressMap.{AddressMap}
 use Rattle.address_map.specs.Places.{Indices}
 use Rattle.aff_core.specs.Address.{Address}
-use Rattle.aff_core.specs.Function.{Function, coefficient, terms_of}
+use Rattle.aff_core.specs.Function.{Function, terms_of}
 use Rattle.ratio_core.specs.Rational.{Rational}
 use Rattle.item_core.specs.Item.{functions_of}
 use Rattle.item_core.specs.declared.item.Item.{Item}
@@ -27,11 +27,6 @@ module _ (indices : Indices) where
   abbrev pub ObjectiveNames : LeafObjective → Type 0
   ObjectiveNames (objective.Plain sense var) = IsIndexNamed indices var
   ObjectiveNames (objective.Affine sense func) = NamesNamed indices func
-
-  -- the function has the term, at the address that has its index
-  abbrev pub IsSameTerm : Function → ℕ × Rational → Type 0
-  IsSameTerm f t =
-      (at : Address) × (finite.get indices at ≡ Some t.0) × (coefficient f at ≡ t.1)
 
   -- all that the function mentions has an index
   abbrev pub IsIndexed : Function → Type 0

@@ -1,9 +1,9 @@
 //! The objective set or removed.
 ghost use Rattle.std.specs.Prelude.{◌≡◌, ◌≤◌, ◌∷◌, [], All, Contains, IfOk, IfSome, IsNone, MatchBool, Some, flat_map, length};
 ghost use Rattle.fresh_bridging.specs.Leaves.{leaf_objectives};
-ghost use Rattle.leaf_update.specs.Named.{HasIndices, NamesEach};
+ghost use Rattle.leaf_update.specs.Named.{HasIndices, NamesEach, ObjectiveNames};
 ghost use Rattle.leaf_model.specs.LeafModel.{Differ, IsCountOf};
-ghost use Rattle.leaf_model.specs.ReadThrough.{read_through};
+ghost use Rattle.leaf_model.specs.ReadThrough.{read_objective, read_through};
 ghost use Rattle.leaf_update.specs.Objective.{CanChange, ChangesObjective, SetsObjective, objective_in, only};
 
 use crate::indexed::leaf_objective;
@@ -12,7 +12,7 @@ use address_map::AddressMap;
 use aff_core::Address;
 use item_core::{Body, Item};
 use lists::Memory;
-use solver_store::SolverModel;
+use solver_store::{LeafObjective, SolverModel};
 use std::alloc::Global;
 
 // Sets the objective among leaves in the place of the one before, or removes what goes. The answer
@@ -88,21 +88,29 @@ fn set_objective(
 {
     // what this ensures of the count
     let _few = solver.calls();
-    let changed = count_differing(solver, map, at, leaf);
-    if changed == 0 {
-        return Ok(0);
-    }
     let Some(objective) = leaf_objective(alloc, map, leaf)? else {
         unreachable!()
     };
+    let changed = count_differing(solver, map, at, leaf, &objective);
+    if changed == 0 {
+        return Ok(0);
+    }
     solver.set_objective(Some(objective));
     *at = leaf.at;
     Ok(changed)
 }
 
-// The number of addresses at which the objective is another than the leaf.
-fn count_differing(solver: &SolverModel, map: &AddressMap, at: &Address, leaf: &Item) -> u8
-    requires { NamesEach map.now solver.now.leaves }
+// The number of addresses at which the objective is another than the leaf, of which this one is made.
+fn count_differing(
+    solver: &SolverModel,
+    map: &AddressMap,
+    at: &Address,
+    leaf: &Item,
+    objective: &LeafObjective,
+) -> u8
+    requires named { NamesEach map.now solver.now.leaves }
+    requires names { ObjectiveNames map.now.vars.indices objective.now }
+    requires read { read_objective map.now.vars.indices objective.now ≡ leaf.now.body }
     ensures counted { IsCountOf
         (Differ (read_through map.now solver.now.leaves at.now).objective
         (only leaf.now.at leaf.now.body)) result }
@@ -110,13 +118,15 @@ fn count_differing(solver: &SolverModel, map: &AddressMap, at: &Address, leaf: &
         × (objective_in map.now solver.now.leaves ≡ Some leaf.now.body) }
     ensures few { result ≤ 2 }
 {
+    // what this ensures of the map
+    let _one_to_one = map.var_at(0);
     let Some(held) = solver.objective() else {
         return 1;
     };
     if leaf.at != *at {
         return 2;
     }
-    if same_objective(map, held, &leaf.body) {
+    if same_objective(held, objective) {
         return 0;
     }
     1

@@ -2,8 +2,9 @@
 ghost use Rattle.std.specs.Prelude.{◌≡◌, ◌↔◌, ◌≤◌, ◌∷◌, [], All, AllPairs, IfOk, IsSome, IsTrue, MatchBool, Some, flat_map, length};
 ghost use Rattle.std.specs.FinMap as finite;
 ghost use Rattle.fresh_bridging.specs.Leaves.{leaf_rows};
+ghost use Rattle.leaf_model.specs.ReadThrough.{read_row};
 ghost use Rattle.leaf_update.specs.Leaves.{HasNativeForm};
-ghost use Rattle.leaf_update.specs.Named.{HasIndices, NamesEach};
+ghost use Rattle.leaf_update.specs.Named.{HasIndices, NamesEach, RowNames};
 ghost use Rattle.leaf_update.specs.Puts.{rows_in};
 ghost use Rattle.leaf_update.specs.Phases.{DropsRows, SetsRows};
 ghost use Rattle.leaf_update.specs.Splice.{HaveDistinctKeys};
@@ -15,7 +16,7 @@ use address_map::AddressMap;
 use aff_core::Address;
 use item_core::{Body, Item};
 use lists::Memory;
-use solver_store::SolverModel;
+use solver_store::{LeafRow, SolverModel};
 use std::alloc::Global;
 
 // Sets a leaf's row: it is added, or changed in place, or the same already. The answer is 1 where
@@ -45,7 +46,7 @@ fn set_row(
         map.put_row(leaf.at, i)?;
         return Ok(1);
     };
-    if is_same(solver, map, i, leaf) {
+    if is_same(solver, map, &leaf.at, i, &row) {
         return Ok(0);
     }
     drop(solver.change_row(i, row));
@@ -133,15 +134,18 @@ pub(crate) fn drop_rows(solver: &mut SolverModel, map: &mut AddressMap, gone: &[
     }
 }
 
-// Whether the row of an index is read as the leaf.
-fn is_same(solver: &SolverModel, map: &AddressMap, i: usize, leaf: &Item) -> bool
+// Whether the row of an index is this one.
+fn is_same(solver: &SolverModel, map: &AddressMap, at: &Address, i: usize, row: &LeafRow) -> bool
     requires named { NamesEach map.now solver.now.leaves }
-    requires here { finite.get map.now.rows.indices leaf.now.at ≡ Some i }
-    ensures { IsTrue result
-        ↔ (finite.get (rows_in map.now solver.now.leaves) leaf.now.at ≡ Some leaf.now.body) }
+    requires here { finite.get map.now.rows.indices at.now ≡ Some i }
+    requires names { RowNames map.now.vars.indices row.now }
+    ensures { IsTrue result ↔ (finite.get (rows_in map.now solver.now.leaves) at.now
+        ≡ Some (read_row map.now.vars.indices row.now)) }
 {
+    // what this ensures of the map
+    let _one_to_one = map.var_at(0);
     match solver.row(i) {
-        Some(row) => same_row(map, row, &leaf.body),
+        Some(held) => same_row(held, row),
         None => unreachable!(),
     }
 }

@@ -1,5 +1,5 @@
 -- Loops that list, filter, count and read.
-use Rattle.std.specs.Prelude.{◌≡◌, ◌≤◌, ◌<◌, ◌+◌, ◌++◌, ◌||◌, ℕ, suc, Bool, true, false, cond, if◌then◌else◌, List, [], ◌∷◌, Option, Some, None, count_by, filter, flat_map, get_or, length, map, take, unwrap_or, refl}
+use Rattle.std.specs.Prelude.{◌≡◌, ◌≤◌, ◌<◌, ◌+◌, ◌++◌, ◌||◌, ℕ, suc, Bool, true, false, cond, drop, List, [], ◌∷◌, Option, Some, None, count_by, filter, flat_map, get_or, length, map, take, unwrap_or, refl}
 use Rattle.std.specs.Borrow.{Bor}
 use Rattle.std.specs.Cmp.{eq_by_cmp_equiv}
 use Rattle.std.specs.FinMap as finite
@@ -8,8 +8,7 @@ use Rattle.std.specs.List.Retain.{DiffersFromLast, IsFiltered}
 use Rattle.std.specs.List.Sorted.{IsPermutation, IsSorted}
 use Rattle.std.specs.Option.{option_to_list}
 use Rattle.std.proofs.Common.{arith, sym, ap, subst, ◌∙◌, append_assoc, append-nil}
-use Rattle.std.proofs.lemmas.Grind.{flat_map-append}
-use Rattle.std.proofs.lemmas.List.{map-append, take_more}
+use Rattle.std.proofs.lemmas.List.{drop_all, map-append, take_more}
 use Rattle.std.proofs.lemmas.List.Elements.{filter-append, filter_map-append}
 use Rattle.std.proofs.lemmas.List.Filters.{dedup_is}
 use Rattle.std.proofs.lemmas.List.Kept.{Contains-dedup, Contains-from_dedup, IsStrictlySortedBy-dedup}
@@ -18,11 +17,11 @@ use Rattle.std.proofs.lemmas.List.Sums.{sum_by-append}
 use Rattle.address_map.specs.Noted.{AddressSet, Noted, noted_items}
 use Rattle.aff_core.specs.Address.{Address, address_cmp, address_eq, address_eq-Decides, address_total, root_address}
 use Rattle.aff_core.specs.declared.root.Root.TheVariants as root
+use Rattle.map_laws.specs.LoopLaws.{next_item}
 use Rattle.map_laws.specs.MadeLaws.{entries_empty}
 use Rattle.numbered_list.specs.declared.change.Change.{Change}
 use Rattle.user_model.specs.declared.row.Row.{Row}
 use Rattle.user_model.specs.declared.undo.Undo.{Undo}
-use Rattle.touched_items.specs.FirstLaws.{ChangesByNumber, HasFirst, HasTaken, more_taken}
 use Rattle.touched_items.specs.Search.{AreInOrder, is_objective, is_row}
 
 -- one more item of a list
@@ -140,19 +139,19 @@ reads_counted (x ∷ xs) =
     by false true e f later = omega arith
     by false false e f later = omega arith
 
--- ---- changes by their numbers
+-- ---- what undos list, one after another
 
-pub at_most_one : (b : Bool) (n a : ℕ) → n ≡ a + (if b then 0 else 1) → n ≤ a + 1
-at_most_one true n a e = omega arith
-at_most_one false n a e = omega arith
+module _ {X : Type 0} (f : Undo → List (Change X)) (undos : List Undo) (i : ℕ) where
+  pub one_undo : (u : Undo) (old new : List (Change X)) → u ≡ get_or undos i u → i < length undos
+      → new ≡ old ++ f u → old ++ flat_map f (drop i undos) ≡ flat_map f undos
+      → new ++ flat_map f (drop (i + 1) undos) ≡ flat_map f undos
+  one_undo u old new is lt pushed so_far =
+      ap (λ cs. cs ++ flat_map f (drop (i + 1) undos)) pushed
+      ∙ append_assoc old (f u) (flat_map f (drop (i + 1) undos))
+      ∙ ap (λ us. old ++ flat_map f us) (sym (next_item undos undos i u (λ j. undos) is lt))
+      ∙ so_far
 
-pub undo_taken : {X : Type 0} (f : Undo → List (Change X)) (undos left rest : List Undo) (u : Undo)
-    (cs : List (Change X)) (old now new : ChangesByNumber X)
-    → HasTaken (flat_map f undos) (flat_map f left) old now → left ≡ rest ++ u ∷ [] → cs ≡ f u
-    → HasFirst cs now new → HasTaken (flat_map f undos) (flat_map f rest) old new
-undo_taken f undos left rest u cs old now new h is same has =
-    more_taken (flat_map f undos) (flat_map f left) (flat_map f rest) (f u) old now new h
-    (ap (flat_map f) is
-    ∙ flat_map-append f rest (u ∷ [])
-    ∙ ap (λ l. flat_map f rest ++ l) (append-nil (f u)))
-    (subst (λ l. HasFirst l now new) same has)
+  pub all_undos : (made : List (Change X)) → length undos ≤ i
+      → made ++ flat_map f (drop i undos) ≡ flat_map f undos → made ≡ flat_map f undos
+  all_undos made end so_far =
+      sym (append-nil made) ∙ ap (λ us. made ++ flat_map f us) (sym (drop_all i undos end)) ∙ so_far

@@ -4,6 +4,7 @@ pub mod Differences
 pub mod HeldExpressions
 pub mod Search
 pub mod Results
+pub mod StableLaws
 pub mod FirstLaws
 pub mod SideLaws
 pub mod UndoLaws

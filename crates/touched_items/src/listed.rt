@@ -1,16 +1,11 @@
 //! What undos list, each number once.
-ghost use Rattle.std.specs.Prelude.{◌≡◌, ◌≤◌, ◌+◌, ℕ, All, IfOk, OnOk, Some, flat_map, length, map};
-ghost use Rattle.std.specs.BTreeMap.{IsOrdered, btree_map_len, get, values};
-ghost use Rattle.std.specs.Option.{option_copied, option_or};
-ghost use Rattle.std.specs.Ordering.{nat_cmp};
-ghost use Rattle.numbered_list.specs.Changes.{changed_number};
-ghost use Rattle.numbered_list.specs.Numbered.{find};
+ghost use Rattle.std.specs.Prelude.{◌≡◌, ◌++◌, IfOk, OnOk, flat_map, map};
+ghost use Rattle.std.specs.Option.{option_copied};
 ghost use Rattle.touched_items.specs.FirstChanges.{AreFirst, first_objective};
 
 use lists::Memory;
 use numbered_list::Change;
 use std::alloc::Global;
-use std::collections::BTreeMap;
 use user_model::{Group, Objective, Row, Undo};
 
 /// The groups, the rows and the objective that undos list, each once, groups and rows in the order
@@ -45,52 +40,45 @@ fn list_groups<'a>(alloc: Global, undos: &'a [Undo]) -> Result<Vec<&'a Change<Gr
     ensures { IfOk result (λ list.
         AreFirst (flat_map (λ u. u.groups) undos.now) (map (λ c. c.now) list.items)) }
 {
-    let mut first = BTreeMap::new(alloc);
-    for undo in undos.iter().rev() {
-        put_changes(&mut first, undo.groups.as_slice())?;
+    let mut changes = Vec::new(alloc);
+    for undo in undos {
+        list_changes(undo.groups.as_slice(), &mut changes)?;
     }
-    in_order(alloc, &first)
+    first_of_each(changes)
 }
 
 fn list_rows<'a>(alloc: Global, undos: &'a [Undo]) -> Result<Vec<&'a Change<Row>>, Memory>
     ensures { IfOk result (λ list.
         AreFirst (flat_map (λ u. u.rows) undos.now) (map (λ c. c.now) list.items)) }
 {
-    let mut first = BTreeMap::new(alloc);
-    for undo in undos.iter().rev() {
-        put_changes(&mut first, undo.rows.as_slice())?;
+    let mut changes = Vec::new(alloc);
+    for undo in undos {
+        list_changes(undo.rows.as_slice(), &mut changes)?;
     }
-    in_order(alloc, &first)
+    first_of_each(changes)
 }
 
-// Puts changes by their numbers, the first of a number in the place of any other.
-fn put_changes<'a, X>(
-    first: &mut BTreeMap<u32, &'a Change<X>>,
+fn list_changes<'a, X>(
     changes: &'a [Change<X>],
+    list: &mut Vec<&'a Change<X>>,
 ) -> Result<(), Memory>
-    ensures first { OnOk result ((n : ℕ) → option_copied (get nat_cmp first.new n)
-        ≡ option_or (find changed_number n changes.now) (option_copied (get nat_cmp first.old n))) }
-    ensures few { OnOk result
-        (btree_map_len first.new ≤ btree_map_len first.old + length changes.now) }
+    ensures { OnOk result (map (λ c. c.now) list.new.items
+        ≡ map (λ c. c.now) list.old.items ++ changes.now) }
 {
-    for change in changes.iter().rev() {
-        first.insert(change.number, change)?;
+    for change in changes {
+        list.push(change)?;
     }
     Ok(())
 }
 
-// The changes in the order of their numbers.
-fn in_order<'a, X>(
-    alloc: Global,
-    first: &BTreeMap<u32, &'a Change<X>>,
-) -> Result<Vec<&'a Change<X>>, Memory>
-    ensures values { IfOk result (λ list. list.items ≡ values first.now) }
-    ensures ordered { IsOrdered nat_cmp first.now }
-    ensures found { All (λ e. get nat_cmp first.now e.0 ≡ Some e.1) first.now.entries }
+// The first change of each number, in the order of the numbers.
+fn first_of_each<'a, X>(mut changes: Vec<&'a Change<X>>) -> Result<Vec<&'a Change<X>>, Memory>
+    ensures { IfOk result (λ first.
+        AreFirst (map (λ c. c.now) changes.entry.items) (map (λ c. c.now) first.items)) }
 {
-    // what this ensures of the entries
-    let _entries = first.iter();
-    Ok(first.values().copied().collect(alloc)?)
+    changes.sort_by_key(|change| change.number)?;
+    changes.dedup_by_key(|change| change.number);
+    Ok(changes)
 }
 
 fn first_objective(undos: &[Undo]) -> Option<&Objective>

@@ -28,13 +28,23 @@ returns-in_default-row_index c =
       few = omega arith;
     }
 
+pub is_same-requires-clause-names : goal.is_same-requires-clause-names
+is_same-requires-clause-names c =
+    names_of (RowNames c.args.map.now.vars.indices) c.in_ok-row.field-0 c.in-Some.row c.in-Some.is
+    c.in_ok-row.ensures.names
+
 pub returns-then-is_same : goal.returns-then-is_same
-returns-then-is_same c = record {
-  set =
-      row_same c.args.map.now c.args.solver.now.leaves c.requires.named c.args.leaf.now.at
-      c.args.leaf.now.body (c.is_same.ensures.0 c.if-is_same.true);
-  few = omega arith;
-}
+returns-then-is_same c =
+    let m = c.args.map.now in
+    let item = c.args.leaf.now in
+    let body = body_of m.vars.indices item.at item.body c.in_ok-row.field-0 c.in-Some.row
+    (leaf_rows item) c.in_ok-row.ensures.row c.requires.row c.in-Some.is in
+    record {
+      set =
+          row_same m c.args.solver.now.leaves c.requires.named item.at item.body
+          (c.is_same.ensures.0 c.if-is_same.true ∙ ap Some body);
+      few = omega arith;
+    }
 
 pub returns : goal.returns
 returns c =
@@ -54,6 +64,6 @@ returns c =
           (omega (arith, c.calls-few.ensures, c.calls-few.type_inv))
           m c.change_row.new.self.leaves refl refl item.at i row own c.change_row.ensures.changed
           c.row_at-one_to_one.ensures.one_to_one (sym c.in-Some-row_index.ensures.value) refl
-          (λ e. true≢false (sym (c.is_same.ensures.1 (e ∙ ap Some body)) ∙ c.if-is_same.false)));
+          (λ e. true≢false (sym (c.is_same.ensures.1 e) ∙ c.if-is_same.false)));
       few = omega arith;
     }

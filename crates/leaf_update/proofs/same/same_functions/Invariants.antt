@@ -1,8 +1,5 @@
-use Rattle.std.proofs.Common.{◌≡◌, map, take, length}
-use Rattle.leaf_model.specs.ReadThrough.{named}
+use Rattle.std.proofs.Common.{◌≡◌, take, length}
 use Rattle.leaf_update.proofs.same.same_functions.Given as goal
 
 abbrev pub invariant-loop-func : goal.invariant-loop-func
-invariant-loop-func l =
-    map (named l.places.vars.indices) (take (length l.yielded) l.held) ≡ take
-    (length l.yielded) l.planned
+invariant-loop-func l = take (length l.yielded) l.one ≡ take (length l.yielded) l.other

@@ -1,29 +1,24 @@
-use Rattle.std.proofs.Common.{◌≡◌, ◌++◌, ◌∷◌, [], rules, ap, flat_map}
-use Rattle.std.proofs.lemmas.List.{nil_from_length}
+use Rattle.std.proofs.Common.{◌++◌, ap, subst, ◌∙◌}
+use Rattle.std.specs.Prelude.{map}
 use Rattle.std.proofs.lemmas.Result.{IfOk-weaker}
-use Rattle.touched_items.specs.FirstLaws.{all_taken, listed_first}
-use Rattle.touched_items.proofs.Loops.{undo_taken}
+use Rattle.touched_items.specs.FirstChanges.{AreFirst}
+use Rattle.touched_items.specs.FirstLaws.{change_in}
+use Rattle.touched_items.proofs.Loops.{all_undos, one_undo}
 use Rattle.touched_items.proofs.listed.list_groups.Goals as goal
 
 pub loop-undo-preserved : goal.loop-undo-preserved
 loop-undo-preserved c =
-    let left = c.loop-undo.undo-iterator.iter.rest.now in
-    let rest = c.next.new.self.iter.rest.now in
-    let u = c.in-Some.undo.now in
-    let is : left ≡ rest ++ u ∷ [] = search rules in
-    undo_taken (λ u. u.groups) c.args.undos.now left rest u c.as_slice.result.now c.new-first.result
-    c.loop-undo.first c.put_changes.new.first c.loop-undo.invariant is c.as_slice.ensures
-    (record { first = c.in_ok-put_changes.ensures.first; few = c.in_ok-put_changes.ensures.few })
+    let l = c.loop-undo in
+    let old = map change_in l.changes.items in
+    one_undo (λ u. u.groups) c.args.undos.now l.undo-index c.undo-item.result old
+    (map change_in c.list_changes.new.list.items) c.undo-item.is c.loop-undo-test.true
+    (c.in_ok-list_changes.ensures ∙ ap (λ cs. old ++ cs) c.as_slice.ensures) l.invariant
 
 pub returns : goal.returns
 returns c =
-    let left = c.loop-undo.undo-iterator.iter.rest.now in
-    let none : flat_map (λ u. u.groups) left ≡ [] =
-    ap (flat_map (λ u. u.groups)) (nil_from_length left c.in-None.ensures.steps.0) in
-    IfOk-weaker c.in_order.result _ _
-    (λ list e. listed_first (flat_map (λ u. u.groups) c.args.undos.now) c.new-first.result
-    c.loop-undo.first list.items c.new-first.ensures.empty
-    (all_taken (flat_map (λ u. u.groups) c.args.undos.now) (flat_map (λ u. u.groups) left)
-    c.new-first.result c.loop-undo.first none c.loop-undo.invariant)
-    c.in_order.ensures.ordered c.in_order.ensures.found e)
-    c.in_order.ensures.values
+    let l = c.loop-undo in
+    IfOk-weaker c.first_of_each.result _ _
+    (λ list h. subst (λ cs. AreFirst cs (map change_in list.items))
+    (all_undos (λ u. u.groups) c.args.undos.now l.undo-index (map change_in l.changes.items)
+    c.loop-undo-test.false l.invariant) h)
+    c.first_of_each.ensures
