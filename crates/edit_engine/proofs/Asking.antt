@@ -40,7 +40,7 @@ pub unasked_by : (line : List ℕ) (command : Command) → Ok command ≡ line_s
 unfolding says_load
 unasked_by line command is off = ap is_load is ∙ off
 
--- a command that is none
+-- a command other than `load`
 pub not_load : (command : Command) → ((name : List ℕ) → command ≢ line.Load name)
     → is_load (Ok command) ≡ false
 not_load (line.Load name) other = absurd (other name refl)
