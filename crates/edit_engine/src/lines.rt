@@ -119,8 +119,8 @@ fn obey_without_file<B: Bridge>(
     command: Command,
 ) -> Result<Answer, Memory>
     requires { is_load (Ok command) ≡ false }
-    ensures step { let old = state_of cache.old in (told : Told) →
-        Makes (DoesAlone (machine_by old None pivots told) command) old result
+    ensures step { let old = state_of cache.old in (told : Told)
+        → Makes (DoesAlone (machine_by old None pivots told) command) old result
         (state_of cache.new) }
     ensures untouched { IfOk result (λ answer.
         KeepsRefused answer cache.old cache.new) }
