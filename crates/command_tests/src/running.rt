@@ -15,16 +15,33 @@ use test_support::Stop;
 
 /// Runs a case, and prints how it ends and what it writes.
 pub(crate) fn run_case<C: TestedCommand>(rt: &HostRuntime, case: &Case) -> Result<(), Stop> {
+    let fetches = failing(rt.alloc(), case.failing(Call::Fetch))?;
+    let mut shelf = MemShelf::new(files_of(rt.alloc(), case)?, fetches);
+    run_over::<C>(rt, case, &mut shelf)
+}
+
+// The shelf and the sink are lent, so that each is freed in one place.
+fn run_over<C: TestedCommand>(
+    rt: &HostRuntime,
+    case: &Case,
+    shelf: &mut MemShelf,
+) -> Result<(), Stop> {
     if case.piece == 0 {
         return Err(Stop);
     }
-    let alloc = rt.alloc();
-    let fetches = failing(alloc, case.failing(Call::Fetch))?;
-    let writes = failing(alloc, case.failing(Call::Write))?;
-    let mut shelf = MemShelf::new(files_of(alloc, case)?, fetches);
-    let mut output = MemSink::new(alloc, case.piece, writes);
-    let bridges = bridges_for(alloc, case)?;
-    let status = C::run(alloc, &case.words, &mut shelf, &mut output, bridges);
+    let writes = failing(rt.alloc(), case.failing(Call::Write))?;
+    let mut output = MemSink::new(rt.alloc(), case.piece, writes);
+    run_into::<C>(rt, case, shelf, &mut output)
+}
+
+fn run_into<C: TestedCommand>(
+    rt: &HostRuntime,
+    case: &Case,
+    shelf: &mut MemShelf,
+    output: &mut MemSink,
+) -> Result<(), Stop> {
+    let bridges = bridges_for(rt.alloc(), case)?;
+    let status = C::run(rt.alloc(), &case.words, shelf, output, bridges);
     tell(rt, status.number(), output.written())
 }
 

@@ -40,6 +40,12 @@ pub unasked_by : (line : List ℕ) (command : Command) → Ok command ≡ line_s
 unfolding says_load
 unasked_by line command is off = ap is_load is ∙ off
 
+-- a command other than `load`
+pub not_load : (command : Command) → ((name : List ℕ) → command ≢ line.Load name)
+    → is_load (Ok command) ≡ false
+not_load (line.Load name) other = absurd (other name refl)
+not_load _ other = refl
+
 -- where memory ran out that is answered, and no fault of the shelf
 pub fault_made : (made : Result Answer NoMemory) (result : Answer)
     → result ≡ result_unwrap_or made Memory → result ≡ ReadFault → made ≡ Ok ReadFault

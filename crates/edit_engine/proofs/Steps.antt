@@ -22,6 +22,12 @@ pub told : {A : Type 0} (text : A → Answer) (gives : A → CacheState → Type
 told text gives old new given (Ok answer) h is = (given, h, is)
 told text gives old new given (Err memory) h is = inr (inr (text given, (given, h, refl)))
 
+-- a fault that a call gave is reported by its refusal
+pub reported : (result : Result Answer NoMemory) (said text : Answer)
+    → IfOk result (λ answer. answer ≡ said) → text ≡ said → IfOk result (λ answer. answer ≡ text)
+reported (Ok answer) said text is same = is ∙ sym same
+reported (Err memory) said text is same = tt
+
 -- what the solver holds is printed
 pub shows : (attached : Bool) (s : CacheState) (result : Result Answer NoMemory) → attached ≡ true
     → (b : Bridging s) → IfOk result (λ answer. answer ≡ Printed (bridged_text s.model (leaves b)))

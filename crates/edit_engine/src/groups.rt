@@ -11,8 +11,10 @@ ghost use Rattle.io_face.specs.Shelf.{AsksFor};
 ghost use Rattle.io_face.specs.Told.{told_by};
 
 use crate::lines::{obey_alone, refuse};
+use crate::refusals::group_refusal;
 use bridge_face::Bridge;
 use cache_layer::{Cache, GroupFault};
+use file_answers::tell_refusal;
 use io_face::Shelf;
 use lists::Memory;
 use mof_read::Edits;
@@ -152,11 +154,6 @@ fn tell(alloc: Global, made: Result<Option<u64>, GroupFault>) -> Result<Answer, 
 {
     match made {
         Ok(count) => done(alloc, count),
-        Err(GroupFault::Refused { index, refusal }) => {
-            refuse(alloc, &Refused::Group { index, refusal })
-        }
-        Err(GroupFault::Unsupported { kind }) => refuse(alloc, &Refused::Unsupported { kind }),
-        Err(GroupFault::Overflow { place }) => refuse(alloc, &Refused::Overflow { place }),
-        Err(GroupFault::Memory) => Err(Memory),
+        Err(fault) => tell_refusal(alloc, group_refusal(fault)),
     }
 }

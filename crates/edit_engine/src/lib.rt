@@ -7,6 +7,7 @@ mod lines;
 mod loading;
 mod optimizing;
 mod plan;
+mod refusals;
 mod session;
 mod tables;
 

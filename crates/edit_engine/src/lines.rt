@@ -14,7 +14,7 @@ ghost use Rattle.edit_engine.specs.Script.{AnswersPlan, Detaches, DoesAlone, Doe
 ghost use Rattle.file_answers.specs.FileAnswers.{refused};
 ghost use Rattle.io_face.specs.Fault.{HasFaulted};
 ghost use Rattle.io_face.specs.Shelf.{AsksFor};
-ghost use Rattle.io_face.specs.Told.{told_by};
+ghost use Rattle.io_face.specs.Told.{Told, told_by};
 ghost use Rattle.report_core.specs.declared.answer.Answer.TheVariants.{Printed};
 ghost use Rattle.script_core.specs.Line.{line_said};
 
@@ -23,9 +23,11 @@ use crate::held::held;
 use crate::loading::load;
 use crate::optimizing::optimize;
 use crate::plan::choices_of;
+use crate::refusals::{attach_refusal, edit_refusal};
 use crate::tables::{costing, supporting, switched, targeted};
 use bridge_face::Bridge;
 use cache_layer::{AttachFault, Cache, EditFault, NotAttached};
+use file_answers::tell_refusal;
 use io_face::Shelf;
 use item_core::Table;
 use lists::Memory;
@@ -104,6 +106,28 @@ pub(crate) fn obey_alone<B: Bridge, H: Shelf>(
     ensures unasked { is_load (Ok command) ≡ false → shelf.new ≡ shelf.old }
 {
     match command {
+        Command::Load(name) => load(alloc, cache, shelf, &name),
+        other => obey_without_file(alloc, cache, pivots, other),
+    }
+}
+
+// A command other than `load`: its step is the same whatever the shelf tells.
+fn obey_without_file<B: Bridge>(
+    alloc: Global,
+    cache: &mut Cache<B>,
+    pivots: u32,
+    command: Command,
+) -> Result<Answer, Memory>
+    requires { is_load (Ok command) ≡ false }
+    ensures step { let old = state_of cache.old in (told : Told)
+        → Makes (DoesAlone (machine_by old None pivots told) command) old result
+        (state_of cache.new) }
+    ensures untouched { IfOk result (λ answer.
+        KeepsRefused answer cache.old cache.new) }
+    ensures few { IfOk result (λ answer.
+        TakesFew answer cache.old.lazy cache.new.lazy) }
+{
+    match command {
         Command::Silent => Ok(Answer::Silent),
         Command::Quit => Ok(Answer::Quit),
         Command::Edit(edit) => make(alloc, cache, edit),
@@ -131,7 +155,7 @@ pub(crate) fn obey_alone<B: Bridge, H: Shelf>(
         Command::Plan => show_plan(alloc, cache),
         Command::Optimize(own) => optimize(alloc, cache, u64::from(own.unwrap_or(pivots))),
         Command::Write => write(alloc, cache),
-        Command::Load(name) => load(alloc, cache, shelf, &name),
+        Command::Load(_) => unreachable!(),
     }
 }
 
@@ -177,10 +201,7 @@ fn tell(alloc: Global, made: Result<Option<u64>, EditFault>) -> Result<Answer, M
 {
     match made {
         Ok(count) => done(alloc, count),
-        Err(EditFault::Refused(refusal)) => refuse(alloc, &Refused::from(refusal)),
-        Err(EditFault::Unsupported { kind }) => refuse(alloc, &Refused::Unsupported { kind }),
-        Err(EditFault::Overflow { place }) => refuse(alloc, &Refused::Overflow { place }),
-        Err(EditFault::Memory) => Err(Memory),
+        Err(fault) => tell_refusal(alloc, edit_refusal(fault)),
     }
 }
 
@@ -202,10 +223,7 @@ fn tell_attached(alloc: Global, made: Result<u64, AttachFault>) -> Result<Answer
 {
     match made {
         Ok(count) => done(alloc, Some(count)),
-        Err(AttachFault::AlreadyAttached) => refuse(alloc, &Refused::AlreadyAttached),
-        Err(AttachFault::Unsupported { kind }) => refuse(alloc, &Refused::Unsupported { kind }),
-        Err(AttachFault::Overflow { place }) => refuse(alloc, &Refused::Overflow { place }),
-        Err(AttachFault::Memory) => Err(Memory),
+        Err(fault) => tell_refusal(alloc, attach_refusal(fault)),
     }
 }
 

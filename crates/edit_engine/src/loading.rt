@@ -12,9 +12,10 @@ ghost use Rattle.io_face.specs.Shelf.{AsksFor};
 ghost use Rattle.io_face.specs.Told.{told_by};
 
 use crate::lines::refuse;
+use crate::refusals::edit_refusal;
 use bridge_face::Bridge;
 use cache_layer::{Cache, EditFault};
-use file_answers::tell_fault;
+use file_answers::{tell_fault, tell_refusal};
 use io_face::Shelf;
 use lists::Memory;
 use model_store::UserModel;
@@ -91,9 +92,6 @@ fn tell_loaded(alloc: Global, made: Result<(), EditFault>) -> Result<Answer, Mem
 {
     match made {
         Ok(()) => done(alloc, None),
-        Err(EditFault::Refused(refusal)) => refuse(alloc, &Refused::from(refusal)),
-        Err(EditFault::Unsupported { kind }) => refuse(alloc, &Refused::Unsupported { kind }),
-        Err(EditFault::Overflow { place }) => refuse(alloc, &Refused::Overflow { place }),
-        Err(EditFault::Memory) => Err(Memory),
+        Err(fault) => tell_refusal(alloc, edit_refusal(fault)),
     }
 }

@@ -3,13 +3,14 @@ ghost use Rattle.std.specs.Prelude.{◌≡◌, IfOk, Ok};
 ghost use Rattle.cache_layer.specs.Cached.{state_of};
 ghost use Rattle.edit_engine.specs.Script.{Makes, Optimizes, optimize_answer};
 
-use crate::lines::refuse;
+use crate::refusals::optimize_refusal;
 use bridge_face::Bridge;
 use cache_layer::{Cache, Certificate, OptFault};
 use cert_text::print;
+use file_answers::tell_refusal;
 use lists::Memory;
 use model_store::UserModel;
-use report_core::{Answer, Refused};
+use report_core::Answer;
 use std::alloc::Global;
 
 /// Solves the solver's model with at most this number of pivots.
@@ -35,11 +36,7 @@ fn tell(
 {
     match made {
         Ok(certificate) => printed(alloc, model, &certificate),
-        Err(OptFault::NotAttached) => refuse(alloc, &Refused::NotAttached),
-        Err(OptFault::TooLarge { cells }) => refuse(alloc, &Refused::TooLarge { cells }),
-        Err(OptFault::Overflow { place }) => refuse(alloc, &Refused::Overflow { place }),
-        Err(OptFault::Limit { pivots }) => refuse(alloc, &Refused::Limit { pivots }),
-        Err(OptFault::Memory) => Err(Memory),
+        Err(fault) => tell_refusal(alloc, optimize_refusal(fault)),
     }
 }
 

@@ -1,10 +1,13 @@
 //! Reads scripts of edits and files of models, and prints what they are answered.
 #![tactic(auto)]
 
-ghost use Rattle.std.specs.Prelude.{◌≡◌, false};
+ghost use Rattle.std.specs.Prelude.{◌≡◌, All, IsTrue, false, map};
+ghost use Rattle.std.specs.FinMap as finite;
+ghost use Rattle.bridge_set.specs.Bridges.{families_of, occur_once};
 ghost use Rattle.edit_engine.specs.Held.{state_of};
 
-use any_bridge::{AnyBridge, all_bridges};
+use any_bridge::all_bridges;
+use bridge_face::Bridge;
 use edit_engine::Session;
 use io_face::{Files, StdIn, StdOut};
 use lists::Memory;
@@ -24,12 +27,21 @@ fn main(rt: HostRuntime) -> ExitCode {
 
 /// Runs the words on a new session that has a bridge of each family.
 fn run_words(rt: &HostRuntime, words: &[String]) -> Result<Status, Memory> {
-    let mut session = Session::new(rt.alloc(), all_bridges(rt.alloc())?);
-    Ok(run_on(rt, words, &mut session))
+    let bridges = all_bridges(rt.alloc())?;
+    Ok(run_by(rt, words, bridges))
+}
+
+// Generic in the bridges, since freeing a session of `AnyBridge` takes a case for each family.
+fn run_by<B: Bridge>(rt: &HostRuntime, words: &[String], bridges: Vec<B>) -> Status
+    requires once { IsTrue (occur_once (families_of (map B.state bridges.items))) }
+    requires kept { All (λ s. s.kept ≡ finite.empty) (map B.state bridges.items) }
+{
+    let mut session = Session::new(rt.alloc(), bridges);
+    run_on(rt, words, &mut session)
 }
 
 // The session is lent, so that it is freed once, where nothing else is at hand.
-fn run_on(rt: &HostRuntime, words: &[String], session: &mut Session<AnyBridge>) -> Status
+fn run_on<B: Bridge>(rt: &HostRuntime, words: &[String], session: &mut Session<B>) -> Status
     requires { (state_of session.old).attached ≡ false }
 {
     let mut shelf = Files::new(rt);

@@ -1,37 +1,18 @@
--- Lines that leave the cache.
-use Rattle.std.proofs.Common.{Ok, refl}
-use Rattle.edit_engine.proofs.FewTold.{few_stays}
-use Rattle.report_core.specs.declared.answer.Answer.TheVariants.{Quit, Silent}
+-- Only a line `load` asks for a file.
+use Rattle.std.proofs.Common.{sym, true≢false, ◌∙◌}
+use Rattle.edit_engine.proofs.Asking.{not_load}
 use Rattle.edit_engine.proofs.lines.obey_alone.Goals as goal
 
-pub returns-in-Silent-clause-few : goal.returns-in-Silent-clause-few
-returns-in-Silent-clause-few g c =
-    few_stays (Ok Silent) c.args.cache.now.lazy c.args.cache.now.lazy refl
+pub obey_without_file-requires : goal.obey_without_file-requires
+obey_without_file-requires g c = not_load c.args.command c.in_default.not-Load
 
-pub returns-in-Quit-clause-few : goal.returns-in-Quit-clause-few
-returns-in-Quit-clause-few g c =
-    few_stays (Ok Quit) c.args.cache.now.lazy c.args.cache.now.lazy refl
+pub returns-in_default-clause-step : goal.returns-in_default-clause-step
+returns-in_default-clause-step g c = c.obey_without_file.ensures.step _
 
-pub returns-in-Begin-clause-few : goal.returns-in-Begin-clause-few
-returns-in-Begin-clause-few g c =
-    few_stays c.done.result c.args.cache.now.lazy c.args.cache.now.lazy refl
+pub returns-in_default-clause-cause : goal.returns-in_default-clause-cause
+returns-in_default-clause-cause g c = λ on fault.
+    absurd (true≢false (sym on ∙ not_load c.args.command c.in_default.not-Load))
 
-pub returns-in-Commit-clause-few : goal.returns-in-Commit-clause-few
-returns-in-Commit-clause-few g c =
-    few_stays c.refuse.result c.args.cache.now.lazy c.args.cache.now.lazy refl
-
-pub returns-in-Bridged-clause-few : goal.returns-in-Bridged-clause-few
-returns-in-Bridged-clause-few g c =
-    few_stays c.bridged.result c.args.cache.now.lazy c.args.cache.now.lazy refl
-
-pub returns-in-Plan-clause-few : goal.returns-in-Plan-clause-few
-returns-in-Plan-clause-few g c =
-    few_stays c.show_plan.result c.args.cache.now.lazy c.args.cache.now.lazy refl
-
-pub returns-in-Optimize-clause-few : goal.returns-in-Optimize-clause-few
-returns-in-Optimize-clause-few g c =
-    few_stays c.optimize.result c.args.cache.now.lazy c.args.cache.now.lazy refl
-
-pub returns-in-Write-clause-few : goal.returns-in-Write-clause-few
-returns-in-Write-clause-few g c =
-    few_stays c.write.result c.args.cache.now.lazy c.args.cache.now.lazy refl
+pub returns-in_default-clause-asks : goal.returns-in_default-clause-asks
+returns-in_default-clause-asks g c = λ on.
+    absurd (true≢false (sym on ∙ not_load c.args.command c.in_default.not-Load))

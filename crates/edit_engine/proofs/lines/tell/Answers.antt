@@ -1,0 +1,9 @@
+use Rattle.std.proofs.Common.{ap, ◌∙◌}
+use Rattle.edit_engine.specs.Script.{edit_answer}
+use Rattle.edit_engine.proofs.Steps.{reported}
+use Rattle.edit_engine.proofs.lines.tell.Goals as goal
+
+pub returns-in-Err : goal.returns-in-Err
+returns-in-Err c =
+    reported c.tell_refusal.result _ _ c.tell_refusal.ensures.answer
+    (ap edit_answer c.in-Err.is ∙ c.edit_refusal.ensures.edit)
