@@ -7,6 +7,7 @@ pub mod RowsSteps
 pub mod PivotSteps
 pub mod BoardSteps
 pub mod StartSteps
+pub mod WholeStartSteps
 pub mod ScanSteps
 pub mod WordSteps
 pub mod MarkSteps

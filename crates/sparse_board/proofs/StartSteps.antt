@@ -1,9 +1,11 @@
 -- The rows of a board at its start.
-use Rattle.std.specs.Prelude.{◌≡◌, ℕ, ◌+◌, ◌-◌, ◌<◌, ◌≤◌, ◌^◌, List, [], ◌∷◌, drop, length, slice_index_or, refl}
-use Rattle.std.proofs.Common.{sym, ◌∙◌, ap, arith, subst}
+use Rattle.std.specs.Prelude.{◌≡◌, ℕ, ◌+◌, ◌-◌, ◌<◌, ◌≤◌, ◌^◌, List, [], ◌∷◌, drop, length, slice_index_or, ◌⊎◌, refl}
+use Rattle.std.proofs.Common.{inl, inr, sym, ◌∙◌, ap, arith, subst}
 use Rattle.std.proofs.Math.ListN.{drop_of_length-le}
+use Rattle.std.proofs.lemmas.Bool.{cases_lt}
 use Rattle.std.proofs.lemmas.List.{drop_more}
 use Rattle.ratio_core.specs.Rational.{Rational, one_ℚ, zero_ℚ}
+use Rattle.simplex_laws.specs.BoundedSumLaws.{same_or_other}
 use Rattle.sparse_ratios.specs.Terms.{AreTerms, number_at}
 use Rattle.simplex_form.specs.Basis.{start}
 use Rattle.simplex_form.specs.Board.{entry}
@@ -92,6 +94,20 @@ start-kept a m count few wide first second step basis columns rows marked = reco
   where
     same_width : a.reals + m ≡ columns_of a
     same_width = ap (λ n. a.reals + n) (sym count)
+
+-- what is put into zeros over 1
+pub entries_are : (F : Form) (i : ℕ) → i < F.rows → (numbers : ℕ → Rational)
+    → ((j : ℕ) → j < F.reals → numbers j ≡ F.matrix i j) → numbers (F.reals + i) ≡ one_ℚ
+    → ((j : ℕ) → F.reals ≤ j → j < F.reals + F.rows → ¬ (j ≡ F.reals + i) → numbers j ≡ zero_ℚ)
+    → (j : ℕ) → j < F.reals + F.rows → numbers j ≡ entry F (start F) j i
+entries_are F i row numbers reals unit others j b = by_kind (cases_lt j F.reals)
+  where
+    by_kind : (j < F.reals) ⊎ (F.reals ≤ j) → numbers j ≡ entry F (start F) j i
+    by_kind (inl d) = real-entry F j i (numbers j) row d (reals j d)
+    by_kind (inr d) = same_or_other (numbers j ≡ entry F (start F) j i) j (F.reals + i)
+        (λ e. subst (λ k. numbers k ≡ entry F (start F) k i) (sym e)
+        (unit_is F i row (numbers (F.reals + i)) unit))
+        (λ n. others j d b n ∙ sym (other_zero F i row j d n))
 
 -- ---- a row's terms, one after the other
 

@@ -11,3 +11,4 @@ pub mod Testing
 pub mod Pivoting
 pub mod Leaving
 pub mod Kept
+pub mod Starting

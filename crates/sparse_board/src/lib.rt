@@ -18,6 +18,7 @@ mod scan;
 mod sparse_row;
 mod spreading;
 mod start;
+mod starting;
 mod step;
 mod words;
 

@@ -53,6 +53,26 @@ impl Row {
         }
     }
 
+    // A row of whole numbers.
+    pub(crate) fn of_whole(alloc: Global, narrow: NarrowRow, width: usize) -> Row
+        requires columns { width ≤ whole.width_of narrow + 1 }
+        requires few { width < 2 ^ 32 }
+        ensures width { width_of result.now ≡ width }
+        ensures numbers { (j : ℕ) → number_of result.now j ≡ whole.number_of narrow j }
+    {
+        Row {
+            now: MixedRow {
+                width,
+                narrow,
+                wide: SparseRow::closed(alloc),
+                is_wide: false,
+            },
+            next: SparseRow::closed(alloc),
+            changes: false,
+            left: 0,
+        }
+    }
+
     // Works out what a pivot on column q makes of the row, where `step` is the pivot's new row. A
     // row of whole numbers passes each test of such a step, and is lowered in place.
     #[inline(always)]

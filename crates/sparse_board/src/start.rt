@@ -11,6 +11,7 @@ ghost use Rattle.sparse_board.specs.Rows.{AreSparseRowsWide, number_in_row};
 
 use crate::row::Row;
 use crate::sparse_row::SparseRow;
+use crate::starting::{put_numbers, put_row};
 use ratio_core::Ratio;
 use sparse_ratios::SparseRatios;
 use std::alloc::{AllocError, Global};
@@ -43,8 +44,8 @@ pub(crate) fn start_rows(
     Ok(rows)
 }
 
-// Row i: its entries, the unit number of its artificial column, and its right side. All rows are
-// made in one room.
+// Row i: its entries, the unit number of its artificial column, and its right side. All rows of
+// fractions are made in one room.
 fn start_row(
     alloc: Global,
     m: usize,
@@ -64,14 +65,17 @@ fn start_row(
     ensures side { IfOk result (λ row. number_of row.now (c + m) ≡ side.now) }
     ensures room { IfOk result (λ row. sparse.width_of room.new ≤ c + m + 1) }
 {
+    let terms = row_terms(m, c, matrix, i);
+    let mut narrow = NarrowRow::zeros(alloc, c + m)?;
+    if put_row(&mut narrow, terms, i * c, c, c + i, side) {
+        return Ok(Row::of_whole(alloc, narrow, c + m + 1));
+    }
     room.open(c + m + 1)?;
     room.clear();
-    let terms = row_terms(m, c, matrix, i);
     push_row(room, terms, i * c, c);
     room.push_any((c + i) as u32, Ratio::one());
     let _fits = side.num();
     room.push_any((c + m) as u32, *side);
-    let narrow = NarrowRow::zeros(alloc, c + m)?;
     Ok(Row::new(alloc, narrow, room, c + m + 1))
 }
 
@@ -99,10 +103,13 @@ pub(crate) fn cost_row(alloc: Global, numbers: &[Ratio]) -> Result<Row, AllocErr
     ensures numbers { IfOk result (λ row.
         (j : ℕ) → j < length numbers.now → number_of row.now j ≡ cell numbers.now j) }
 {
+    let mut narrow = NarrowRow::zeros(alloc, numbers.len())?;
+    if put_numbers(&mut narrow, numbers) {
+        return Ok(Row::of_whole(alloc, narrow, numbers.len()));
+    }
     let mut room = SparseRow::zeros(alloc, numbers.len())?;
     for j in 0..numbers.len() {
         room.push_any(j as u32, numbers[j]);
     }
-    let narrow = NarrowRow::zeros(alloc, numbers.len())?;
     Ok(Row::new(alloc, narrow, &mut room, numbers.len()))
 }

@@ -43,9 +43,11 @@ impl NarrowRow {
     ghost use Rattle.whole_rows.specs.Shrinking.{IsLongPlan};
     ghost use Rattle.whole_rows.specs.Rows.{CanLower, IsDivision, IsLoweringPlan, IsNarrowDivided, IsNarrowLowered, IsNarrowReady, can_stay, lowered_by, number_of, numerator_of, stays_narrow, width_of};
 
-    /// Zeros in this number of columns.
+    /// Zeros in this number of columns, over 1.
     pub fn zeros(alloc: Global, width: usize) -> Result<NarrowRow, AllocError>
-        ensures { IfOk result (λ row. width_of row ≡ width) }
+        ensures width { IfOk result (λ row. width_of row ≡ width) }
+        ensures den { IfOk result (λ row. row.den ≡ 1) }
+        ensures zeros { IfOk result (λ row. (j : ℕ) → numerator_of row j ≡ pos 0) }
     {
         let numbers = vec![in alloc; 0i64; width]?;
         let marks = vec![in alloc; 0u64; word_count(width)]?;

@@ -1,0 +1,11 @@
+-- Whole numbers that a row starts with.
+use Rattle.std.specs.Prelude.{◌≡◌, ℕ, ◌≤◌}
+use Rattle.ratio_core.specs.Rational.{Rational}
+use Rattle.whole_rows.specs.declared.narrow_row.NarrowRow.{NarrowRow}
+use Rattle.whole_rows.specs.Rows.{number_of, width_of}
+
+-- a column has its number now, and each other the same; the right side stands behind the columns
+pub record IsNumberPut (column : ℕ) (value : Rational) (old new : NarrowRow) : Type 0 where
+  pub width : width_of new ≡ width_of old
+  pub here : number_of new column ≡ value
+  pub elsewhere : (j : ℕ) → j ≤ width_of old → ¬ (j ≡ column) → number_of new j ≡ number_of old j
