@@ -175,3 +175,28 @@ first_more i numbers value row new wide h is put = record {
 
     next_lem : (j i : ℕ) → i + 1 ≤ j → i ≤ j
     next_lem j i b = omega (arith, b)
+
+-- ---- a row: its entries, and then a unit and a right side
+
+module _ (first second third : NarrowRow) (unit w : ℕ) (one side : Rational)
+    (w_is : w ≡ width_of second) (unit_put : IsNumberPut unit one first second)
+    (side_put : IsNumberPut w side second third) where
+  not_side : (j : ℕ) → j < width_of first → ¬ (j ≡ w)
+  not_side j b e = omega (arith, b, e, w_is, unit_put.width)
+
+  in_second : (j : ℕ) → j < width_of first → j ≤ width_of second
+  in_second j b = omega (arith, b, unit_put.width)
+
+  in_first : (j : ℕ) → j < width_of first → j ≤ width_of first
+  in_first j b = omega (arith, b)
+
+  pub row_same : (j : ℕ) → j < width_of first → ¬ (j ≡ unit)
+      → number_of third j ≡ number_of first j
+  row_same j b n =
+      side_put.elsewhere j (in_second j b) (not_side j b) ∙ unit_put.elsewhere j (in_first j b) n
+
+  pub row_unit : unit < width_of first → number_of third unit ≡ one
+  row_unit b = side_put.elsewhere unit (in_second unit b) (not_side unit b) ∙ unit_put.here
+
+  pub row_side : number_of third (width_of first) ≡ side
+  row_side = subst (λ k. number_of third k ≡ side) (w_is ∙ unit_put.width) side_put.here
