@@ -1,4 +1,5 @@
 use Rattle.std.proofs.Common.{arith, refl, ◌∙◌}
+use Rattle.tableau_core.specs.ItemLaws.{item_is}
 use Rattle.sparse_board.proofs.WholeStartSteps.{first_more, first_none}
 use Rattle.sparse_board.proofs.starting.put_numbers.Goals as goal
 
@@ -18,9 +19,11 @@ pub loop-j-preserved : goal.loop-j-preserved
 loop-j-preserved c = record {
   width = c.put_any.ensures.width ∙ c.loop-j.invariant.width;
   den = c.put_any.ensures.den;
-  put = first_more c.loop-j.j c.args.numbers.now _ c.loop-j.row c.put_any.new.row
+  put = first_more c.loop-j.j c.args.numbers.now c.index-numbers-j.result c.loop-j.row c.put_any.new.row
       (omega (arith, c.requires.long, c.loop-j-test.true, c.loop-j.invariant.width))
-      c.loop-j.invariant.put ? (c.put_any.ensures.put c.if-not-put_any.false);
+      c.loop-j.invariant.put
+      (item_is c.args.numbers.now c.loop-j.j c.index-numbers-j.result c.loop-j-test.true
+      c.index-numbers-j.is) (c.put_any.ensures.put c.if-not-put_any.false);
 }
 
 pub returns-clause-numbers : goal.returns-clause-numbers
