@@ -31,12 +31,7 @@ impl Row {
     ghost use Rattle.sparse_board.specs.Testing.{IsTest};
 
     // A row of the fractions in `room`, with room for whole numbers.
-    pub(crate) fn new(
-        alloc: Global,
-        narrow: NarrowRow,
-        room: &mut SparseRow,
-        width: usize,
-    ) -> Row
+    pub(crate) fn new(alloc: Global, narrow: NarrowRow, room: &mut SparseRow, width: usize) -> Row
         requires width { sparse.width_of room.old ≡ width }
         requires columns { width ≤ whole.width_of narrow + 1 }
         requires few { width < 2 ^ 32 }
