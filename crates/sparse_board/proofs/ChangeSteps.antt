@@ -1,5 +1,5 @@
 -- The rows that a pivot changes, noted from the lowest on.
-use Rattle.std.specs.Prelude.{◌≡◌, ℕ, zero, suc, ◌+◌, ◌-◌, ◌*◌, ◌/◌, ◌%◌, ◌<◌, ◌≤◌, ◌⊎◌, Bool, IsTrue, List, length, min, nat_eq, slice_index, slice_set, refl}
+use Rattle.std.specs.Prelude.{◌≡◌, ℕ, zero, suc, ◌+◌, ◌-◌, ◌*◌, ◌/◌, ◌%◌, ◌<◌, ◌≤◌, ◌⊎◌, Bool, IsTrue, true, false, List, length, min, nat_eq, slice_index, slice_set, refl}
 use Rattle.std.proofs.Common.{inl, inr, sym, ◌∙◌, add-zero, ap, arith, eqb-true, subst, subst₂}
 use Rattle.std.specs.Int.{bit_at}
 use Rattle.std.proofs.lemmas.Bool.{cases_lt}
@@ -33,13 +33,13 @@ unset_zero rows marks w q k word marked column long read b small within e =
 -- a row that isn't counted is the pivot's, or has no number
 pub other_row : (rows : List Row) (r q i : ℕ) (is_zero : Bool) (more : ℕ)
     → (IsTrue is_zero → number_in_row rows i q ≡ zero_ℚ)
-    → (more ≡ 0 → IsTrue is_zero ⊎ IsTrue (nat_eq i r)) → more ≡ 0 → ¬ (i ≡ r)
+    → (more ≡ 0 → is_zero ≡ false → IsTrue (nat_eq i r)) → more ≡ 0 → ¬ (i ≡ r)
     → number_in_row rows i q ≡ zero_ℚ
-other_row rows r q i is_zero more zero_lem none e n = by_test (none e)
+other_row rows r q i is_zero more zero_lem none e n = by_test is_zero refl
   where
-    by_test : IsTrue is_zero ⊎ IsTrue (nat_eq i r) → number_in_row rows i q ≡ zero_ℚ
-    by_test (inl t) = zero_lem t
-    by_test (inr t) = absurd (n (eqb-true i r t))
+    by_test : (t : Bool) → is_zero ≡ t → number_in_row rows i q ≡ zero_ℚ
+    by_test true f = zero_lem f
+    by_test false f = absurd (n (eqb-true i r (none e f)))
 
 module _ (rows : List Row) (r q : ℕ) where
   pub noted_none : (items : List ℕ) → length items ≡ length rows

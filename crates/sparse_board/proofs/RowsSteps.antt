@@ -84,7 +84,7 @@ pub listed_is : (changes : Changes) (k item : ℕ) → k < changes.count
     → item ≡ slice_index_or changes.rows.items k item → item ≡ slice_index changes.rows.items k
 listed_is changes k item b is =
     is ∙ get_or_default changes.rows.items k item 0
-    (omega (arith, b, changes.fits, changes.rows.ok.0))
+    (omega (arith, b, changes.fits))
 
 pub listed_within : (n k item : ℕ) (items : List ℕ) (count : ℕ) → AreRowsListed n items count
     → k < count → item ≡ slice_index items k → item < n

@@ -1,5 +1,5 @@
 //! The rows that a pivot changes.
-ghost use Rattle.std.specs.Prelude.{◌≡◌, ◌+◌, ◌<◌, ◌≤◌, ◌^◌, ◌⊎◌, ℕ, IsTrue, false, length, min, vec_len};
+ghost use Rattle.std.specs.Prelude.{◌≡◌, ◌+◌, ◌<◌, ◌≤◌, ◌^◌, ℕ, IsTrue, false, length, min};
 ghost use Rattle.std.specs.Int.{bit_at};
 ghost use Rattle.ratio_core.specs.Rational.{zero_ℚ};
 ghost use Rattle.sparse_board.specs.Mixed as mixed;
@@ -22,7 +22,7 @@ use whole_rows::{is_nonzero_at, next_bit, without_bit_if, without_lowest};
 pub(crate) struct Changes {
     pub(crate) rows: Vec<u32>,
     pub(crate) count: usize,
-    ghost fits: { count ≤ vec_len rows },
+    ghost fits: { count ≤ length rows.items },
 }
 
 impl Changes {
@@ -147,10 +147,10 @@ fn note_bits(
 #[inline]
 fn change_count(is_zero: bool, is_own: bool) -> usize
     ensures few { result ≤ 1 }
-    ensures none { result ≡ 0 → IsTrue is_zero ⊎ IsTrue is_own }
+    ensures none { result ≡ 0 → is_zero ≡ false → IsTrue is_own }
     ensures one { result ≡ 1 → is_own ≡ false }
 {
-    if is_zero | is_own { 0 } else { 1 }
+    if is_zero || is_own { 0 } else { 1 }
 }
 
 // Whether the row's number of column q is 0.
