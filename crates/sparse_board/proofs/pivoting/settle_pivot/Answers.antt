@@ -17,6 +17,12 @@ row_width c =
     (subst (λ n. c.args.r < n) (sym c.settle_rows.auto.rows) c.requires.row)))
     ∙ c.settle_rows.ensures.widths c.args.r ∙ c.requires.wide c.args.r c.requires.row
 
+pub exchange-requires : goal.exchange-requires
+exchange-requires c =
+    sym (sym (ap width_at (row_is c.settle_rows.new.rows c.args.r c.index-rows-r.result
+    (subst (λ n. c.args.r < n) (sym c.settle_rows.auto.rows) c.requires.row)))
+    ∙ c.settle_rows.ensures.widths c.args.r ∙ c.requires.wide c.args.r c.requires.row)
+
 pub returns-clause-wide : goal.returns-clause-wide
 returns-clause-wide c =
     settled-wide c.args.rows.now c.settle_rows.new.rows c.args.r c.args.step.now

@@ -20,19 +20,19 @@ loop-k-init c =
     prepared-none c.args.step.now.width c.args.q c.args.step.now c.args.changes.now.rows.items
     c.args.rows.now
 
-pub index-rows-i-within : goal.index-rows-i-within
-index-rows-i-within c =
+pub bounds-rows-i : goal.bounds-rows-i
+bounds-rows-i c =
     subst (λ n. c.index.result.now < n) (sym c.loop-k.invariant.long)
-    (item_within (goal.at.index-rows-i-within c).After-index)
+    (item_within (goal.at.bounds-rows-i c).After-index)
 
 pub prepare-requires-clause-width : goal.prepare-requires-clause-width
 prepare-requires-clause-width c = omega (
-      arith,
-      prepared_wide c.args.step.now.width c.args.q c.args.step.now c.args.changes.now.rows.items
-          c.args.rows.now c.loop-k.rows c.loop-k.k c.loop-k.invariant c.requires.wide
-          c.index.result.now c.index-rows-i.result
-          (item_within (goal.at.prepare-requires-clause-width c).After-index),
-    )
+  arith,
+  prepared_wide c.args.step.now.width c.args.q c.args.step.now c.args.changes.now.rows.items
+      c.args.rows.now c.loop-k.rows c.loop-k.k c.loop-k.invariant c.requires.wide
+      c.index.result.now c.index-rows-i.result
+      (item_within (goal.at.prepare-requires-clause-width c).After-index),
+)
 
 pub loop-k-preserved : goal.loop-k-preserved
 loop-k-preserved c =

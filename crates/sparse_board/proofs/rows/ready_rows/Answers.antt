@@ -12,9 +12,9 @@ item_is c = listed_is c.args.changes.now c.loop-k.k c.index.result.now c.loop-k-
 pub loop-k-init : goal.loop-k-init
 loop-k-init c = changed-none (IsMixedReady c.args.q c.args.step.now) c.args.changes.now.rows.items c.args.rows.now
 
-pub index-rows-i-within : goal.index-rows-i-within
-index-rows-i-within c =
-    let at = (goal.at.index-rows-i-within c).After-index in
+pub bounds-rows-i : goal.bounds-rows-i
+bounds-rows-i c =
+    let at = (goal.at.bounds-rows-i c).After-index in
     subst (λ n. c.index.result.now < n) (sym c.loop-k.invariant.long)
     (listed_within (length c.args.rows.now) c.loop-k.k c.index.result.now
     c.args.changes.now.rows.items c.args.changes.now.count c.requires.listed c.loop-k-test.true

@@ -4,8 +4,8 @@ use Rattle.whole_rows.proofs.dividing.greatest_within.Goals as goal
 below_lem : (a b : ℕ) → a ≤ b → b < 2 ^ 63 → a < 2 ^ 63
 below_lem a b h k = omega (arith, h, k)
 
-pub returns-then-bound-SMALL : goal.returns-then-bound-SMALL
-returns-then-bound-SMALL c = record {
+pub returns-then-bound-lt-SMALL : goal.returns-then-bound-lt-SMALL
+returns-then-bound-lt-SMALL c = record {
   within_size = c.requires.size;
   within = λ j b. c.requires.within j;
   small = c.requires.bound;
