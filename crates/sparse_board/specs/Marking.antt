@@ -1,5 +1,5 @@
 -- Marks of the numbers that may differ from 0: each other number is 0.
-use Rattle.std.specs.Prelude.{◌≡◌, ℕ, ◌+◌, ◌/◌, ◌%◌, ◌<◌, ◌≤◌, true, false, List, length}
+use Rattle.std.specs.Prelude.{◌≡◌, ℕ, ◌+◌, ◌/◌, ◌%◌, ◌<◌, true, false, List, length}
 use Rattle.std.specs.Int.{bit_at}
 use Rattle.ratio_core.specs.Rational.{Rational, zero_ℚ}
 use Rattle.sparse_board.specs.declared.marks.Marks.{Marks}

@@ -1,4 +1,4 @@
-use Rattle.std.proofs.Common.{◌<◌, length, subst, sym}
+use Rattle.std.proofs.Common.{subst, sym}
 use Rattle.sparse_board.specs.Changes.{AreRowsListed}
 use Rattle.sparse_board.proofs.RowsSteps.{both-lowered, both-widths, ready-left}
 use Rattle.sparse_board.proofs.rows.settle_rows.Goals as goal
