@@ -64,6 +64,10 @@ fn write(numbers: &mut [Ratio], place: usize, number: i64) -> Result<(), BenchFa
 }
 
 /// A whole number as a fraction.
+#[inline]
 pub fn whole(n: i64) -> Result<Ratio, RatioFault> {
+    if n == 0 {
+        return Ok(Ratio::zero());
+    }
     Ratio::new(i128::from(n), 1)
 }

@@ -31,7 +31,7 @@ pub fn form(alloc: Global, seed: u32, size: &Size) -> Result<StdForm, BenchFault
     let (m, c) = (usize::from(size.rows), usize::from(size.columns));
     let point = numbers(alloc, &mut draw, c, 4)?;
     let costs = fractions(alloc, &numbers(alloc, &mut draw, c, 9)?)?;
-    let mut matrix = Vec::with_capacity(alloc, m * c)?;
+    let mut matrix = SparseRatios::new(alloc);
     let mut right = Vec::with_capacity(alloc, m)?;
     put_rows(alloc, &mut draw, size, &point, &mut matrix, &mut right)?;
     checked(alloc, m, c, matrix, right, costs)
@@ -42,11 +42,12 @@ fn put_rows(
     draw: &mut Draw,
     size: &Size,
     point: &[i64],
-    matrix: &mut Vec<Ratio>,
+    matrix: &mut SparseRatios,
     right: &mut Vec<Ratio>,
 ) -> Result<(), BenchFault> {
+    let mut row = Vec::with_capacity(alloc, usize::from(size.columns))?;
     for _ in 0..size.rows {
-        let row = row(alloc, draw, size)?;
+        draw_row(draw, size, &mut row)?;
         put_row(&row, side(&row, point), matrix, right)?;
     }
     Ok(())
@@ -55,11 +56,12 @@ fn put_rows(
 fn put_row(
     row: &[i64],
     side: i64,
-    matrix: &mut Vec<Ratio>,
+    matrix: &mut SparseRatios,
     right: &mut Vec<Ratio>,
 ) -> Result<(), BenchFault> {
     for entry in row {
-        matrix.push(whole(turned(*entry, side))?)?;
+        let place = matrix.len();
+        matrix.put(place, whole(turned(*entry, side))?)?;
     }
     right.push(whole(turned(side, side))?)?;
     Ok(())
@@ -79,7 +81,7 @@ pub fn checked(
     alloc: Global,
     m: usize,
     c: usize,
-    matrix: Vec<Ratio>,
+    matrix: SparseRatios,
     right: Vec<Ratio>,
     costs: Vec<Ratio>,
 ) -> Result<StdForm, BenchFault>
@@ -93,7 +95,7 @@ pub fn checked(
     Ok(StdForm {
         m,
         c,
-        matrix: SparseRatios::from_slice(alloc, &matrix)?,
+        matrix,
         right: Sequence::from_vec(right),
         costs: Sequence::from_vec(costs),
         flips: Sequence::from_vec(flips),
@@ -124,16 +126,16 @@ fn numbers(alloc: Global, draw: &mut Draw, count: usize, n: u32) -> Result<Vec<i
     Ok(drawn)
 }
 
-// The entries of a row.
-fn row(alloc: Global, draw: &mut Draw, size: &Size) -> Result<Vec<i64>, AllocError> {
+// Draws the entries of a row.
+fn draw_row(draw: &mut Draw, size: &Size, row: &mut Vec<i64>) -> Result<(), BenchFault> {
     let span = 2 * u32::from(size.greatest) + 1;
-    let mut drawn = Vec::with_capacity(alloc, usize::from(size.columns))?;
+    row.clear();
     for _ in 0..size.columns {
         let stands = size.sparse == 0 || draw.below(u32::from(size.sparse)) == 0;
         let number = i64::from(draw.below(span)).wrapping_sub(i64::from(size.greatest));
-        drawn.push(if stands { number } else { 0 })?;
+        row.push(if stands { number } else { 0 })?;
     }
-    Ok(drawn)
+    Ok(())
 }
 
 // The row times the point.

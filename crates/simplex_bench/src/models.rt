@@ -7,6 +7,7 @@ use crate::draw::Draw;
 use crate::fault::BenchFault;
 use crate::forms::checked;
 use simplex_core::StdForm;
+use sparse_ratios::SparseRatios;
 use std::alloc::Global;
 
 /// What is modelled.
@@ -43,6 +44,7 @@ pub fn model(alloc: Global, kind: Kind, m: u16, c: u16) -> Result<StdForm, Bench
         costs,
         ..
     } = draft;
+    let matrix = SparseRatios::from_slice(alloc, &matrix)?;
     checked(alloc, usize::from(m), usize::from(c), matrix, right, costs)
 }
 

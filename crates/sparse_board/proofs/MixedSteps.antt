@@ -274,11 +274,7 @@ quotients_wide q row e =
     (λ j. fits (number_of row j /ℚ number_of row q))
     (λ j b i. fits (sym (number_wide row e j) i /ℚ sym (number_wide row e q) i))
 
--- what doesn't count where the row, or the step, is narrow
-
-pub same_narrow : (b : Bool) (x y z : Rational) → b ≡ false
-    → (if b then x else y) ≡ (if b then z else y)
-same_narrow b x y z e = (λ i. if e i then x else y) ∙ sym (λ i. if e i then z else y)
+-- what doesn't count where the step is narrow
 
 pub same_units : (b : Bool) (x y z : Rational) → b ≡ true
     → (if b then x else y) ≡ (if b then x else z)

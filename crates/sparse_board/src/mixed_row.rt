@@ -32,27 +32,39 @@ impl MixedRow {
     ghost use Rattle.whole_rows.specs.Rows.{CanLower, can_stay, lowered_by};
     ghost use Rattle.sparse_board.specs.Mixed.{IsLeft, IsSame, number_left, number_of, units_of, width_of};
 
-    // A row of these fractions, with whole numbers for this number of columns.
+    // A row of the fractions in `room`: of whole numbers, with room for them in `narrow`, where 64 bits
+    // are enough. Else it keeps the fractions' room.
     pub(crate) fn new(
         alloc: Global,
-        wide: SparseRow,
+        narrow: NarrowRow,
+        room: &mut SparseRow,
         width: usize,
-        columns: usize,
-    ) -> Result<MixedRow, AllocError>
-        requires width { sparse.width_of wide ≡ width }
-        requires room { width ≤ columns + 1 }
+    ) -> MixedRow
+        requires width { sparse.width_of room.old ≡ width }
+        requires columns { width ≤ whole.width_of narrow + 1 }
         requires few { width < 2 ^ 32 }
-        ensures width { IfOk result (λ row. width_of row ≡ width) }
-        ensures numbers { IfOk result (λ row.
-            (j : ℕ) → number_of row j ≡ sparse.number_of wide j) }
+        ensures width { width_of result ≡ width }
+        ensures room { sparse.width_of room.new ≤ width }
+        ensures numbers { (j : ℕ) → j < width
+            → number_of result j ≡ sparse.number_of room.old j }
     {
-        let narrow = NarrowRow::zeros(alloc, columns)?;
-        Ok(MixedRow {
+        let mut narrow = narrow;
+        let mut wide = SparseRow::closed(alloc);
+        if narrow_to(room, &mut narrow) {
+            return MixedRow {
+                width,
+                narrow,
+                wide,
+                is_wide: false,
+            };
+        }
+        mem::swap(&mut wide, room);
+        MixedRow {
             width,
             narrow,
             wide,
             is_wide: true,
-        })
+        }
     }
 
     // The number of a column.
@@ -73,16 +85,6 @@ impl MixedRow {
         if self.is_wide && narrow_to(&self.wide, &mut self.narrow) {
             self.is_wide = false;
         }
-    }
-
-    // Lets the room for fractions go where the row is narrow.
-    pub(crate) fn let_go(&mut self, alloc: Global)
-        ensures { IsSame self.old self.new }
-    {
-        if self.is_wide {
-            return;
-        }
-        self.wide = SparseRow::closed(alloc);
     }
 
     // Takes fractions in as many columns.

@@ -1,7 +1,8 @@
 //! A row of the board, and the one that comes after it.
-ghost use Rattle.std.specs.Prelude.{◌≡◌, ◌+◌, ◌<◌, ◌≤◌, ◌^◌, ◌&&◌, ℕ, not, false, IfOk, OnOk};
+ghost use Rattle.std.specs.Prelude.{◌≡◌, ◌+◌, ◌<◌, ◌≤◌, ◌^◌, ◌&&◌, ℕ, not, false, OnOk};
 ghost use Rattle.sparse_board.specs.Numbers as sparse;
 ghost use Rattle.sparse_board.specs.Mixed.{IsBoth, number_of, units_of, width_of};
+ghost use Rattle.whole_rows.specs.Rows as whole;
 
 use crate::lowering::lower_mixed;
 use crate::mixed_row::MixedRow;
@@ -9,6 +10,7 @@ use crate::sparse_row::SparseRow;
 use crate::step::Step;
 use ratio_core::NumberFault;
 use std::alloc::{AllocError, Global};
+use whole_rows::NarrowRow;
 
 // Room for the next row's fractions is taken before the first pivot that may ask for it.
 #[derive(Drop)]
@@ -28,29 +30,27 @@ impl Row {
     ghost use Rattle.sparse_board.specs.Lowering.{HasRoomForFractions, IsFinished, IsMixedPrepared, IsMixedReady};
     ghost use Rattle.sparse_board.specs.Testing.{IsTest};
 
-    // A row of these fractions, with whole numbers for this number of columns.
+    // A row of the fractions in `room`, with room for whole numbers.
     pub(crate) fn new(
         alloc: Global,
-        wide: SparseRow,
+        narrow: NarrowRow,
+        room: &mut SparseRow,
         width: usize,
-        columns: usize,
-    ) -> Result<Row, AllocError>
-        requires width { sparse.width_of wide ≡ width }
-        requires room { width ≤ columns + 1 }
+    ) -> Row
+        requires width { sparse.width_of room.old ≡ width }
+        requires columns { width ≤ whole.width_of narrow + 1 }
         requires few { width < 2 ^ 32 }
-        ensures width { IfOk result (λ row. width_of row.now ≡ width) }
-        ensures numbers { IfOk result (λ row. (j : ℕ) → j < width
-            → number_of row.now j ≡ sparse.number_of wide j) }
+        ensures width { width_of result.now ≡ width }
+        ensures room { sparse.width_of room.new ≤ width }
+        ensures numbers { (j : ℕ) → j < width
+            → number_of result.now j ≡ sparse.number_of room.old j }
     {
-        let mut now = MixedRow::new(alloc, wide, width, columns)?;
-        now.come_back();
-        now.let_go(alloc);
-        Ok(Row {
-            now,
+        Row {
+            now: MixedRow::new(alloc, narrow, room, width),
             next: SparseRow::closed(alloc),
             changes: false,
             left: 0,
-        })
+        }
     }
 
     // Works out what a pivot on column q makes of the row, where `step` is the pivot's new row. A

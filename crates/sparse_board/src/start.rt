@@ -15,6 +15,7 @@ use ratio_core::Ratio;
 use sparse_ratios::SparseRatios;
 use std::alloc::{AllocError, Global};
 use tableau_core::row_terms;
+use whole_rows::NarrowRow;
 
 // The rows, whose basis matrix is the unit matrix, each with its right side behind its columns.
 pub(crate) fn start_rows(
@@ -35,13 +36,15 @@ pub(crate) fn start_rows(
         (i : ℕ) → i < m → number_in_row rows.items i (c + m) ≡ cell right.now i) }
 {
     let mut rows = Vec::with_capacity(alloc, m)?;
+    let mut room = SparseRow::closed(alloc);
     for (i, side) in right.iter().enumerate() {
-        rows.push(start_row(alloc, m, c, matrix, i, side)?)?;
+        rows.push(start_row(alloc, m, c, matrix, i, side, &mut room)?)?;
     }
     Ok(rows)
 }
 
-// Row i: its entries, the unit number of its artificial column, and its right side.
+// Row i: its entries, the unit number of its artificial column, and its right side. All rows are
+// made in one room.
 fn start_row(
     alloc: Global,
     m: usize,
@@ -49,23 +52,27 @@ fn start_row(
     matrix: &SparseRatios,
     i: usize,
     side: &Ratio,
+    room: &mut SparseRow,
 ) -> Result<Row, AllocError>
     requires long { length matrix.now ≡ m * c }
     requires within { i < m }
     requires few { c + m + 1 < 2 ^ 32 }
+    requires room { sparse.width_of room.old ≤ c + m + 1 }
     ensures wide { IfOk result (λ row. width_of row.now ≡ c + m + 1) }
     ensures entries { IfOk result (λ row. AtEachStart m c matrix.now (λ F s.
         (j : ℕ) → j < c + m → number_of row.now j ≡ entry F s j i)) }
     ensures side { IfOk result (λ row. number_of row.now (c + m) ≡ side.now) }
+    ensures room { IfOk result (λ row. sparse.width_of room.new ≤ c + m + 1) }
 {
-    let width = c + m + 1;
-    let mut row = SparseRow::zeros(alloc, width)?;
+    room.open(c + m + 1)?;
+    room.clear();
     let terms = row_terms(m, c, matrix, i);
-    push_row(&mut row, terms, i * c, c);
-    row.push_any((c + i) as u32, Ratio::one());
+    push_row(room, terms, i * c, c);
+    room.push_any((c + i) as u32, Ratio::one());
     let _fits = side.num();
-    row.push_any((c + m) as u32, *side);
-    Row::new(alloc, row, width, c + m)
+    room.push_any((c + m) as u32, *side);
+    let narrow = NarrowRow::zeros(alloc, c + m)?;
+    Ok(Row::new(alloc, narrow, room, c + m + 1))
 }
 
 // Pushes the numbers of a row, each beside its place. The first column's place is `from`.
@@ -92,9 +99,10 @@ pub(crate) fn cost_row(alloc: Global, numbers: &[Ratio]) -> Result<Row, AllocErr
     ensures numbers { IfOk result (λ row.
         (j : ℕ) → j < length numbers.now → number_of row.now j ≡ cell numbers.now j) }
 {
-    let mut row = SparseRow::zeros(alloc, numbers.len())?;
+    let mut room = SparseRow::zeros(alloc, numbers.len())?;
     for j in 0..numbers.len() {
-        row.push_any(j as u32, numbers[j]);
+        room.push_any(j as u32, numbers[j]);
     }
-    Row::new(alloc, row, numbers.len(), numbers.len())
+    let narrow = NarrowRow::zeros(alloc, numbers.len())?;
+    Ok(Row::new(alloc, narrow, &mut room, numbers.len()))
 }

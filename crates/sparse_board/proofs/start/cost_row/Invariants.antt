@@ -5,6 +5,6 @@ use Rattle.sparse_board.proofs.start.cost_row.Given as goal
 
 abbrev pub invariant-loop-j : goal.invariant-loop-j
 invariant-loop-j l = record {
-  width : width_of l.row ≡ length l.numbers;
-  held : HoldsBelow l.j (cell l.numbers) l.row;
+  width : width_of l.room ≡ length l.numbers;
+  held : HoldsBelow l.j (cell l.numbers) l.room;
 }

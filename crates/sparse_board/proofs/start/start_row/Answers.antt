@@ -1,5 +1,4 @@
 use Rattle.std.proofs.Common.{◌+◌, ◌*◌, ◌∙◌, arith}
-use Rattle.std.proofs.lemmas.Result.{IfOk-weaker}
 use Rattle.simplex_form.specs.Form.{Form}
 use Rattle.sparse_ratios.specs.Terms.{number_at}
 use Rattle.tableau_core.specs.Start.{form_of}
@@ -14,10 +13,9 @@ push_any-requires-clause-above c =
     c.push_row.ensures.held.below (omega arith)
 
 pub returns-clause-entries : goal.returns-clause-entries
-returns-clause-entries c =
-    IfOk-weaker c.new.result _ _ (λ row e right costs j b.
+returns-clause-entries c right costs j b =
     let F : Form = form_of c.args.m c.args.c c.args.matrix.now right costs in
-    e j (omega (arith, b))
+    c.new.ensures.numbers j (omega (arith, b))
     ∙ side_entries F c.args.i c.requires.within c.args.side.now c.push_any.new.self
     c.push_any-2.new.self
     (unit_added F c.args.i c.requires.within c.one.result c.push_row.new.row c.push_any.new.self
@@ -26,4 +24,4 @@ returns-clause-entries c =
     (λ k. number_at c.row_terms-terms.result.now (c.args.i * c.args.c + k))
     (λ k d. c.row_terms-terms.ensures.numbers k d) c.push_row.new.row c.push_row.ensures.held)
     c.push_any.ensures)
-    c.push_any-2.ensures j b) c.new.ensures.numbers
+    c.push_any-2.ensures j b

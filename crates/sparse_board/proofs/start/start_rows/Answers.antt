@@ -16,6 +16,7 @@ loop-i-preserved c =
     let next = c.push.new.self.items in
     let new = c.in_ok-start_row.field-0 in
     record {
+      room = c.in_ok-start_row.ensures.room;
       count = pushed_long i rows next new count c.in_ok-push.ensures.items;
       wide = each_pushed (λ k o. width_at (now_of o) ≡ c.args.c + c.args.m + 1) i rows next new
           count c.loop-i.invariant.wide c.in_ok-start_row.ensures.wide c.in_ok-push.ensures.items;

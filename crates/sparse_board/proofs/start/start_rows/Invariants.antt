@@ -1,12 +1,14 @@
-use Rattle.std.proofs.Common.{◌≡◌, ◌+◌, ◌<◌, ℕ, length}
+use Rattle.std.proofs.Common.{◌≡◌, ◌+◌, ◌<◌, ◌≤◌, ℕ, length}
 use Rattle.simplex_form.specs.Board.{entry}
 use Rattle.tableau_core.specs.Row.{cell}
 use Rattle.tableau_core.specs.Start.{AtEachStart}
+use Rattle.sparse_board.specs.Numbers as sparse
 use Rattle.sparse_board.specs.Rows.{now_at, number_in_row, width_at}
 use Rattle.sparse_board.proofs.start.start_rows.Given as goal
 
 abbrev pub invariant-loop-i : goal.invariant-loop-i
 invariant-loop-i l = record {
+  room : sparse.width_of l.room ≤ l.c + l.m + 1;
   count : length l.rows.items ≡ l.i;
   wide : (k : ℕ) → k < l.i → width_at (now_at l.rows.items k) ≡ l.c + l.m + 1;
   entries : AtEachStart l.m l.c l.matrix (λ F s. (k : ℕ) → k < l.i → (j : ℕ) → j < l.c + l.m
