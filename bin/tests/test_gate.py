@@ -54,6 +54,19 @@ class Gate(unittest.TestCase):
         crates[-1].below()
         self.assertEqual(crates[0].asked, 2**13)
 
+    def test_only_tests_that_a_crate_lacks_wait_for_its_proof(self):
+        tasks = {
+            ("low", "proof"): ([], 9, 1, None),
+            ("low", "tests"): ([], 0, 1, None),
+            ("high", "proof"): ([("low", "proof")], 7, 1, None),
+            ("high", "tests"): ([("low", "proof")], 7, 1, None),
+            ("high", "edits", 0): ([("high", "proof"), ("high", "tests")], 0, 1, None),
+        }
+        given = loaded().without_empty_tests(lambda tasks: tasks)(tasks)
+        changed = {key: given[key] for key in tasks if given[key] != tasks[key]}
+        self.assertEqual(changed, {("low", "tests"): ([("low", "proof")], 0, 1, None)})
+        self.assertEqual([*given], [*tasks])
+
 
 if __name__ == "__main__":
     unittest.main()

@@ -157,15 +157,17 @@ module _ (a b : Inside) (reals : b.reals ≡ a.reals)
       → width_of b.costs.first.now ≡ width_of a.costs.first.now
       → width_of b.costs.second.now ≡ width_of a.costs.second.now
       → b.step.width ≡ a.step.width → length b.basis.items ≡ length a.basis.items
+      → length b.changes.rows.items ≡ length a.changes.rows.items
       → SameSizes a.marks b.marks → AreNumbersMarked (columns_of a + 1) b.marks b.rows.items
       → IsSparseBoardKept b
-  kept_after h wide first second step basis sizes marked = record {
+  kept_after h wide first second step basis changes sizes marked = record {
     few = subst (λ n. n + 1 < 2 ^ 32) (sym same_width) h.few;
     wide = λ i c. wide i c ∙ ap (λ n. n + 1) (sym same_width);
     spare = step ∙ h.spare ∙ ap (λ n. n + 1) (sym same_width);
     first = first ∙ h.first ∙ sym same_width;
     second = second ∙ h.second ∙ sym same_width;
     basis = basis ∙ h.basis ∙ sym count;
+    changes = changes ∙ h.changes ∙ sym count;
     mark_columns = sizes.columns ∙ h.mark_columns ∙ ap (λ n. n + 1) (sym same_width);
     mark_rows = sizes.rows ∙ h.mark_rows ∙ sym count;
     marked = subst (λ n. AreNumbersMarked (n + 1) b.marks b.rows.items) (sym same_width) marked;
@@ -279,11 +281,12 @@ vec_count a n e = e ∙ a.rows.ok.0
 
 -- ---- what was worked out, of rows that are the same
 
-pub ready_same : (rows old_rows : List Row) (r q : ℕ) (marks : Marks) (costs : CostRows)
-    (step : Step) → rows ≡ old_rows → IsBoardReady old_rows r q marks costs step
-    → IsBoardReady rows r q marks costs step
-ready_same rows old_rows r q marks costs step e h =
-    subst (λ l. IsBoardReady l r q marks costs step) (sym e) h
+pub ready_same : (rows old_rows : List Row) (r q : ℕ) (items : List ℕ) (count : ℕ)
+    (costs : CostRows) (step : Step) → rows ≡ old_rows
+    → IsBoardReady old_rows r q items count costs step
+    → IsBoardReady rows r q items count costs step
+ready_same rows old_rows r q items count costs step e h =
+    subst (λ l. IsBoardReady l r q items count costs step) (sym e) h
 
 -- ---- the row that leaves is that of what is read
 

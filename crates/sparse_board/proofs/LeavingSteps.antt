@@ -26,6 +26,7 @@ use Rattle.sparse_board.specs.Words.{Clears}
 use Rattle.sparse_board.specs.Rows.{AreSparseRowsWide, number_in_row, numbers}
 use Rattle.sparse_board.proofs.RowsSteps.{row_is, row_wide}
 use Rattle.sparse_board.proofs.MixedSteps.{number_narrow}
+use Rattle.sparse_board.proofs.WordSteps.{between_bits}
 
 pub before_by : (p q : Rational) (w : Bool) (r : Ordering) → r ≡ rational_cmp p q
     → (is_lt r || is_eq r && w) ≡ comes_before p q w
@@ -156,32 +157,14 @@ module _ (rows : List Row) (basis : List ℕ) (side q : ℕ) where
   best_bits start word bit next end best h past within is passed others =
       best_skip (start + min bit end) (start + min next end) best h
       (order_lem start bit next end past) (within_lem start next end (length rows) within is)
-      (λ k f t. subst (λ n. may_leave rows q n ≡ false) (place_lem k start bit end f)
-      (others (k - start) (small_lem k start next end (length rows) t is)
-      (below_lem k start bit next end (length rows) f t within is)
-      (passed (k - start) (above_lem k start bit next end f t) (before_lem k start bit next end f t))))
+      (between_bits (λ k. may_leave rows q k ≡ false) (length rows) start word bit next end within is
+      passed others)
     where
       order_lem : (s b n e : ℕ) → b ≤ n → s + min b e ≤ s + min n e
       order_lem s b n e h = omega (arith, h)
 
       within_lem : (s n e l : ℕ) → s ≤ l → e ≡ min 64 (l - s) → s + min n e ≤ l
       within_lem s n e l h i = omega (arith, h, i)
-
-      place_lem : (k s b e : ℕ) → s + min b e ≤ k → s + (k - s) ≡ k
-      place_lem k s b e h = omega (arith, h)
-
-      small_lem : (k s n e l : ℕ) → k < s + min n e → e ≡ min 64 (l - s) → k - s < 64
-      small_lem k s n e l h i = omega (arith, h, i)
-
-      below_lem : (k s b n e l : ℕ) → s + min b e ≤ k → k < s + min n e → s ≤ l
-          → e ≡ min 64 (l - s) → s + (k - s) < l
-      below_lem k s b n e l f t h i = omega (arith, f, t, h, i)
-
-      above_lem : (k s b n e : ℕ) → s + min b e ≤ k → k < s + min n e → b ≤ k - s
-      above_lem k s b n e f t = omega (arith, f, t)
-
-      before_lem : (k s b n e : ℕ) → s + min b e ≤ k → k < s + min n e → k - s < n
-      before_lem k s b n e f t = omega (arith, f, t)
 
 -- the rows of a word's cleared bits can't leave: they aren't marked, or have no positive entry
 pub cleared_none : (rows : List Row) (marks : Marks) (w q k word kept : ℕ)

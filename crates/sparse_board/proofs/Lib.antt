@@ -4,6 +4,7 @@ pub mod RowSteps
 pub mod LoweringSteps
 pub mod TestSteps
 pub mod RowsSteps
+pub mod ChangeSteps
 pub mod PivotSteps
 pub mod BoardSteps
 pub mod StartSteps

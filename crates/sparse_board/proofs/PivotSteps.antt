@@ -6,7 +6,6 @@ use Rattle.tableau_core.specs.KeptLaws.{settled_by}
 use Rattle.tableau_core.specs.BoardNumbers.{AreLess, IsSettled}
 use Rattle.tableau_core.specs.ItemLaws.{each_written, written_at, written_off}
 use Rattle.sparse_board.specs.declared.cost_rows.CostRows.{CostRows}
-use Rattle.sparse_board.specs.declared.marks.Marks.{Marks}
 use Rattle.sparse_board.specs.declared.row.Row.{Row}
 use Rattle.sparse_board.specs.declared.mixed_row.MixedRow.{MixedRow}
 use Rattle.sparse_board.specs.declared.step.Step.{Step}
@@ -30,8 +29,8 @@ module _ (before middle : List Row) (r : ℕ) (step : Step) (new : Row)
       ∙ wide i (subst (λ k. i < k) (length-set middle r new ∙ count) b))
 
   module _ (w q : ℕ) (costs next : CostRows)
-      (wide : AreSparseRowsWide (w + 1) before) (long : step.width ≡ w + 1) (marks : Marks)
-      (ready : IsBoardReady before r q marks costs step)
+      (wide : AreSparseRowsWide (w + 1) before) (long : step.width ≡ w + 1) (items : List ℕ) (n : ℕ)
+      (ready : IsBoardReady before r q items n costs step)
       (is : (j : ℕ) → j < w + 1 → number_of new.now j ≡ units_of step j)
       (low : AreSparseRowsLowered r q (units_of step) before middle) where
     lowered_by : (row after : MixedRow) → width_of row ≡ w

@@ -1,17 +1,17 @@
--- The rows worked out, or put in place, up to the i-th.
-use Rattle.std.specs.Prelude.{◌≡◌, ℕ, ◌+◌, ◌<◌, ◌≤◌, ◌⊎◌, Bool, true, false, ◌||◌, nat_eq, List, length, slice_index_or, Option, Some, None, slice_get, slice_set, refl}
-use Rattle.std.proofs.Common.{inl, inr, sym, ◌∙◌, ap, ap₂, arith, subst, true≢false}
-use Rattle.std.proofs.lemmas.Bool.{cases_lt, eq-eqb, ne_eqb}
-use Rattle.std.proofs.lemmas.List.{length-set}
+-- The rows that change worked out, or put in place, one after another.
+use Rattle.std.specs.Prelude.{◌≡◌, ℕ, ◌+◌, ◌<◌, ◌≤◌, ◌⊎◌, Bool, true, false, ◌||◌, nat_eq, List, length, slice_index, slice_index_or, Option, Some, None, slice_get, slice_set, refl}
+use Rattle.std.proofs.Common.{inl, inr, sym, ◌∙◌, ap, ap₂, arith, subst}
+use Rattle.std.proofs.lemmas.Bool.{eq-eqb, ne_eqb}
+use Rattle.std.proofs.lemmas.List.{get_or_default, length-set}
 use Rattle.std.proofs.Math.Bool.{or-true}
 use Rattle.ratio_core.specs.Rational.{Fits, Rational, zero_ℚ, ◌*ℚ◌, ◌-ℚ◌}
 use Rattle.rational_laws.specs.Fitting.{Fits_zero}
 use Rattle.simplex_form.specs.Fit.{lowered_fits}
 use Rattle.tableau_core.specs.LoweringLaws.{lowered-zero, lowered_fits-zero, zero-step}
 use Rattle.simplex_laws.specs.BoundedSumLaws.{same_or_other}
-use Rattle.tableau_core.specs.ItemLaws.{each_written, read_at, written_off}
+use Rattle.tableau_core.specs.ItemLaws.{each_written, read_at, written_at, written_off}
 use Rattle.simplex_laws.specs.SearchLaws.{all_below_all, all_below_failed}
-use Rattle.sparse_board.specs.declared.marks.Marks.{Marks}
+use Rattle.sparse_board.specs.declared.changes.Changes.{Changes}
 use Rattle.sparse_board.specs.declared.row.Row.{Row}
 use Rattle.sparse_board.specs.declared.mixed_row.MixedRow.{MixedRow}
 use Rattle.sparse_board.specs.declared.step.Step.{Step}
@@ -19,36 +19,32 @@ use Rattle.sparse_board.specs.Mixed.{IsLeft, number_of, units_of, width_of}
 use Rattle.tableau_core.specs.BoardNumbers.{differences_fit}
 use Rattle.sparse_board.specs.Lowering.{IsFinished, IsMixedPrepared, IsMixedReady}
 use Rattle.sparse_board.specs.Rows.{AreSparseRowsLowered, AreSparseRowsWide, IsPreparedAt, IsStepLeftAt, OnRows, now_at, now_of, number_in_row, numbers, rows_fit, width_at}
-use Rattle.sparse_board.specs.Marks.{AreRowsUnmarked, has}
-use Rattle.sparse_board.specs.Marking.{AreChanged, AreLeft, AreMarkedPrepared, AreNumbersMarked}
+use Rattle.sparse_board.specs.Changes.{AreChanged, AreChangesPrepared, AreLeft, AreRowsListed, ListsChanges}
 use Rattle.sparse_board.proofs.MixedSteps.{mixed_fits}
+use Rattle.sparse_board.proofs.NumberLemmas.{sought}
 
--- the rows below i are worked out, and all stand
-pub record ArePreparedTo (w r q : ℕ) (step : Step) (marks : Marks)
-    (before rows : List Row) (i : ℕ) : Type 0 where
-  pub within : i ≤ length before
+-- the first k of the listed rows are worked out, and all stand
+pub record ArePreparedTo (w q : ℕ) (step : Step) (items : List ℕ) (before rows : List Row)
+    (k : ℕ) : Type 0 where
   pub long : length rows ≡ length before
-  pub stays : (k : ℕ) → now_at rows k ≡ now_at before k
-  pub fit : (k : ℕ) → k < i → (nat_eq k r || differences_fit w (number_in_row before k)
-      (number_in_row before k q) (units_of step)) ≡ true
-  pub prepared : (k : ℕ) → k < i → ¬ (k ≡ r) → has marks q k ≡ true
-      → IsPreparedAt q step (slice_get rows k)
+  pub stays : (i : ℕ) → now_at rows i ≡ now_at before i
+  pub fit : (l : ℕ) → l < k → differences_fit w (number_in_row before (slice_index items l))
+      (number_in_row before (slice_index items l) q) (units_of step) ≡ true
+  pub prepared : (l : ℕ) → l < k → IsPreparedAt q step (slice_get rows (slice_index items l))
 
 -- what stands is lowered
 abbrev pub IsLoweredNow : ℕ → (ℕ → Rational) → Option MixedRow → Option MixedRow → Type 0
 IsLoweredNow q units old new =
     (j : ℕ) → j < width_at old → numbers new j ≡ numbers old j -ℚ numbers old q *ℚ units j
 
--- the rows below i are changed, but for r and those that aren't marked in column q
-pub record AreChangedTo (P : Row → Row → Type 0) (r q : ℕ) (marks : Marks)
-    (before rows : List Row) (i : ℕ) : Type 0 where
-  pub within : i ≤ length before
+-- the first k of the listed rows are changed, and each other stays
+pub record AreChangedTo (P : Row → Row → Type 0) (items : List ℕ) (before rows : List Row) (k : ℕ) :
+    Type 0 where
   pub long : length rows ≡ length before
-  pub later : (k : ℕ) → i ≤ k → slice_get rows k ≡ slice_get before k
-  pub pivot : slice_get rows r ≡ slice_get before r
-  pub others : (k : ℕ) → k < i → has marks q k ≡ false → slice_get rows k ≡ slice_get before k
-  pub changed : (k : ℕ) → k < i → ¬ (k ≡ r) → has marks q k ≡ true
-      → OnRows P (slice_get before k) (slice_get rows k)
+  pub changed : (l : ℕ) → l < k
+      → OnRows P (slice_get before (slice_index items l)) (slice_get rows (slice_index items l))
+  pub others : (i : ℕ) → ((l : ℕ) → l < k → ¬ (slice_index items l ≡ i))
+      → slice_get rows i ≡ slice_get before i
 
 -- ---- a row that is read
 
@@ -81,250 +77,186 @@ zero_stays : (q : ℕ) (o : Option MixedRow) (units : ℕ → Rational) → numb
 zero_stays q o units z j b =
     sym (lowered-zero (numbers o j) (numbers o q) (units j) (zero-step (numbers o q) (units j) z))
 
+-- ---- the listed rows, one after another
+
+-- the row that is read
+pub listed_is : (changes : Changes) (k item : ℕ) → k < changes.count
+    → item ≡ slice_index_or changes.rows.items k item → item ≡ slice_index changes.rows.items k
+listed_is changes k item b is =
+    is ∙ get_or_default changes.rows.items k item 0
+    (omega (arith, b, changes.fits))
+
+pub listed_within : (n k item : ℕ) (items : List ℕ) (count : ℕ) → AreRowsListed n items count
+    → k < count → item ≡ slice_index items k → item < n
+listed_within n k item items count h b is = subst (λ x. x < n) (sym is) (h.within k b)
+
+-- it isn't one of those before it
+listed_apart : (n : ℕ) (items : List ℕ) (count k l : ℕ) → AreRowsListed n items count → k < count
+    → l < k → ¬ (slice_index items l ≡ slice_index items k)
+listed_apart n items count k l h b c e = apart_lem _ _ (h.rising l k c b) e
+  where
+    apart_lem : (x y : ℕ) → x < y → x ≡ y → ⊥
+    apart_lem x y b e = omega (arith, b, e)
+
 -- ---- the rows worked out
 
-pub prepared-none : (w r q : ℕ) (step : Step) (marks : Marks) (before : List Row)
-    → ArePreparedTo w r q step marks before before 0
-prepared-none w r q step marks before = record {
-  within = omega arith;
+pub prepared-none : (w q : ℕ) (step : Step) (items : List ℕ) (before : List Row)
+    → ArePreparedTo w q step items before before 0
+prepared-none w q step items before = record {
   long = refl;
-  stays = λ k. refl;
-  fit = λ k b. absurd (omega (arith, b));
-  prepared = λ k b. absurd (omega (arith, b));
+  stays = λ i. refl;
+  fit = λ l b. absurd (omega (arith, b));
+  prepared = λ l b. absurd (omega (arith, b));
 }
 
-pub changed-none : (P : Row → Row → Type 0) (r q : ℕ) (marks : Marks) (before : List Row)
-    → AreChangedTo P r q marks before before 0
-changed-none P r q marks before = record {
-  within = omega arith;
-  long = refl;
-  later = λ k b. refl;
-  pivot = refl;
-  others = λ k b. absurd (omega (arith, b));
-  changed = λ k b. absurd (omega (arith, b));
-}
+module _ (w q : ℕ) (step : Step) (items : List ℕ) (before rows : List Row) (k : ℕ)
+    (h : ArePreparedTo w q step items before rows k) (wide : AreSparseRowsWide w before) where
+  abbrev row_fits : ℕ → Bool
+  row_fits i =
+      differences_fit w (number_in_row before i) (number_in_row before i q) (units_of step)
 
-module _ (w r q : ℕ) (step : Step) (marks : Marks) (before rows : List Row) (i : ℕ) where
-  abbrev pub row_fits : ℕ → Bool
-  row_fits k =
-      nat_eq k r || differences_fit w (number_in_row before k) (number_in_row before k q) (units_of step)
+  module _ (i : ℕ) (d : Row) (within : i < length before) where
+    pub row_stands : Some (slice_index_or rows i d).now ≡ now_at before i
+    row_stands = sym (row_is rows i d (subst (λ n. i < n) (sym h.long) within)) ∙ h.stays i
 
-  pub row_stands : (d : Row) → ArePreparedTo w r q step marks before rows i → i < length before
-      → Some (slice_index_or rows i d).now ≡ now_at before i
-  row_stands d h b = sym (row_is rows i d (subst (λ n. i < n) (sym h.long) b)) ∙ h.stays i
+    pub prepared_wide : width_of (slice_index_or rows i d).now ≡ w
+    prepared_wide = ap width_at row_stands ∙ wide i within
 
-  pub prepared_wide : (d : Row) → ArePreparedTo w r q step marks before rows i
-      → AreSparseRowsWide w before
-      → i < length before → width_of (slice_index_or rows i d).now ≡ w
-  prepared_wide d h wide b = ap width_at (row_stands d h b) ∙ wide i b
+    fits_here : (t : Bool) → t ≡ differences_fit (width_of (slice_index_or rows i d).now)
+        (number_of (slice_index_or rows i d).now) (number_of (slice_index_or rows i d).now q)
+        (units_of step) → row_fits i ≡ t
+    fits_here t fits =
+        subst (λ o. differences_fit w (numbers o) (numbers o q) (units_of step) ≡ t) row_stands
+        (subst (λ n. differences_fit n (number_of (slice_index_or rows i d).now)
+        (number_of (slice_index_or rows i d).now q) (units_of step) ≡ t) prepared_wide (sym fits))
 
-  fits_here : (d : Row) (t : Bool) → ArePreparedTo w r q step marks before rows i
-      → AreSparseRowsWide w before → i < length before
-      → t ≡ differences_fit (width_of (slice_index_or rows i d).now)
-      (number_of (slice_index_or rows i d).now) (number_of (slice_index_or rows i d).now q) (units_of step)
-      → differences_fit w (number_in_row before i) (number_in_row before i q) (units_of step) ≡ t
-  fits_here d t h wide b fits =
-      subst (λ o. differences_fit w (numbers o) (numbers o q) (units_of step) ≡ t) (row_stands d h b)
-      (subst (λ n. differences_fit n (number_of (slice_index_or rows i d).now)
-      (number_of (slice_index_or rows i d).now q) (units_of step) ≡ t)
-      (prepared_wide d h wide b) (sym fits))
+    -- what stands stays where a row is worked out
+    pub prepared_stays : (new : Row) → new.now ≡ (slice_index_or rows i d).now → (j : ℕ)
+        → now_at (slice_set rows i new) j ≡ now_at before j
+    prepared_stays new same =
+        each_written (λ j o. now_of o ≡ now_at before j) rows i new
+        (subst (λ n. i < n) (sym h.long) within) (ap Some same ∙ row_stands) (λ j m. h.stays j)
 
-  fit_more : ArePreparedTo w r q step marks before rows i → row_fits i ≡ true → (k : ℕ) → k < i + 1
-      → row_fits k ≡ true
-  fit_more h here k b =
-      same_or_other (row_fits k ≡ true) k i (λ e. ap row_fits e ∙ here)
-      (λ n. h.fit k (omega (arith, b, n)))
+    pub prepared-more : (new : Row) → i ≡ slice_index items k
+        → new.now ≡ (slice_index_or rows i d).now
+        → true ≡ differences_fit (width_of (slice_index_or rows i d).now)
+        (number_of (slice_index_or rows i d).now) (number_of (slice_index_or rows i d).now q)
+        (units_of step) → IsMixedPrepared q step new
+        → ArePreparedTo w q step items before (slice_set rows i new) (k + 1)
+    prepared-more new is same fits made = record {
+      long = length-set rows i new ∙ h.long;
+      stays = prepared_stays new same;
+      fit = λ l c. same_or_other (row_fits (slice_index items l) ≡ true) l k
+          (λ e. ap row_fits (ap (slice_index items) e ∙ sym is) ∙ fits_here true fits)
+          (λ n. h.fit l (omega (arith, c, n)));
+      prepared = λ l c. each_written (λ j o. (m : ℕ) → m < k + 1 → slice_index items m ≡ j
+          → IsPreparedAt q step o) rows i new (subst (λ n. i < n) (sym h.long) within)
+          (λ _ _ _. made) (λ j off m e f. before_lem j off m e f) (slice_index items l) l c refl;
+    }
+      where
+        before_lem : (j : ℕ) → ¬ (j ≡ i) → (m : ℕ) → m < k + 1 → slice_index items m ≡ j
+            → IsPreparedAt q step (slice_get rows j)
+        before_lem j off m e f =
+            same_or_other (IsPreparedAt q step (slice_get rows j)) m k
+            (λ g. absurd (off (sym f ∙ ap (slice_index items) g ∙ sym is)))
+            (λ n. subst (λ x. IsPreparedAt q step (slice_get rows x)) f
+            (h.prepared m (omega (arith, e, n))))
 
-  -- what stands stays where a row is worked out
-  pub prepared_stays : (d new : Row) → ArePreparedTo w r q step marks before rows i
-      → i < length before → new.now ≡ (slice_index_or rows i d).now → (k : ℕ)
-      → now_at (slice_set rows i new) k ≡ now_at before k
-  prepared_stays d new h b same =
-      each_written (λ k o. now_of o ≡ now_at before k) rows i new
-      (subst (λ n. i < n) (sym h.long) b) (ap Some same ∙ row_stands d h b) (λ k m. h.stays k)
+    -- a row that is refused
+    pub rows-refused : (r : ℕ) → ¬ (i ≡ r)
+        → false ≡ differences_fit (width_of (slice_index_or rows i d).now)
+        (number_of (slice_index_or rows i d).now) (number_of (slice_index_or rows i d).now q)
+        (units_of step) → rows_fit w r q (units_of step) before ≡ false
+    rows-refused r n fits =
+        all_below_failed (length before) i (λ j. nat_eq j r || row_fits j) within
+        (ap₂ ◌||◌ (ne_eqb i r n) (fits_here false fits))
 
-  pub prepared-more : (d new : Row) → ArePreparedTo w r q step marks before rows i
-      → AreSparseRowsWide w before → i < length before → new.now ≡ (slice_index_or rows i d).now
-      → true ≡ differences_fit (width_of (slice_index_or rows i d).now)
-      (number_of (slice_index_or rows i d).now) (number_of (slice_index_or rows i d).now q) (units_of step)
-      → IsMixedPrepared q step new → ArePreparedTo w r q step marks before (slice_set rows i new)
-      (i + 1)
-  prepared-more d new h wide b same fits made =
-      let at : i < length rows = subst (λ n. i < n) (sym h.long) b in
-      record {
-        within = omega (arith, b);
-        long = length-set rows i new ∙ h.long;
-        stays = prepared_stays d new h b same;
-        fit = fit_more h (ap (λ x. nat_eq i r || x) (fits_here d true h wide b fits)
-            ∙ or-true (nat_eq i r));
-        prepared =
-            each_written (λ k o. k < i + 1 → ¬ (k ≡ r) → has marks q k ≡ true
-            → IsPreparedAt q step o) rows i new at
-            (λ _ _ _. made) (λ k m c n marked. h.prepared k (omega (arith, c, m)) n marked);
-      }
-
-  -- the pivot's row is passed over
-  pub prepared-pivot : ArePreparedTo w r q step marks before rows i → i < length before → i ≡ r
-      → ArePreparedTo w r q step marks before rows (i + 1)
-  prepared-pivot h b p = record {
-    within = omega (arith, b);
-    long = h.long;
-    stays = h.stays;
-    fit = fit_more h (ap (λ x. x || differences_fit w (number_in_row before i)
-        (number_in_row before i q) (units_of step)) (eq-eqb i r p));
-    prepared = λ k c n m. same_or_other (IsPreparedAt q step (slice_get rows k)) k i
-        (λ f. absurd (n (f ∙ p)))
-        (λ f. h.prepared k (omega (arith, c, f)) n m);
-  }
-
-  -- rows that aren't marked are passed over
-  pub prepared-past : (to : ℕ) → ArePreparedTo w r q step marks before rows i → to ≤ length before
-      → q < w → AreNumbersMarked w marks before → AreRowsUnmarked marks q i to
-      → ArePreparedTo w r q step marks before rows to
-  prepared-past to h within column marked unmarked = record {
-    within = within;
-    long = h.long;
-    stays = h.stays;
-    fit = λ k b. fits_at k b (cases_lt k i);
-    prepared = λ k c n m. prepared_at k c n m (cases_lt k i);
-  }
+  -- all rows fit: one that isn't listed has no number in column q
+  pub prepared-all : (r count : ℕ) → count ≤ k → ListsChanges before r q items count
+      → rows_fit w r q (units_of step) before ≡ true
+  prepared-all r count all lists =
+      all_below_all (length before) (λ j. nat_eq j r || row_fits j)
+      (λ j b. same_or_other ((nat_eq j r || row_fits j) ≡ true) j r
+      (λ e. ap (λ x. x || row_fits j) (eq-eqb j r e))
+      (λ n. ap (λ x. nat_eq j r || x) (by_place j b n (sought items j count))
+      ∙ or-true (nat_eq j r)))
     where
-      below_lem : (k to n : ℕ) → k < to → to ≤ n → k < n
-      below_lem k to n b c = omega (arith, b, c)
+      less_lem : (l count k : ℕ) → l < count → count ≤ k → l < k
+      less_lem l count k b c = omega (arith, b, c)
 
-      fits_at : (k : ℕ) → k < to → (k < i) ⊎ (i ≤ k) → row_fits k ≡ true
-      fits_at k b (inl l) = h.fit k l
-      fits_at k b (inr l) =
-          ap (λ x. nat_eq k r || x) (zero_fits w q (now_at before k) (units_of step)
-          (marked k (below_lem k to (length before) b within) q column (unmarked k l b)))
-          ∙ or-true (nat_eq k r)
-
-      prepared_at : (k : ℕ) → k < to → ¬ (k ≡ r) → has marks q k ≡ true → (k < i) ⊎ (i ≤ k)
-          → IsPreparedAt q step (slice_get rows k)
-      prepared_at k c n m (inl l) = h.prepared k l n m
-      prepared_at k c n m (inr l) = absurd (true≢false (sym m ∙ unmarked k l c))
-
-  -- a row that is refused
-  pub rows-refused : (d : Row) → ArePreparedTo w r q step marks before rows i
-      → AreSparseRowsWide w before
-      → i < length before → ¬ (i ≡ r)
-      → false ≡ differences_fit (width_of (slice_index_or rows i d).now)
-      (number_of (slice_index_or rows i d).now) (number_of (slice_index_or rows i d).now q) (units_of step)
-      → rows_fit w r q (units_of step) before ≡ false
-  rows-refused d h wide b n fits =
-      all_below_failed (length before) i row_fits b
-      (ap₂ ◌||◌ (ne_eqb i r n) (fits_here d false h wide b fits))
+      by_place : (j : ℕ) → j < length before → ¬ (j ≡ r)
+          → ((l : ℕ) × (l < count) × (slice_index items l ≡ j))
+          ⊎ ((l : ℕ) → l < count → ¬ (slice_index items l ≡ j)) → row_fits j ≡ true
+      by_place j b n (inl f) = ap row_fits (sym f.2) ∙ h.fit f.0 (less_lem f.0 count k f.1 all)
+      by_place j b n (inr none) =
+          zero_fits w q (now_at before j) (units_of step) (lists.passed j b n none)
 
 -- ---- the rows that are changed
 
-module _ (P : Row → Row → Type 0) (r q : ℕ) (marks : Marks) (before rows : List Row) (i : ℕ) where
+pub changed-none : (P : Row → Row → Type 0) (items : List ℕ) (before : List Row)
+    → AreChangedTo P items before before 0
+changed-none P items before = record {
+  long = refl;
+  changed = λ l b. absurd (omega (arith, b));
+  others = λ i off. refl;
+}
+
+module _ (P : Row → Row → Type 0) (items : List ℕ) (count : ℕ) (before rows : List Row) (k : ℕ)
+    (h : AreChangedTo P items before rows k) (listed : AreRowsListed (length before) items count)
+    (below : k < count) (i : ℕ) (is : i ≡ slice_index items k) (d : Row) where
+  in_before : i < length before
+  in_before = listed_within (length before) k i items count listed below is
+
+  in_rows : i < length rows
+  in_rows = subst (λ n. i < n) (sym h.long) in_before
+
   -- the row that is read stands as it was
-  pub row_before : (d : Row) → AreChangedTo P r q marks before rows i → i < length before
-      → Some (slice_index_or rows i d) ≡ slice_get before i
-  row_before d h b =
-      sym (read_at rows i d (subst (λ n. i < n) (sym h.long) b)) ∙ h.later i (omega arith)
+  pub row_before : Some (slice_index_or rows i d) ≡ slice_get before i
+  row_before =
+      sym (read_at rows i d in_rows)
+      ∙ h.others i (λ l b e. listed_apart (length before) items count k l listed below b (e ∙ is))
 
-  pub changed-more : (d new : Row) → AreChangedTo P r q marks before rows i → i < length before
-      → ¬ (i ≡ r) → has marks q i ≡ true → P (slice_index_or rows i d) new
-      → AreChangedTo P r q marks before (slice_set rows i new) (i + 1)
-  changed-more d new h b other here made =
-      let at : i < length rows = subst (λ n. i < n) (sym h.long) b in
-      record {
-        within = omega (arith, b);
-        long = length-set rows i new ∙ h.long;
-        later = λ k c. written_off rows i k new (λ e. above_lem k i c e)
-            ∙ h.later k (omega (arith, c));
-        pivot = written_off rows i r new (λ e. other (sym e)) ∙ h.pivot;
-        others = λ k c e.
-            same_or_other (slice_get (slice_set rows i new) k ≡ slice_get before k) k i
-            (λ f. absurd (true≢false (sym here ∙ subst (λ x. has marks q x ≡ false) f e)))
-            (λ f. written_off rows i k new f ∙ h.others k (omega (arith, c, f)) e);
-        changed =
-            each_written (λ k o. k < i + 1 → ¬ (k ≡ r) → has marks q k ≡ true
-            → OnRows P (slice_get before k) o) rows i new at
-            (λ _ _ _. subst (λ o. OnRows P o (Some new)) (row_before d h b) made)
-            (λ k f c m t. h.changed k (omega (arith, c, f)) m t);
-      }
-    where
-      above_lem : (k i : ℕ) → i + 1 ≤ k → k ≡ i → ⊥
-      above_lem k i c e = absurd (omega (arith, c, e))
-
-  -- the pivot's row is passed over
-  pub changed-pivot : AreChangedTo P r q marks before rows i → i < length before → i ≡ r
-      → AreChangedTo P r q marks before rows (i + 1)
-  changed-pivot h b p = record {
-    within = omega (arith, b);
-    long = h.long;
-    later = λ k c. h.later k (omega (arith, c));
-    pivot = h.pivot;
-    others = λ k c e. same_or_other (slice_get rows k ≡ slice_get before k) k i
-        (λ f. h.later k (omega (arith, f)))
-        (λ f. h.others k (omega (arith, c, f)) e);
-    changed = λ k c m t. same_or_other (OnRows P (slice_get before k) (slice_get rows k)) k i
-        (λ f. absurd (m (f ∙ p)))
-        (λ f. h.changed k (omega (arith, c, f)) m t);
+  pub changed-more : (new : Row) → P (slice_index_or rows i d) new
+      → AreChangedTo P items before (slice_set rows i new) (k + 1)
+  changed-more new made = record {
+    long = length-set rows i new ∙ h.long;
+    changed = λ l c. same_or_other (OnRows P (slice_get before (slice_index items l))
+        (slice_get (slice_set rows i new) (slice_index items l))) l k
+        (λ e. subst (λ j. OnRows P (slice_get before j) (slice_get (slice_set rows i new) j))
+        (is ∙ ap (slice_index items) (sym e))
+        (subst (OnRows P (slice_get before i)) (sym (written_at rows i new in_rows))
+        (subst (λ o. OnRows P o (Some new)) row_before made)))
+        (λ n. let c' : l < k = omega (arith, c, n) in
+        subst (OnRows P (slice_get before (slice_index items l)))
+        (sym (written_off rows i (slice_index items l) new (λ e.
+        listed_apart (length before) items count k l listed below c' (e ∙ is))))
+        (h.changed l c'));
+    others = λ j off. written_off rows i j new (λ e. off k (omega arith) (sym is ∙ sym e))
+        ∙ h.others j (λ l c. off l (omega (arith, c)));
   }
 
-  -- rows that aren't marked are passed over
-  pub changed-past : (to : ℕ) → AreChangedTo P r q marks before rows i → i ≤ to
-      → to ≤ length before → AreRowsUnmarked marks q i to → AreChangedTo P r q marks before rows to
-  changed-past to h past within unmarked = record {
-    within = within;
-    long = h.long;
-    later = λ k c. h.later k (above_lem i to k past c);
-    pivot = h.pivot;
-    others = λ k c e. others_at k c e (cases_lt k i);
-    changed = λ k c m t. changed_at k c m t (cases_lt k i);
-  }
-    where
-      above_lem : (i to k : ℕ) → i ≤ to → to ≤ k → i ≤ k
-      above_lem i to k b c = omega (arith, b, c)
-
-      others_at : (k : ℕ) → k < to → has marks q k ≡ false → (k < i) ⊎ (i ≤ k)
-          → slice_get rows k ≡ slice_get before k
-      others_at k c e (inl l) = h.others k l e
-      others_at k c e (inr l) = h.later k l
-
-      changed_at : (k : ℕ) → k < to → ¬ (k ≡ r) → has marks q k ≡ true → (k < i) ⊎ (i ≤ k)
-          → OnRows P (slice_get before k) (slice_get rows k)
-      changed_at k c m t (inl l) = h.changed k l m t
-      changed_at k c m t (inr l) = absurd (true≢false (sym t ∙ unmarked k l c))
-
-  pub changed-all : AreChangedTo P r q marks before rows i → length before ≤ i
-      → AreChanged P r q marks before rows
-  changed-all h all = record {
-    changed = λ k b n t. h.changed k (below_lem k (length before) i b all) n t;
-    pivot = h.pivot;
-    others = λ k e. others_at k e (cases_lt k i);
-    later = λ k b. h.later k (above_lem i (length before) k h.within b);
-  }
-    where
-      below_lem : (k n i : ℕ) → k < n → n ≤ i → k < i
-      below_lem k n i b c = omega (arith, b, c)
-
-      above_lem : (i n k : ℕ) → i ≤ n → n ≤ k → i ≤ k
-      above_lem i n k b c = omega (arith, b, c)
-
-      others_at : (k : ℕ) → has marks q k ≡ false → (k < i) ⊎ (i ≤ k)
-          → slice_get rows k ≡ slice_get before k
-      others_at k e (inl l) = h.others k l e
-      others_at k e (inr l) = h.later k l
+pub changed-all : (P : Row → Row → Type 0) (items : List ℕ) (count : ℕ) (before rows : List Row)
+    (k : ℕ) → AreChangedTo P items before rows k → k ≡ count
+    → AreChanged P items count before rows
+changed-all P items count before rows k h e = record {
+  changed = λ l b. h.changed l (subst (λ n. l < n) (sym e) b);
+  others = λ i off. h.others i (λ l b. off l (subst (λ n. l < n) e b));
+}
 
 -- the row that is read was worked out
-pub prepared_read : (P : Row → Row → Type 0) (r q : ℕ) (step : Step) (marks : Marks)
-    (before rows : List Row) (i : ℕ) (d : Row) → AreChangedTo P r q marks before rows i
-    → i < length before → ¬ (i ≡ r) → has marks q i ≡ true → AreMarkedPrepared r q step marks before
-    → IsMixedPrepared q step (slice_index_or rows i d)
-prepared_read P r q step marks before rows i d h b other here p =
-    subst (IsPreparedAt q step) (sym (row_before P r q marks before rows i d h b)) (p i b other here)
+pub prepared_read : (q : ℕ) (step : Step) (items : List ℕ) (count : ℕ) (before : List Row)
+    (k i : ℕ) (row : Row) → Some row ≡ slice_get before i → i ≡ slice_index items k → k < count
+    → AreChangesPrepared q step items count before → IsMixedPrepared q step row
+prepared_read q step items count before k i row stands is b p =
+    subst (IsPreparedAt q step)
+    (sym (stands ∙ ap (slice_get before) is)) (p k b)
 
 -- there is something left of the row that is read
-pub left_read : (P : Row → Row → Type 0) (r q : ℕ) (step : Step) (marks : Marks)
-    (before rows : List Row) (i : ℕ) (d : Row) → AreChangedTo P r q marks before rows i
-    → i < length before → ¬ (i ≡ r) → has marks q i ≡ true → AreLeft r q step marks before
-    → IsLeft step.narrow.row (slice_index_or rows i d).now (slice_index_or rows i d).left
-left_read P r q step marks before rows i d h b other here p =
-    subst (IsStepLeftAt step) (sym (row_before P r q marks before rows i d h b)) (p i b other here)
+pub left_read : (step : Step) (items : List ℕ) (count : ℕ) (before : List Row) (k i : ℕ) (row : Row)
+    → Some row ≡ slice_get before i → i ≡ slice_index items k → k < count
+    → AreLeft step items count before → IsLeft step.narrow.row row.now row.left
+left_read step items count before k i row stands is b p =
+    subst (IsStepLeftAt step) (sym (stands ∙ ap (slice_get before) is)) (p k b)
 
 -- ---- both passes
 
@@ -349,51 +281,41 @@ both_lowered q step (Some row) (Some middle) None h k = absurd k
 both_lowered q step (Some row) (Some middle) (Some next) h k = λ j b.
     k.numbers j (subst (λ n. j < n) (sym h.width) b) ∙ h.numbers j b
 
-module _ (w r q : ℕ) (step : Step) (marks : Marks) (before middle : List Row)
-    (long : length middle ≡ length before)
-    (first : AreChanged (IsMixedReady q step) r q marks before middle) where
-  pub ready-left : AreLeft r q step marks middle
-  ready-left i b n t =
-      ready_left q step (slice_get before i) (slice_get middle i)
-      (first.changed i (subst (λ m. i < m) long b) n t)
+module _ (q : ℕ) (step : Step) (items : List ℕ) (count : ℕ) (before middle : List Row)
+    (first : AreChanged (IsMixedReady q step) items count before middle) where
+  pub ready-left : AreLeft step items count middle
+  ready-left k b =
+      ready_left q step (slice_get before (slice_index items k))
+      (slice_get middle (slice_index items k)) (first.changed k b)
 
-  module _ (after : List Row) (second : AreChanged (IsFinished step) r q marks middle after) where
-    pub both-pivot : now_at after r ≡ now_at before r
-    both-pivot = ap now_of (second.pivot ∙ first.pivot)
-
+  module _ (after : List Row) (second : AreChanged (IsFinished step) items count middle after) where
     pub both-widths : (i : ℕ) → width_at (now_at after i) ≡ width_at (now_at before i)
-    both-widths i = by_end (cases_lt i (length before))
+    both-widths i = by_place (sought items i count)
       where
-        by_mark : (b : Bool) → has marks q i ≡ b → i < length before → ¬ (i ≡ r)
+        by_place : ((l : ℕ) × (l < count) × (slice_index items l ≡ i))
+            ⊎ ((l : ℕ) → l < count → ¬ (slice_index items l ≡ i))
             → width_at (now_at after i) ≡ width_at (now_at before i)
-        by_mark true t b n =
-            both_wide q step (slice_get before i) (slice_get middle i) (slice_get after i)
-            (first.changed i b n t)
-            (second.changed i (subst (λ m. i < m) (sym long) b) n t)
-        by_mark false t b n =
-            ap (λ o. width_at (now_of o)) (second.others i t ∙ first.others i t)
+        by_place (inl f) =
+            subst (λ j. width_at (now_at after j) ≡ width_at (now_at before j)) f.2
+            (both_wide q step (slice_get before (slice_index items f.0))
+            (slice_get middle (slice_index items f.0)) (slice_get after (slice_index items f.0))
+            (first.changed f.0 f.1) (second.changed f.0 f.1))
+        by_place (inr none) =
+            ap (λ o. width_at (now_of o)) (second.others i none ∙ first.others i none)
 
-        by_end : (i < length before) ⊎ (length before ≤ i)
-            → width_at (now_at after i) ≡ width_at (now_at before i)
-        by_end (inl b) =
-            same_or_other (width_at (now_at after i) ≡ width_at (now_at before i)) i r
-            (λ e. subst (λ k. width_at (now_at after k) ≡ width_at (now_at before k)) (sym e)
-            (ap width_at both-pivot))
-            (λ n. by_mark (has marks q i) refl b n)
-        by_end (inr b) =
-            ap (λ o. width_at (now_of o))
-            (second.later i (subst (λ m. m ≤ i) (sym long) b) ∙ first.later i b)
-
-    pub both-lowered : q < w → AreNumbersMarked w marks before → AreSparseRowsLowered r q (units_of step) before after
-    both-lowered column marked i b n = by_mark (has marks q i) refl
+    pub both-lowered : (r : ℕ) → ListsChanges before r q items count
+        → AreSparseRowsLowered r q (units_of step) before after
+    both-lowered r lists i b n = by_place (sought items i count)
       where
-        by_mark : (t : Bool) → has marks q i ≡ t
+        by_place : ((l : ℕ) × (l < count) × (slice_index items l ≡ i))
+            ⊎ ((l : ℕ) → l < count → ¬ (slice_index items l ≡ i))
             → IsLoweredNow q (units_of step) (now_at before i) (now_at after i)
-        by_mark true t =
-            both_lowered q step (slice_get before i) (slice_get middle i) (slice_get after i)
-            (first.changed i b n t)
-            (second.changed i (subst (λ m. i < m) (sym long) b) n t)
-        by_mark false t =
+        by_place (inl f) =
+            subst (λ j. IsLoweredNow q (units_of step) (now_at before j) (now_at after j)) f.2
+            (both_lowered q step (slice_get before (slice_index items f.0))
+            (slice_get middle (slice_index items f.0)) (slice_get after (slice_index items f.0))
+            (first.changed f.0 f.1) (second.changed f.0 f.1))
+        by_place (inr none) =
             subst (IsLoweredNow q (units_of step) (now_at before i))
-            (sym (ap now_of (second.others i t ∙ first.others i t)))
-            (zero_stays q (now_at before i) (units_of step) (marked i b q column t))
+            (sym (ap now_of (second.others i none ∙ first.others i none)))
+            (zero_stays q (now_at before i) (units_of step) (lists.passed i b n none))

@@ -77,16 +77,18 @@ pub start-kept : (a : Inside) (m : ℕ) → length a.rows.items ≡ m → a.real
     → AreSparseRowsWide (a.reals + m + 1) a.rows.items
     → mixed.width_of a.costs.first.now ≡ a.reals + m
     → mixed.width_of a.costs.second.now ≡ a.reals + m → a.step.width ≡ a.reals + m + 1
-    → length a.basis.items ≡ m → a.marks.columns ≡ a.reals + m + 1
+    → length a.basis.items ≡ m → length a.changes.rows.items ≡ m
+    → a.marks.columns ≡ a.reals + m + 1
     → a.marks.rows ≡ length a.rows.items → AreNumbersMarked (a.reals + m + 1) a.marks a.rows.items
     → IsSparseBoardKept a
-start-kept a m count few wide first second step basis columns rows marked = record {
+start-kept a m count few wide first second step basis changes columns rows marked = record {
   few = subst (λ n. n + 1 < 2 ^ 32) same_width few;
   wide = λ i b. wide i b ∙ ap (λ n. n + 1) same_width;
   spare = step ∙ ap (λ n. n + 1) same_width;
   first = first ∙ same_width;
   second = second ∙ same_width;
   basis = basis ∙ sym count;
+  changes = changes ∙ sym count;
   mark_columns = columns ∙ ap (λ n. n + 1) same_width;
   mark_rows = rows;
   marked = subst (λ n. AreNumbersMarked (n + 1) a.marks a.rows.items) same_width marked;

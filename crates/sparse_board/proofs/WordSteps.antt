@@ -147,6 +147,34 @@ module _ (P : ℕ → Type 0) (n start word kept bit : ℕ) (h : AreLookedTo P n
         end_lem : (k s n e b : ℕ) → k < 64 → s + k < n → s ≤ n → e ≡ min 64 (n - s) → e ≤ b → k < b
         end_lem k s n e b c d h i p = omega (arith, c, d, h, i, p)
 
+-- what a bit that isn't set says of its row, of the rows between two bits that are set
+pub between_bits : (P : ℕ → Type 0) (n start word bit next end : ℕ) → start ≤ n
+    → end ≡ min 64 (n - start) → ((k : ℕ) → bit ≤ k → k < next → bit_at word k ≡ 0)
+    → ((k : ℕ) → k < 64 → start + k < n → bit_at word k ≡ 0 → P (start + k))
+    → (j : ℕ) → start + min bit end ≤ j → j < start + min next end → P j
+between_bits P n start word bit next end within is passed others j f t =
+    subst P (place_lem j start bit end f)
+    (others (j - start) (small_lem j start next end n t is)
+    (below_lem j start bit next end n f t within is)
+    (passed (j - start) (above_lem j start bit next end f t)
+    (before_lem j start bit next end f t)))
+  where
+    place_lem : (k s b e : ℕ) → s + min b e ≤ k → s + (k - s) ≡ k
+    place_lem k s b e h = omega (arith, h)
+
+    small_lem : (k s n e l : ℕ) → k < s + min n e → e ≡ min 64 (l - s) → k - s < 64
+    small_lem k s n e l h i = omega (arith, h, i)
+
+    below_lem : (k s b n e l : ℕ) → s + min b e ≤ k → k < s + min n e → s ≤ l
+        → e ≡ min 64 (l - s) → s + (k - s) < l
+    below_lem k s b n e l f t h i = omega (arith, f, t, h, i)
+
+    above_lem : (k s b n e : ℕ) → s + min b e ≤ k → k < s + min n e → b ≤ k - s
+    above_lem k s b n e f t = omega (arith, f, t)
+
+    before_lem : (k s b n e : ℕ) → s + min b e ≤ k → k < s + min n e → k - s < n
+    before_lem k s b n e f t = omega (arith, f, t)
+
 -- ---- words that are joined
 
 pub words_none : (from to : ℕ) (old : List ℕ) → AreJoined from to 0 old old

@@ -36,6 +36,7 @@ pub record IsSparseBoardKept (a : Inside) : Type 0 where
   pub first : width_of a.costs.first.now ≡ columns_of a
   pub second : width_of a.costs.second.now ≡ columns_of a
   pub basis : length a.basis.items ≡ length a.rows.items
+  pub changes : length a.changes.rows.items ≡ length a.rows.items
   pub mark_columns : a.marks.columns ≡ columns_of a + 1
   pub mark_rows : a.marks.rows ≡ length a.rows.items
   pub marked : AreNumbersMarked (columns_of a + 1) a.marks a.rows.items

@@ -7,6 +7,7 @@ pub mod Rows
 pub mod Words
 pub mod Marks
 pub mod Marking
+pub mod Changes
 pub mod Testing
 pub mod Pivoting
 pub mod Leaving

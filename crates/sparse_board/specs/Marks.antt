@@ -1,10 +1,8 @@
 -- Marks of rows in columns.
-use Rattle.std.specs.Prelude.{◌≡◌, ℕ, ◌/◌, ◌%◌, ◌<◌, ◌≤◌, Bool, false, ◌&&◌, ◌||◌, nat_eq, nat_lt}
+use Rattle.std.specs.Prelude.{◌≡◌, ℕ, ◌/◌, ◌%◌, ◌<◌, Bool, ◌&&◌, ◌||◌, nat_eq, nat_lt}
 use Rattle.sparse_board.specs.declared.marks.Marks.{Marks}
-use Rattle.sparse_board.specs.declared.marks.MarkedRow.{MarkedRow}
 use Rattle.std.specs.Int.{bit_at}
 use Rattle.sparse_board.specs.Words.{bit_of}
-use Rattle.whole_rows.specs.Bits.{IsLowestBit}
 
 -- row i is marked in column j
 unfoldable pub has : Marks → ℕ → ℕ → Bool
@@ -34,16 +32,6 @@ pub record IsWordJoined (j k word : ℕ) (old new : Marks) : Type 0 where
   pub here : (i : ℕ) → i < old.rows → i / 64 ≡ k
       → has new j i ≡ (has old j i || nat_eq (bit_at word (i % 64)) 1)
   pub others : (l i : ℕ) → ¬ ((l ≡ j) × (i / 64 ≡ k)) → has new l i ≡ has old l i
-
--- `at` is a row that is marked in column j, with the bits of its word from it on, or the end
-pub record IsMarkedRow (marks : Marks) (j : ℕ) (at : MarkedRow) : Type 0 where
-  pub low : at.row < marks.rows → IsLowestBit at.rest (at.row % 64)
-  pub bits : (i : ℕ) → at.row ≤ i → i < marks.rows → i / 64 ≡ at.row / 64
-      → has marks j i ≡ nat_eq (bit_at at.rest (i % 64)) 1
-
--- no row from `from` on below `to` is marked in column j
-abbrev pub AreRowsUnmarked : Marks → ℕ → ℕ → ℕ → Type 0
-AreRowsUnmarked marks j from to = (i : ℕ) → from ≤ i → i < to → has marks j i ≡ false
 
 -- the rows of the k-th word of column j are marked as its bits are set
 abbrev pub IsWord : ℕ → ℕ → ℕ → Marks → Type 0

@@ -1,4 +1,5 @@
 //! The sparse board.
+use crate::changes::Changes;
 use crate::cost_rows::CostRows;
 use crate::leaving::leaving;
 use crate::marking::marks_of;
@@ -25,6 +26,8 @@ pub struct Board {
     step: Step,
     // where a row may have a number other than 0
     marks: Marks,
+    // room for the rows that a pivot changes
+    changes: Changes,
     basis: Vec<usize>,
 }
 
@@ -60,6 +63,7 @@ impl Tableau for Board {
         let rows = start_rows(alloc, m, c, matrix, right)?;
         let step = Step::zeros(alloc, c + m)?;
         let marks = marks_of(alloc, &rows, c + m + 1)?;
+        let changes = Changes::none(alloc, m)?;
         let basis = start_basis(alloc, m, c)?;
         Ok(Board {
             reals: c,
@@ -71,6 +75,7 @@ impl Tableau for Board {
             },
             step,
             marks,
+            changes,
             basis,
         })
     }
@@ -132,6 +137,7 @@ impl Tableau for Board {
             &mut self.costs,
             &mut self.step,
             &mut self.marks,
+            &mut self.changes,
             r,
             q as u32,
         )?;
@@ -140,6 +146,7 @@ impl Tableau for Board {
             &mut self.costs,
             &mut self.step,
             &mut self.marks,
+            &self.changes,
             r,
             q as u32,
         );

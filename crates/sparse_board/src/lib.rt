@@ -3,6 +3,7 @@
 #![tactic(auto)]
 
 mod board;
+mod changes;
 mod cost_rows;
 mod entry;
 mod leaving;

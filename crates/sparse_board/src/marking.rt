@@ -1,10 +1,9 @@
 //! Which numbers of the rows may differ from 0: a row isn't looked at for another.
-ghost use Rattle.std.specs.Prelude.{◌≡◌, ◌+◌, ◌*◌, ◌<◌, ◌≤◌, ◌^◌, ℕ, IsTrue, IfOk, false, length, true};
+ghost use Rattle.std.specs.Prelude.{◌≡◌, ◌+◌, ◌*◌, ◌<◌, ◌≤◌, ◌^◌, ℕ, IfOk, false, length, true};
 ghost use Rattle.ratio_core.specs.Rational.{zero_ℚ};
 ghost use Rattle.sparse_board.specs.Mixed as mixed;
 ghost use Rattle.sparse_board.specs.Numbers.{number_of, width_of};
-ghost use Rattle.sparse_board.specs.Rows.{AreSparseRowsWide, number_in_row};
-ghost use Rattle.sparse_board.specs.Words.{Clears};
+ghost use Rattle.sparse_board.specs.Rows.{AreSparseRowsWide};
 ghost use Rattle.sparse_board.specs.Marks.{SameSizes, has};
 ghost use Rattle.sparse_board.specs.Marking.{AreBitsMarked, AreNumbersMarked, KeepMarks, MarksNumbers, MarksRow, MarksUnits, MarksWord};
 ghost use Rattle.whole_rows.specs.Rows as whole;
@@ -14,11 +13,8 @@ use crate::mixed_row::MixedRow;
 use crate::row::Row;
 use crate::sparse_row::SparseRow;
 use crate::step::Step;
-use crate::words::word_end;
 use std::alloc::{AllocError, Global};
-use whole_rows::{
-    NarrowRow, NarrowStep, is_nonzero_at, lowest, next_bit, without_bit_if, without_lowest,
-};
+use whole_rows::{NarrowRow, NarrowStep, lowest, without_lowest};
 
 // The marks of the numbers of rows with this number of columns.
 pub(crate) fn marks_of(alloc: Global, rows: &[Row], width: usize) -> Result<Marks, AllocError>
@@ -102,69 +98,6 @@ fn mark_below(j: usize, i: usize, width: usize, marks: &mut Marks)
 {
     if j < width {
         marks.set(j, i);
-    }
-}
-
-// Takes the marks of column q off the rows that have no number there: what was marked may have
-// become 0, and each marked row is looked at. Tells whether one that stays marked is of fractions.
-#[inline(never)]
-pub(crate) fn unmark_zeros(rows: &[Row], q: u32, marks: &mut Marks) -> bool
-    requires column { q < marks.old.columns }
-    requires rows { marks.old.rows ≡ length rows.now }
-    ensures sizes { SameSizes marks.old marks.new }
-    ensures marked { (w : ℕ) → AreNumbersMarked w marks.old rows.now
-        → AreNumbersMarked w marks.new rows.now }
-{
-    let mut has_wide = false;
-    for k in 0..marks.stride() {
-        let word = marks.word(q as usize, k);
-        let looked = nonzero_bits(rows, q, k * 64, word);
-        marks.set_word(q as usize, k, looked.kept);
-        has_wide = has_wide | looked.has_wide;
-    }
-    has_wide
-}
-
-// The bits of a word that stay set, and whether a row of one of them is of fractions.
-#[derive(Clone, Copy, Drop)]
-struct Looked {
-    kept: u64,
-    has_wide: bool,
-}
-
-// Clears the bits of a word whose rows have no number in column q; its first bit is of row `start`.
-#[inline]
-fn nonzero_bits(rows: &[Row], q: u32, start: usize, word: u64) -> Looked
-    requires { start ≤ length rows.now }
-    ensures { Clears (λ i. number_in_row rows.now i q ≡ zero_ℚ) (length rows.now) start word
-        result.kept }
-{
-    let mut kept = word;
-    let mut has_wide = false;
-    let end = word_end(rows.len() - start);
-    let mut rest = word;
-    let mut bit = next_bit(rest, 0);
-    while bit < end {
-        let i = start + bit;
-        let row = &rows[i].now;
-        let is_zero = is_zero_at(row, q);
-        kept = without_bit_if(kept, bit, is_zero);
-        has_wide = has_wide | (row.is_wide & !is_zero);
-        rest = without_lowest(rest);
-        bit = next_bit(rest, 0);
-    }
-    Looked { kept, has_wide }
-}
-
-// Whether the row's number of column q is 0.
-#[inline]
-fn is_zero_at(row: &MixedRow, q: u32) -> bool
-    ensures { IsTrue result → mixed.number_of row.now q ≡ zero_ℚ }
-{
-    if row.is_wide {
-        row.wide.number(q).is_zero()
-    } else {
-        !is_nonzero_at(&row.narrow, q as usize)
     }
 }
 

@@ -3,7 +3,7 @@ ghost use Rattle.std.specs.Prelude.{◌≡◌, ◌+◌, ◌*◌, ◌/◌, ◌^�
 
 use crate::words::{has_bit, join_words};
 use std::alloc::{AllocError, Global};
-use whole_rows::{lowest, with_bit, without_lowest};
+use whole_rows::with_bit;
 
 // The rows of a column are bits of words: 64 rows without a mark are passed over at once, and two
 // columns are joined word by word.
@@ -19,17 +19,9 @@ pub(crate) struct Marks {
     ghost few: { rows < 2 ^ 32 },
 }
 
-// A row that is marked in a column, and the bits of its word from it on, by which the next one is
-// found.
-#[derive(Clone, Copy, Drop)]
-pub(crate) struct MarkedRow {
-    pub(crate) row: usize,
-    rest: u64,
-}
-
 impl Marks {
-    ghost use Rattle.std.specs.Prelude.{◌≤◌, ℕ, true, false, IfOk, min};
-    ghost use Rattle.sparse_board.specs.Marks.{AreRowsUnmarked, IsJoined, IsMarkedRow, IsPut, IsWord, IsWordJoined, IsWordPut, has};
+    ghost use Rattle.std.specs.Prelude.{◌≤◌, ℕ, true, false, IfOk};
+    ghost use Rattle.sparse_board.specs.Marks.{IsJoined, IsPut, IsWord, IsWordJoined, IsWordPut, has};
 
     // No marks, in this number of columns of this number of rows.
     pub(crate) fn none(alloc: Global, columns: usize, rows: usize) -> Result<Marks, AllocError>
@@ -123,63 +115,5 @@ impl Marks {
         let source = from * self.stride;
         let target = to * self.stride;
         join_words(&mut self.words, source, target, self.stride);
-    }
-
-    // The first row that is marked in the column, or how many rows there are.
-    #[inline]
-    pub(crate) fn first_row(&self, column: usize) -> MarkedRow
-        requires { column < self.now.columns }
-        ensures found { IsMarkedRow self.now column result }
-        ensures within { result.row ≤ self.now.rows }
-        ensures passed { AreRowsUnmarked self.now column 0 result.row }
-    {
-        self.row_from(column, 0)
-    }
-
-    // The next one. Mostly it is of the same word.
-    #[inline(always)]
-    pub(crate) fn row_after(&self, column: usize, found: MarkedRow) -> MarkedRow
-        requires column { column < self.now.columns }
-        requires found { IsMarkedRow self.now column found }
-        requires row { found.row < self.now.rows }
-        ensures found { IsMarkedRow self.now column result }
-        ensures after { found.row < result.row }
-        ensures within { result.row ≤ self.now.rows }
-        ensures passed { AreRowsUnmarked self.now column (found.row + 1) result.row }
-    {
-        let rest = without_lowest(found.rest);
-        if rest == 0 {
-            return self.row_from(column, found.row / 64 + 1);
-        }
-        let row = found.row / 64 * 64 + lowest(rest);
-        MarkedRow {
-            row: row.min(self.rows),
-            rest,
-        }
-    }
-
-    // The first one of the words from this one on.
-    #[inline(never)]
-    fn row_from(&self, column: usize, from: usize) -> MarkedRow
-        requires { column < self.now.columns }
-        ensures found { IsMarkedRow self.now column result }
-        ensures from { min (from * 64) self.now.rows ≤ result.row }
-        ensures within { result.row ≤ self.now.rows }
-        ensures passed { AreRowsUnmarked self.now column (from * 64) result.row }
-    {
-        for k in from..self.stride {
-            let rest = self.word(column, k);
-            if rest > 0 {
-                let row = k * 64 + lowest(rest);
-                return MarkedRow {
-                    row: row.min(self.rows),
-                    rest,
-                };
-            }
-        }
-        MarkedRow {
-            row: self.rows,
-            rest: 0,
-        }
     }
 }

@@ -9,8 +9,9 @@ ghost use Rattle.sparse_board.specs.Marking.{AreNumbersMarked};
 ghost use Rattle.sparse_board.specs.Pivoting.{IsBoardReady};
 ghost use Rattle.sparse_board.specs.Testing.{IsTest};
 
+use crate::changes::Changes;
 use crate::cost_rows::CostRows;
-use crate::marking::{mark_step, unmark_zeros};
+use crate::marking::mark_step;
 use crate::marks::Marks;
 use crate::row::Row;
 use crate::rows::{prepare_rows, settle_rows};
@@ -24,6 +25,7 @@ pub(crate) fn prepare_pivot(
     costs: &mut CostRows,
     step: &mut Step,
     marks: &mut Marks,
+    changes: &mut Changes,
     r: usize,
     q: u32,
 ) -> Result<(), NumberFault>
@@ -33,6 +35,7 @@ pub(crate) fn prepare_pivot(
     requires columns { marks.old.columns ≡ step.old.width }
     requires count { marks.old.rows ≡ length rows.old }
     requires marked { AreNumbersMarked step.old.width marks.old rows.old }
+    requires room { length changes.old.rows.items ≡ length rows.old }
     requires step_wide { step.old.width ≡ width_of costs.old.second.now + 1 }
     requires first_wide { width_of costs.old.first.now ≡ width_of costs.old.second.now }
     requires nonzero { number_in_row rows.old r q ≢ zero_ℚ }
@@ -41,16 +44,18 @@ pub(crate) fn prepare_pivot(
     ensures first_stays { costs.new.first.now ≡ costs.old.first.now }
     ensures second_stays { costs.new.second.now ≡ costs.old.second.now }
     ensures step_wide { step.new.width ≡ step.old.width }
+    ensures room { length changes.new.rows.items ≡ length changes.old.rows.items }
     ensures sizes { SameSizes marks.old marks.new }
     ensures marked { AreNumbersMarked step.old.width marks.new rows.old }
     ensures fits { IsTest (numbers_fit (width_of costs.old.second.now) r q costs.old.in_first
         (numbers_in rows.old costs.old.first.now costs.old.second.now)) result }
-    ensures ok { OnOk result (IsBoardReady rows.new r q marks.new costs.new step.new) }
+    ensures ok { OnOk result (IsBoardReady rows.new r q changes.new.rows.items
+        changes.new.count costs.new step.new) }
 {
-    let has_wide = unmark_zeros(rows, q, marks);
+    let has_wide = changes.note(rows, r, q, marks);
     let asked = has_wide || costs.first.now.is_wide || costs.second.now.is_wide;
     divide_row(rows, r, q, asked, step)?;
-    prepare_rows(rows, r, q, step, marks)?;
+    prepare_rows(rows, q, step, changes)?;
     costs.prepare(q, step)
 }
 
@@ -83,6 +88,7 @@ pub(crate) fn settle_pivot(
     costs: &mut CostRows,
     step: &mut Step,
     marks: &mut Marks,
+    changes: &Changes,
     r: usize,
     q: u32,
 )
@@ -92,7 +98,8 @@ pub(crate) fn settle_pivot(
     requires columns { marks.old.columns ≡ step.old.width }
     requires count { marks.old.rows ≡ length rows.old }
     requires marked { AreNumbersMarked step.old.width marks.old rows.old }
-    requires ready { IsBoardReady rows.old r q marks.old costs.old step.old }
+    requires ready { IsBoardReady rows.old r q changes.now.rows.items
+        changes.now.count costs.old step.old }
     ensures wide { AreSparseRowsWide step.old.width rows.new }
     ensures step_wide { step.new.width ≡ step.old.width }
     ensures use_stays { costs.new.in_first ≡ costs.old.in_first }
@@ -106,7 +113,7 @@ pub(crate) fn settle_pivot(
     ensures sizes { SameSizes marks.old marks.new }
     ensures marked { AreNumbersMarked step.old.width marks.new rows.new }
 {
-    settle_rows(rows, r, q, step, marks);
+    settle_rows(rows, q, step, changes);
     mark_step(step, q, marks);
     costs.settle(q, step);
     let row = &mut rows[r];

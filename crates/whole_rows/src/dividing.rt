@@ -10,19 +10,44 @@ ghost use Rattle.whole_rows.specs.Numerators.{AreDivided, AreSized, DividesAll, 
 use crate::arithmetic::common_divisor;
 use crate::plan::Measure;
 
-// What divides a size, the right side and each numerator of the listed columns, and how large the
-// greatest of these is.
-pub(crate) fn measured(numbers: &[i64], columns: &[u32], side: i64, size: u64) -> Measure
+// A row's bound below it is good enough when the row is divided: its greatest numerator isn't sought.
+const SMALL: u64 = 1024;
+
+// What divides a size, the right side and each numerator of the listed columns, and what none of these
+// passes, as none passes the bound.
+pub(crate) fn measured(
+    numbers: &[i64],
+    columns: &[u32],
+    side: i64,
+    size: u64,
+    bound: u64,
+) -> Measure
     requires positive { 0 < size }
-    requires side { unsigned_abs side < 2 ^ 63 }
+    requires bound { bound < 2 ^ 63 }
+    requires side { unsigned_abs side ≤ bound }
     requires lists { ListsNonzeros columns.now numbers.now }
-    requires small { (j : ℕ) → unsigned_abs (slice_index_or numbers.now j (pos 0)) < 2 ^ 63 }
+    requires within { (j : ℕ) → unsigned_abs (slice_index_or numbers.now j (pos 0)) ≤ bound }
     ensures { IsMeasure numbers.now (length numbers.now) side size result }
 {
     let part = side.unsigned_abs();
-    let greatest = greatest_of(numbers, columns, part);
+    let greatest = greatest_within(numbers, columns, part, bound);
     let common = common_of(numbers, columns, joined(part, size));
     Measure { common, greatest }
+}
+
+// A size that none of these numerators passes, nor the given one: the bound, where it is small.
+#[inline]
+fn greatest_within(numbers: &[i64], columns: &[u32], size: u64, bound: u64) -> u64
+    requires bound { bound < 2 ^ 63 }
+    requires size { size ≤ bound }
+    requires lists { ListsNonzeros columns.now numbers.now }
+    requires within { (j : ℕ) → unsigned_abs (slice_index_or numbers.now j (pos 0)) ≤ bound }
+    ensures { AreSized numbers.now (length numbers.now) size result }
+{
+    if bound < SMALL {
+        return bound;
+    }
+    greatest_of(numbers, columns, size)
 }
 
 // A size that none of these numerators passes, nor the given one.

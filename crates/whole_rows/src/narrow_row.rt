@@ -339,7 +339,7 @@ impl NarrowRow {
     {
         let entry = self.numbers[q];
         let size = entry.unsigned_abs();
-        let measure = measured(&self.numbers, columns, self.side, size);
+        let measure = measured(&self.numbers, columns, self.side, size, self.bound);
         Division {
             by: with_sign(entry, measure.common),
             den: part(size, measure.common),

@@ -54,6 +54,15 @@ pub fn has_positive(row: &NarrowRow, q: usize) -> bool
     row.numbers[q] > 0
 }
 
+/// Whether the row's entry of column q is below 0.
+#[inline]
+pub fn has_negative(row: &NarrowRow, q: usize) -> bool
+    requires { q < width_of row.now }
+    ensures { result ≡ is_below (number_of row.now q) zero_ℚ }
+{
+    row.numbers[q] < 0
+}
+
 /// Whether a row leaves before another, where of equal ratios it does if its basic column is lower.
 pub fn is_before(row: &NarrowRow, other: &NarrowRow, q: usize, is_lower: bool) -> bool
     requires column { q < width_of row.now }

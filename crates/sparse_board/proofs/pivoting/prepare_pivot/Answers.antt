@@ -6,6 +6,7 @@ use Rattle.tableau_core.specs.TestLaws.{costs-decide, others-refused}
 use Rattle.sparse_board.specs.Marking.{AreNumbersMarked}
 use Rattle.sparse_board.specs.Mixed.{units_of, width_of}
 use Rattle.sparse_board.specs.Rows.{number_in_row, numbers, numbers_in, rows_fit}
+use Rattle.sparse_board.proofs.ChangeSteps.{lists_same}
 use Rattle.sparse_board.proofs.TestSteps.{left_fails, refused_on, test_same}
 use Rattle.sparse_board.proofs.pivoting.prepare_pivot.Goals as goal
 
@@ -29,7 +30,7 @@ returns-in_err-prepare_rows-clause-fits c =
     (λ j b. c.in_ok-divide_row.ensures.ok j (subst (λ n. j < n) (sym c.requires.step_wide) b))
     (subst (λ n. rows_fit n c.args.r c.args.q (units_of c.divide_row.new.step) rows ≡ false)
     (c.in_ok-divide_row.ensures.width ∙ c.requires.step_wide) e))
-    c.in_err-prepare_rows.ensures.fits
+    (c.in_err-prepare_rows.ensures.fits c.args.r c.note-has_wide.ensures.lists)
 
 pub returns-clause-fits : goal.returns-clause-fits
 returns-clause-fits c =
@@ -45,7 +46,8 @@ returns-clause-fits c =
     c.in_ok-divide_row.ensures.fits)
     (subst (λ n. rows_fit n c.args.r c.args.q (units_of c.divide_row.new.step) rows ≡ true)
     (c.in_ok-divide_row.ensures.width ∙ c.requires.step_wide)
-    c.in_ok-prepare_rows.ensures.fits)) c.prepare.ensures.fits
+    (c.in_ok-prepare_rows.ensures.fits c.args.r c.note-has_wide.ensures.lists)))
+    c.prepare.ensures.fits
 
 both_ok : {T E : Type 0} (r : Result T E) (P Q R : Type 0) → (P → Q → R) → OnOk r P → OnOk r Q
     → OnOk r R
@@ -59,39 +61,33 @@ returns-clause-ok c =
       divided = λ j b. c.in_ok-divide_row.ensures.ok j
           (subst (λ n. j < n) c.in_ok-divide_row.ensures.width b)
           ∙ ap (λ o. numbers o j /ℚ numbers o c.args.q) (sym (c.prepare_rows.ensures.stays c.args.r));
+      lists = lists_same c.args.rows.now c.prepare_rows.new.rows c.args.r c.args.q
+          c.note-has_wide.new.self.rows.items c.note-has_wide.new.self.count
+          c.prepare_rows.auto.rows c.prepare_rows.ensures.stays c.note-has_wide.ensures.lists;
       others = c.in_ok-prepare_rows.ensures.ok;
       first_ready = λ t. first (subst IsTrue c.prepare.ensures.use_stays t);
       second_ready = second;
     }) c.prepare.ensures.first_ready c.prepare.ensures.second_ready
 
-pub unmark_zeros-has_wide-requires-clause-column :
-    goal.unmark_zeros-has_wide-requires-clause-column
-unmark_zeros-has_wide-requires-clause-column c =
-    omega (arith, c.requires.columns, c.requires.column)
+pub note-has_wide-requires-clause-column : goal.note-has_wide-requires-clause-column
+note-has_wide-requires-clause-column c = omega (arith, c.requires.columns, c.requires.column)
 
-pub prepare_rows-requires-clause-columns : goal.prepare_rows-requires-clause-columns
-prepare_rows-requires-clause-columns c =
-    c.unmark_zeros-has_wide.ensures.sizes.columns ∙ c.requires.columns
-    ∙ sym c.in_ok-divide_row.ensures.width
+pub note-has_wide-requires-clause-marked : goal.note-has_wide-requires-clause-marked
+note-has_wide-requires-clause-marked c =
+    subst (λ n. AreNumbersMarked n c.args.marks.now c.args.rows.now) (sym c.requires.columns)
+    c.requires.marked
 
-pub prepare_rows-requires-clause-count : goal.prepare_rows-requires-clause-count
-prepare_rows-requires-clause-count c =
-    c.unmark_zeros-has_wide.ensures.sizes.rows ∙ c.requires.count
-
-pub prepare_rows-requires-clause-marked : goal.prepare_rows-requires-clause-marked
-prepare_rows-requires-clause-marked c =
-    subst (λ n. AreNumbersMarked n c.unmark_zeros-has_wide.new.marks c.args.rows.now)
-    (sym c.in_ok-divide_row.ensures.width)
-    (c.unmark_zeros-has_wide.ensures.marked c.args.step.now.width c.requires.marked)
+pub prepare_rows-requires-clause-listed : goal.prepare_rows-requires-clause-listed
+prepare_rows-requires-clause-listed c = c.note-has_wide.ensures.lists.listed
 
 pub returns-in_err-divide_row-clause-marked : goal.returns-in_err-divide_row-clause-marked
 returns-in_err-divide_row-clause-marked c =
-    c.unmark_zeros-has_wide.ensures.marked c.args.step.now.width c.requires.marked
+    c.note-has_wide.ensures.marked c.args.step.now.width c.requires.marked
 
 pub returns-in_err-prepare_rows-clause-marked : goal.returns-in_err-prepare_rows-clause-marked
 returns-in_err-prepare_rows-clause-marked c =
-    c.unmark_zeros-has_wide.ensures.marked c.args.step.now.width c.requires.marked
+    c.note-has_wide.ensures.marked c.args.step.now.width c.requires.marked
 
 pub returns-clause-marked : goal.returns-clause-marked
 returns-clause-marked c =
-    c.unmark_zeros-has_wide.ensures.marked c.args.step.now.width c.requires.marked
+    c.note-has_wide.ensures.marked c.args.step.now.width c.requires.marked

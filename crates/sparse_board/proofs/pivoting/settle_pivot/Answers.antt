@@ -17,6 +17,12 @@ row_width c =
     (subst (λ n. c.args.r < n) (sym c.settle_rows.auto.rows) c.requires.row)))
     ∙ c.settle_rows.ensures.widths c.args.r ∙ c.requires.wide c.args.r c.requires.row
 
+pub exchange-requires : goal.exchange-requires
+exchange-requires c =
+    sym (sym (ap width_at (row_is c.settle_rows.new.rows c.args.r c.index-rows-r.result
+    (subst (λ n. c.args.r < n) (sym c.settle_rows.auto.rows) c.requires.row)))
+    ∙ c.settle_rows.ensures.widths c.args.r ∙ c.requires.wide c.args.r c.requires.row)
+
 pub returns-clause-wide : goal.returns-clause-wide
 returns-clause-wide c =
     settled-wide c.args.rows.now c.settle_rows.new.rows c.args.r c.args.step.now
@@ -29,10 +35,10 @@ returns-clause-settled c = λ w long first second.
     settled-all c.args.rows.now c.settle_rows.new.rows c.args.r step c.exchange.new.self
     c.settle_rows.auto.rows c.requires.row
     w c.args.q c.args.costs.now c.settle.new.self
-    (subst (λ n. AreSparseRowsWide n c.args.rows.now) long c.requires.wide) long c.args.marks.now
-    c.requires.ready
+    (subst (λ n. AreSparseRowsWide n c.args.rows.now) long c.requires.wide) long
+    c.args.changes.now.rows.items c.args.changes.now.count c.requires.ready
     (λ j b. c.exchange.ensures.now j (subst (λ n. j < n) (sym (row_width c ∙ long)) b))
-    c.settle_rows.ensures.lowered first second
+    (c.settle_rows.ensures.lowered c.args.r c.requires.ready.lists) first second
     c.settle.ensures.first_lowered c.settle.ensures.second_lowered
 
 pub returns-clause-sizes : goal.returns-clause-sizes
@@ -50,4 +56,4 @@ returns-clause-marked c =
     c.requires.marked c.mark_step.ensures.kept
     c.mark_step.ensures.marked
     c.requires.ready.divided
-    c.settle_rows.ensures.lowered
+    (c.settle_rows.ensures.lowered c.args.r c.requires.ready.lists)

@@ -1,116 +1,74 @@
-use Rattle.std.proofs.Common.{◌≡◌, ◌+◌, ◌<◌, ◌≤◌, arith, length, refl, subst, sym}
-use Rattle.sparse_board.specs.Marks.{AreRowsUnmarked}
-use Rattle.simplex_laws.specs.SearchLaws.{all_below_all}
+use Rattle.std.proofs.Common.{◌≡◌, ◌<◌, arith, length, slice_index, subst, sym}
 use Rattle.sparse_board.proofs.TestSteps.{refused_on}
-use Rattle.sparse_board.proofs.RowsSteps.{ArePreparedTo, prepared-more, prepared-none, prepared-past, prepared-pivot, prepared_stays, row_fits, rows-refused}
+use Rattle.sparse_board.proofs.RowsSteps.{listed_is, listed_within, prepared-all, prepared-more, prepared-none, prepared_stays, prepared_wide, rows-refused}
 use Rattle.sparse_board.proofs.rows.prepare_rows.Goals as goal
-use Rattle.sparse_board.proofs.rows.prepare_rows.Goals.{then-i-r+in_ok-prepare, else-i-r}
+use Rattle.sparse_board.proofs.rows.prepare_rows.Goals.{After-index}
 
-pub first_row-found-requires : goal.first_row-found-requires
-first_row-found-requires c =
-    subst (λ n. c.args.q < n) (sym c.requires.columns) c.requires.column
+-- the row that is looked at
+item_is : (c : After-index) → c.index.result.now
+    ≡ slice_index c.args.changes.now.rows.items c.loop-k.k
+item_is c = listed_is c.args.changes.now c.loop-k.k c.index.result.now c.loop-k-test.true c.index.ensures
 
-pub loop-i-init : goal.loop-i-init
-loop-i-init c =
+item_within : (c : After-index) → c.index.result.now < length c.args.rows.now
+item_within c =
+    listed_within (length c.args.rows.now) c.loop-k.k c.index.result.now
+    c.args.changes.now.rows.items c.args.changes.now.count c.requires.listed c.loop-k-test.true
+    (item_is c)
+
+pub loop-k-init : goal.loop-k-init
+loop-k-init c =
+    prepared-none c.args.step.now.width c.args.q c.args.step.now c.args.changes.now.rows.items
+    c.args.rows.now
+
+pub bounds-rows-i : goal.bounds-rows-i
+bounds-rows-i c =
+    subst (λ n. c.index.result.now < n) (sym c.loop-k.invariant.long)
+    (item_within (goal.at.bounds-rows-i c).After-index)
+
+pub prepare-requires-clause-width : goal.prepare-requires-clause-width
+prepare-requires-clause-width c = omega (
+  arith,
+  prepared_wide c.args.step.now.width c.args.q c.args.step.now c.args.changes.now.rows.items
+      c.args.rows.now c.loop-k.rows c.loop-k.k c.loop-k.invariant c.requires.wide
+      c.index.result.now c.index-rows-i.result
+      (item_within (goal.at.prepare-requires-clause-width c).After-index),
+)
+
+pub loop-k-preserved : goal.loop-k-preserved
+loop-k-preserved c =
     let step = c.args.step.now in
-    let before = c.args.rows.now in
-    let to = c.first_row-found.result.row in
-    record {
-      done = prepared-past step.width c.args.r c.args.q step c.args.marks.now before before 0 to
-          (prepared-none step.width c.args.r c.args.q step c.args.marks.now before)
-          (subst (λ n. to ≤ n) c.requires.count c.first_row-found.ensures.within)
-          c.requires.column c.requires.marked c.first_row-found.ensures.passed;
-      found = c.first_row-found.ensures.found;
-      place = refl;
-    }
-
-pub row_after-found-requires-clause-column : goal.row_after-found-requires-clause-column
-row_after-found-requires-clause-column c =
-    subst (λ n. c.args.q < n) (sym c.requires.columns) c.requires.column
-
-pub row_after-found-requires-clause-found : goal.row_after-found-requires-clause-found
-row_after-found-requires-clause-found c = c.loop-i.invariant.found
-
-pub row_after-found-requires-clause-row : goal.row_after-found-requires-clause-row
-row_after-found-requires-clause-row c =
-    omega (
-      arith,
-      c.requires.count,
-      c.loop-i.invariant.done.long,
-      c.loop-i.invariant.place,
-      c.loop-i-test.true,
-    )
-
-pub loop-i-smaller : goal.loop-i-smaller
-loop-i-smaller c =
-    omega (
-      arith,
-      c.loop-i.invariant.done.long,
-      c.loop-i.invariant.place,
-      c.loop-i-test.true,
-      c.row_after-found.ensures.after,
-    )
-
-pub loop-i-preserved : goal.loop-i-preserved
-loop-i-preserved c =
-    let w = c.args.step.now.width in
-    let step = c.args.step.now in
-    let marks = c.args.marks.now in
-    let before = c.args.rows.now in
-    let i = c.loop-i.i in
-    let to = c.row_after-found.result.row in
-    let below : i < length before = subst (λ n. i < n) c.loop-i.invariant.done.long c.loop-i-test.true in
-    let here : ArePreparedTo w c.args.r c.args.q step marks before c.if-i-r.rows (i + 1) =
-    elim c.if-i-r.branch [
-      | then-i-r+in_ok-prepare k ↦
-          subst (λ rows. ArePreparedTo w c.args.r c.args.q step marks before rows (i + 1))
-          (sym k.rows-is)
-          (prepared-more w c.args.r c.args.q step marks before c.loop-i.rows i
-          k.index-rows-i.result k.prepare.new.self c.loop-i.invariant.done c.requires.wide below
-          k.in_ok-prepare.ensures.stays (sym k.in_ok-prepare.ensures.fits)
-          k.in_ok-prepare.ensures.ok)
-      | else-i-r k ↦
-          subst (λ rows. ArePreparedTo w c.args.r c.args.q step marks before rows (i + 1))
-          (sym k.rows-is)
-          (prepared-pivot w c.args.r c.args.q step marks before c.loop-i.rows i
-          c.loop-i.invariant.done below k.if-i-r.false)
-    ] in
-    record {
-      done = prepared-past w c.args.r c.args.q step marks before c.if-i-r.rows (i + 1) to here
-          (subst (λ n. to ≤ n) c.requires.count c.row_after-found.ensures.within)
-          c.requires.column c.requires.marked
-          (subst (λ n. AreRowsUnmarked marks c.args.q (n + 1) to) (sym c.loop-i.invariant.place)
-          c.row_after-found.ensures.passed);
-      found = c.row_after-found.ensures.found;
-      place = refl;
-    }
-
-pub returns-in_err-prepare-clause-fits : goal.returns-in_err-prepare-clause-fits
-returns-in_err-prepare-clause-fits c =
-    let step = c.args.step.now in
-    refused_on c.from_residual.result _ _ _ c.from_residual.ensures.1
-    (λ e. rows-refused step.width c.args.r c.args.q step c.args.marks.now c.args.rows.now
-    c.loop-i.rows c.loop-i.i c.index-rows-i.result c.loop-i.invariant.done c.requires.wide
-    (subst (λ n. c.loop-i.i < n) c.loop-i.invariant.done.long c.loop-i-test.true) c.if-i-r.true
-    (sym e)) c.in_err-prepare.ensures.fits
+    let at = (goal.at.loop-k-preserved c).After-index in
+    prepared-more step.width c.args.q step c.args.changes.now.rows.items c.args.rows.now
+    c.loop-k.rows c.loop-k.k c.loop-k.invariant c.requires.wide c.index.result.now
+    c.index-rows-i.result (item_within at) c.prepare.new.self (item_is at)
+    c.in_ok-prepare.ensures.stays (sym c.in_ok-prepare.ensures.fits) c.in_ok-prepare.ensures.ok
 
 pub returns-in_err-prepare-clause-stays : goal.returns-in_err-prepare-clause-stays
 returns-in_err-prepare-clause-stays c =
     let step = c.args.step.now in
-    prepared_stays step.width c.args.r c.args.q step c.args.marks.now c.args.rows.now c.loop-i.rows
-    c.loop-i.i c.index-rows-i.result c.prepare.new.self c.loop-i.invariant.done
-    (subst (λ n. c.loop-i.i < n) c.loop-i.invariant.done.long c.loop-i-test.true)
+    prepared_stays step.width c.args.q step c.args.changes.now.rows.items c.args.rows.now
+    c.loop-k.rows c.loop-k.k c.loop-k.invariant c.requires.wide c.index.result.now
+    c.index-rows-i.result
+    (item_within (goal.at.returns-in_err-prepare-clause-stays c).After-index) c.prepare.new.self
     c.in_err-prepare.ensures.stays
 
-pub returns-clause-fits : goal.returns-clause-fits
-returns-clause-fits c =
+pub returns-in_err-prepare-clause-fits : goal.returns-in_err-prepare-clause-fits
+returns-in_err-prepare-clause-fits c = λ r lists.
     let step = c.args.step.now in
-    let all : c.loop-i.i ≡ length c.args.rows.now =
-    omega (arith, c.loop-i.invariant.done.within, c.loop-i.invariant.done.long, c.loop-i-test.false) in
-    all_below_all (length c.args.rows.now) (row_fits step.width c.args.r c.args.q step
-    c.args.marks.now c.args.rows.now c.loop-i.rows c.loop-i.i)
-    (λ k b. c.loop-i.invariant.done.fit k (subst (λ n. k < n) (sym all) b))
+    let at = (goal.at.returns-in_err-prepare-clause-fits c).After-index in
+    refused_on c.from_residual.result _ _ _ c.from_residual.ensures.1
+    (λ e. rows-refused step.width c.args.q step c.args.changes.now.rows.items c.args.rows.now
+    c.loop-k.rows c.loop-k.k c.loop-k.invariant c.requires.wide c.index.result.now
+    c.index-rows-i.result (item_within at) r
+    (subst (λ i. ¬ (i ≡ r)) (sym (item_is at)) (lists.others c.loop-k.k c.loop-k-test.true))
+    (sym e)) c.in_err-prepare.ensures.fits
+
+pub returns-clause-fits : goal.returns-clause-fits
+returns-clause-fits c = λ r lists.
+    let step = c.args.step.now in
+    prepared-all step.width c.args.q step c.args.changes.now.rows.items c.args.rows.now
+    c.loop-k.rows c.loop-k.k c.loop-k.invariant c.requires.wide r c.args.changes.now.count
+    (omega (arith, c.loop-k-test.false)) lists
 
 pub returns-clause-ok : goal.returns-clause-ok
-returns-clause-ok c = λ i b n m.
-    c.loop-i.invariant.done.prepared i (omega (arith, b, c.loop-i-test.false)) n m
+returns-clause-ok c = λ l b. c.loop-k.invariant.prepared l (omega (arith, b, c.loop-k-test.false))

@@ -39,6 +39,10 @@ pub prepare_pivot-requires-clause-count : goal.prepare_pivot-requires-clause-cou
 prepare_pivot-requires-clause-count c =
     c.self.invariant.mark_rows ∙ ap length (sym c.deref_mut.ensures.value)
 
+pub prepare_pivot-requires-clause-room : goal.prepare_pivot-requires-clause-room
+prepare_pivot-requires-clause-room c =
+    c.self.invariant.changes ∙ ap length (sym c.deref_mut.ensures.value)
+
 pub prepare_pivot-requires-clause-marked : goal.prepare_pivot-requires-clause-marked
 prepare_pivot-requires-clause-marked c =
     let a = c.self.inside in
@@ -84,7 +88,7 @@ invariant_of-self c =
     c.self.invariant.wide)
     (ap width_of c.prepare_pivot.ensures.first_stays)
     (ap width_of c.prepare_pivot.ensures.second_stays) c.prepare_pivot.ensures.step_wide refl
-    c.prepare_pivot.ensures.sizes
+    c.prepare_pivot.ensures.room c.prepare_pivot.ensures.sizes
     (marked_same (columns_of a + 1) c.prepare_pivot.new.marks a.rows.items _ count
     (λ i. ap (λ l. now_at l i) rows ∙ c.prepare_pivot.ensures.rows_stay i
     ∙ ap (λ l. now_at l i) c.deref_mut.ensures.value)
@@ -102,6 +106,7 @@ returns-in_err-prepare_pivot-clause-board c =
       costs = c.prepare_pivot.new.costs;
       step = c.prepare_pivot.new.step;
       marks = c.prepare_pivot.new.marks;
+      changes = c.prepare_pivot.new.changes;
       basis = a.basis;
     }) refl c.prepare_pivot.ensures.use_stays (ap length rows ∙ c.prepare_pivot.auto.rows
     ∙ ap length c.deref_mut.ensures.value) refl
@@ -154,8 +159,8 @@ settle_pivot-requires-clause-ready c =
     let prepared = c.prepare_pivot.new in
     let rows = c.deref_mut-2.ensures.value ∙ with_items_is a.rows prepared.rows
     (c.prepare_pivot.auto.rows ∙ c.deref_mut.ensures.len) in
-    ready_same c.deref_mut-2.result.now prepared.rows c.args.r c.args.q prepared.marks
-    prepared.costs prepared.step rows c.in_ok-prepare_pivot.ensures.ok
+    ready_same c.deref_mut-2.result.now prepared.rows c.args.r c.args.q
+    prepared.changes.rows.items prepared.changes.count prepared.costs prepared.step rows c.in_ok-prepare_pivot.ensures.ok
 
 pub invariant_of-self-2 : goal.invariant_of-self-2
 invariant_of-self-2 c =
@@ -174,7 +179,7 @@ invariant_of-self-2 c =
     (c.settle_pivot.ensures.first_wide ∙ ap width_of c.prepare_pivot.ensures.first_stays)
     (c.settle_pivot.ensures.second_wide ∙ ap width_of c.prepare_pivot.ensures.second_stays)
     (c.settle_pivot.ensures.step_wide ∙ c.prepare_pivot.ensures.step_wide)
-    (length-set a.basis.items c.args.r c.args.q)
+    (length-set a.basis.items c.args.r c.args.q) c.prepare_pivot.ensures.room
     (sizes_more a.marks prepared.marks settled.marks c.prepare_pivot.ensures.sizes
     c.settle_pivot.ensures.sizes)
     (subst (AreNumbersMarked (columns_of a + 1) settled.marks) (sym last)
@@ -197,6 +202,7 @@ returns-clause-board c =
       costs = settled.costs;
       step = settled.step;
       marks = settled.marks;
+      changes = prepared.changes;
       basis = with_item a.basis c.args.r c.args.q;
     })
     refl (ap length last ∙ c.settle_pivot.auto.rows ∙ count)

@@ -26,6 +26,7 @@ made c = record {
   };
   step = c.in_ok-step.step;
   marks = c.in_ok-marks.marks;
+  changes = c.in_ok-changes.changes;
   basis = c.in_ok-basis.basis;
 }
 
@@ -60,6 +61,7 @@ invariant_of-result c =
     (c.in_ok-second.ensures.wide ∙ ap length c.deref-2.ensures.value ∙ (second_listed c).long)
     c.in_ok-step.ensures
     (ap length c.in_ok-basis.ensures ∙ length-range_with_len c.args.c c.args.m)
+    c.in_ok-changes.ensures
     c.in_ok-marks.ensures.columns
     (c.in_ok-marks.ensures.rows ∙ ap length c.deref-3.ensures.value)
     (subst (AreNumbersMarked (c.args.c + c.args.m + 1) c.in_ok-marks.marks) c.deref-3.ensures.value

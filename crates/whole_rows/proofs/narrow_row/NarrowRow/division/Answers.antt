@@ -1,27 +1,25 @@
-use Rattle.std.proofs.Common.{◌≡◌, ◌<◌, ◌^◌, ◌∙◌, ℕ, FitsSigned, ap, arith, pos, rules, slice_index_or, subst, subst₂, sym, unsigned_abs, length, w64}
+use Rattle.std.proofs.Common.{◌≡◌, ◌≤◌, ◌∙◌, ℕ, FitsSigned, ap, arith, pos, rules, slice_index_or, subst, subst₂, sym, unsigned_abs, length, w64}
 use Rattle.std.proofs.lemmas.Int.{to_z-of_z}
 use Rattle.std.specs.Int.{is_negative}
 use Rattle.ratio_core.specs.Rational.{signed}
 use Rattle.whole_rows.specs.Numerators.{IsMeasured}
 use Rattle.whole_rows.specs.Rows.{numerator_of}
-use Rattle.whole_rows.proofs.BitLaws.{back}
-use Rattle.whole_rows.proofs.DivisionSteps.{at_item, division_made, divisor_at_most, entry_is, numerator_small, side_is_lem, side_of, size_above_zero}
+use Rattle.whole_rows.proofs.DivisionSteps.{at_item, division_made, divisor_at_most, entry_is, side_is_lem, side_of, size_above_zero}
 use Rattle.whole_rows.proofs.narrow_row.NarrowRow.division.Goals as goal
 use Rattle.whole_rows.proofs.narrow_row.NarrowRow.division.Goals.{After-measured-measure}
 
 pub measured-measure-requires-clause-side : goal.measured-measure-requires-clause-side
 measured-measure-requires-clause-side c =
     let row = c.args.self.now in
-    let small : unsigned_abs row.side < 2 ^ 63 =
-    side_of (λ z. unsigned_abs z < 2 ^ 63) row.numbers.items row.side (numerator_small row) in
-    subst (λ z. unsigned_abs z < 2 ^ 63) (sym (back row.side small)) small
+    subst (λ z. unsigned_abs z ≤ row.bound) (sym (side_is_lem row))
+    (side_of (λ z. unsigned_abs z ≤ row.bound) row.numbers.items row.side row.within.sizes)
 
-pub measured-measure-requires-clause-small : goal.measured-measure-requires-clause-small
-measured-measure-requires-clause-small c =
+pub measured-measure-requires-clause-within : goal.measured-measure-requires-clause-within
+measured-measure-requires-clause-within c =
     let row = c.args.self.now in
-    subst (λ xs. (j : ℕ) → unsigned_abs (slice_index_or xs j (pos 0)) < 2 ^ 63)
+    subst (λ xs. (j : ℕ) → unsigned_abs (slice_index_or xs j (pos 0)) ≤ row.bound)
     (sym c.deref.ensures.value)
-    (at_item (λ z. unsigned_abs z < 2 ^ 63) row.numbers.items row.side (numerator_small row)
+    (at_item (λ z. unsigned_abs z ≤ row.bound) row.numbers.items row.side row.within.sizes
     (omega arith))
 
 size_is : (c : After-measured-measure) → c.unsigned_abs-size.result

@@ -3,7 +3,7 @@ use Rattle.std.proofs.lemmas.Bool.{not-true}
 use Rattle.rational_laws.specs.Tests.{zero_from_test}
 use Rattle.whole_rows.specs.Rows as whole
 use Rattle.sparse_board.proofs.MixedSteps.{number_narrow, number_wide}
-use Rattle.sparse_board.proofs.marking.is_zero_at.Goals as goal
+use Rattle.sparse_board.proofs.changes.is_zero_at.Goals as goal
 
 pub returns-then-row : goal.returns-then-row
 returns-then-row c = λ t.
