@@ -1,0 +1,112 @@
+//! What each family of bridges does with one item, by the family of an edge.
+ghost use Rattle.std.specs.Prelude.{◌≡◌};
+ghost use Rattle.ratio_core.specs.Answers.{ExactWhere};
+ghost use Rattle.item_core.specs.Edge.{family_of};
+ghost use Rattle.bridge_face.specs.ImageOf.{ImageFits, image_of};
+ghost use Rattle.bridge_face.specs.Law.{IsItemFor};
+ghost use Rattle.bridge_face.specs.BridgeState.{IsCarriedBack, TakesDuals, child_rows_of};
+
+use bridge_face::{ChildRows, KeptItem, OneGroup, OneObjective, OneRow, Rewriting};
+use bridges_flip::{GreaterLessRule, NonposVarRule, ObjFlipRule, OrthantFlipRule};
+use bridges_norm::{NormInfinityRule, NormOneRule};
+use bridges_shape::{
+    ObjFunctionizeRule, ScalarFunctionizeRule, ScalarizeRule, VectorFunctionizeRule, VectorizeRule,
+    VectorizeVarRule,
+};
+use bridges_slack::{LaterRule, ObjSlackRule, ScalarSlackRule, VectorSlackRule};
+use bridges_split::{DropRealsRule, FreeVarRule, SplitSetRule, ZerosVarRule};
+use item_core::{Edge, Family, Image, Item};
+use ratio_core::{NumberFault, Ratios};
+use std::alloc::Global;
+
+type GreaterLess = OneRow<GreaterLessRule>;
+
+type OrthantFlip = OneRow<OrthantFlipRule>;
+
+type NonposVar = OneGroup<NonposVarRule>;
+
+type ObjFlip = OneObjective<ObjFlipRule>;
+
+type Vectorize = OneRow<VectorizeRule>;
+
+type Scalarize = ScalarizeRule;
+
+type ScalarFunctionize = OneRow<ScalarFunctionizeRule>;
+
+type VectorFunctionize = OneRow<VectorFunctionizeRule>;
+
+type VectorizeVar = OneGroup<VectorizeVarRule>;
+
+type ObjFunctionize = OneObjective<ObjFunctionizeRule>;
+
+type SplitSet = SplitSetRule;
+
+type DropReals = DropRealsRule;
+
+type ZerosVar = ZerosVarRule;
+
+type FreeVar = OneGroup<FreeVarRule>;
+
+type ScalarSlack = OneGroup<ScalarSlackRule>;
+
+type VectorSlack = OneGroup<VectorSlackRule>;
+
+type Later = OneGroup<LaterRule>;
+
+type ObjSlack = ObjSlackRule;
+
+type NormInfinity = OneRow<NormInfinityRule>;
+
+type NormOne = NormOneRule;
+
+// A call of the function `$name` of the family `$family`.
+macro_rules! by_family {
+    ($family:expr, $name:ident($($argument:expr),*)) => {
+        with_families!([
+            GreaterLess OrthantFlip NonposVar ObjFlip Vectorize Scalarize ScalarFunctionize
+            VectorFunctionize VectorizeVar ObjFunctionize SplitSet DropReals ZerosVar FreeVar
+            ScalarSlack VectorSlack Later ObjSlack NormInfinity NormOne
+        ] $family, $name, ($($argument),*))
+    };
+}
+
+macro_rules! with_families {
+    ([$($each:ident)*] $family:expr, $name:ident, $arguments:tt) => {
+        match $family {
+            $(Family::$each => $each::$name $arguments,)*
+        }
+    };
+}
+
+// The family of an edge.
+fn family(edge: Edge) -> Family
+    ensures { result ≡ family_of edge }
+{
+    edge.entry().family
+}
+
+/// The image of an item by an edge.
+pub(crate) fn image(alloc: Global, edge: Edge, item: &Item) -> Result<Image, NumberFault>
+    requires { IsItemFor edge item.now }
+    ensures { ExactWhere result (ImageFits edge item.now)
+        (λ image. image ≡ image_of edge item.now) }
+{
+    by_family!(family(edge), image(alloc, edge, item))
+}
+
+/// Where the child rows of an item stand.
+pub(crate) fn child_rows(kept: &KeptItem) -> ChildRows
+    requires { IsItemFor kept.now.edge kept.now.item }
+    ensures { result ≡ child_rows_of kept.now.edge kept.now.item }
+{
+    by_family!(family(kept.edge), child_rows(kept))
+}
+
+/// The dual of a row, by those of its child rows.
+pub(crate) fn back(alloc: Global, kept: &KeptItem, duals: &[Ratios]) -> Result<Ratios, NumberFault>
+    requires suits { IsItemFor kept.now.edge kept.now.item }
+    requires duals { TakesDuals kept.now duals.now }
+    ensures { IsCarriedBack result duals.now kept.now }
+{
+    by_family!(family(kept.edge), back(alloc, kept, duals))
+}
