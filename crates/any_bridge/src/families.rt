@@ -6,58 +6,17 @@ ghost use Rattle.bridge_face.specs.ImageOf.{ImageFits, image_of};
 ghost use Rattle.bridge_face.specs.Law.{IsItemFor};
 ghost use Rattle.bridge_face.specs.BridgeState.{IsCarriedBack, TakesDuals, child_rows_of};
 
-use bridge_face::{ChildRows, KeptItem, OneGroup, OneObjective, OneRow, Rewriting};
-use bridges_flip::{GreaterLessRule, NonposVarRule, ObjFlipRule, OrthantFlipRule};
-use bridges_norm::{NormInfinityRule, NormOneRule};
+use bridge_face::{ChildRows, KeptItem, Rewriting};
+use bridges_flip::{GreaterLess, NonposVar, ObjFlip, OrthantFlip};
+use bridges_norm::{NormInfinity, NormOne};
 use bridges_shape::{
-    ObjFunctionizeRule, ScalarFunctionizeRule, ScalarizeRule, VectorFunctionizeRule, VectorizeRule,
-    VectorizeVarRule,
+    ObjFunctionize, ScalarFunctionize, Scalarize, VectorFunctionize, Vectorize, VectorizeVar,
 };
-use bridges_slack::{LaterRule, ObjSlackRule, ScalarSlackRule, VectorSlackRule};
-use bridges_split::{DropRealsRule, FreeVarRule, SplitSetRule, ZerosVarRule};
+use bridges_slack::{Later, ObjSlack, ScalarSlack, VectorSlack};
+use bridges_split::{DropReals, FreeVar, SplitSet, ZerosVar};
 use item_core::{Edge, Family, Image, Item};
 use ratio_core::{NumberFault, Ratios};
 use std::alloc::Global;
-
-type GreaterLess = OneRow<GreaterLessRule>;
-
-type OrthantFlip = OneRow<OrthantFlipRule>;
-
-type NonposVar = OneGroup<NonposVarRule>;
-
-type ObjFlip = OneObjective<ObjFlipRule>;
-
-type Vectorize = OneRow<VectorizeRule>;
-
-type Scalarize = ScalarizeRule;
-
-type ScalarFunctionize = OneRow<ScalarFunctionizeRule>;
-
-type VectorFunctionize = OneRow<VectorFunctionizeRule>;
-
-type VectorizeVar = OneGroup<VectorizeVarRule>;
-
-type ObjFunctionize = OneObjective<ObjFunctionizeRule>;
-
-type SplitSet = SplitSetRule;
-
-type DropReals = DropRealsRule;
-
-type ZerosVar = ZerosVarRule;
-
-type FreeVar = OneGroup<FreeVarRule>;
-
-type ScalarSlack = OneGroup<ScalarSlackRule>;
-
-type VectorSlack = OneGroup<VectorSlackRule>;
-
-type Later = OneGroup<LaterRule>;
-
-type ObjSlack = ObjSlackRule;
-
-type NormInfinity = OneRow<NormInfinityRule>;
-
-type NormOne = NormOneRule;
 
 // A call of the function `$name` of the family `$family`.
 macro_rules! by_family {

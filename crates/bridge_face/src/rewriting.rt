@@ -12,7 +12,7 @@ use ratio_core::{NumberFault, Ratios};
 use std::alloc::Global;
 
 /// What a family of bridges does with one item: its image, the dual that is carried back, and the
-/// proof of its law. What it keeps, and what is asked of all bridges, is `KeptItems`.
+/// proof of its law. A bridge keeps the items, and calls the family of each.
 pub trait Rewriting: Drop {
     ghost use Rattle.item_core.specs.declared.family.Family.{Family};
 

@@ -7,13 +7,13 @@
 
 use crate::flips::{mirror, negations};
 use aff_core::Aff;
-use bridge_face::{KeptItems, OneRow, RowRule};
+use bridge_face::{OneRow, RowRule};
 use item_core::{Body, Family};
 use ratio_core::{NumberFault, Ratios};
 use std::alloc::Global;
 
-/// The bridge that turns a bound round.
-pub type GreaterLess = KeptItems<OneRow<GreaterLessRule>>;
+/// The family that turns a bound round.
+pub type GreaterLess = OneRow<GreaterLessRule>;
 
 /// What `GreaterLess` does with one row.
 #[derive(Drop)]

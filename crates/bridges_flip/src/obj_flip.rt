@@ -6,13 +6,13 @@
 ghost use Rattle.std.specs.Prelude.{◌≡◌};
 ghost use Rattle.bridge_face.specs.ImageOf.{opposite as other};
 
-use bridge_face::{KeptItems, ObjectiveRule, OneObjective};
+use bridge_face::{ObjectiveRule, OneObjective};
 use item_core::{Body, Family, Sense};
 use lists::Memory;
 use std::alloc::Global;
 
-/// The bridge that turns an objective round.
-pub type ObjFlip = KeptItems<OneObjective<ObjFlipRule>>;
+/// The family that turns an objective round.
+pub type ObjFlip = OneObjective<ObjFlipRule>;
 
 /// What `ObjFlip` does with one objective.
 #[derive(Drop)]

@@ -6,13 +6,13 @@
 //! - In MathOptInterface: `NonnegToNonposBridge` and `NonposToNonnegBridge`.
 
 use crate::flips::{mirror, negated_functions, negations};
-use bridge_face::{KeptItems, OneRow, RowRule};
+use bridge_face::{OneRow, RowRule};
 use item_core::{Body, Family};
 use ratio_core::{NumberFault, Ratios};
 use std::alloc::Global;
 
-/// The bridge that turns an orthant round.
-pub type OrthantFlip = KeptItems<OneRow<OrthantFlipRule>>;
+/// The family that turns an orthant round.
+pub type OrthantFlip = OneRow<OrthantFlipRule>;
 
 /// What `OrthantFlip` does with one row.
 #[derive(Drop)]

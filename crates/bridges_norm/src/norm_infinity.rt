@@ -15,14 +15,14 @@ use crate::differences::less_function;
 use crate::duals::{across_behind, sum};
 use crate::parts::{first_function, other_functions};
 use aff_core::{Aff, VecAff};
-use bridge_face::{KeptItems, OneRow, RowRule};
+use bridge_face::{OneRow, RowRule};
 use item_core::{Body, Family};
 use ratio_core::{NumberFault, Ratios};
 use set_core::Set;
 use std::alloc::Global;
 
-/// The bridge of rows that bound each magnitude.
-pub type NormInfinity = KeptItems<OneRow<NormInfinityRule>>;
+/// The family of rows that bound each magnitude.
+pub type NormInfinity = OneRow<NormInfinityRule>;
 
 /// What `NormInfinity` does with one row.
 #[derive(Drop)]

@@ -19,8 +19,7 @@ use crate::duals::across_behind;
 use crate::parts::{first_function, first_number, other_functions, other_numbers};
 use aff_core::{Address, Aff, VecAff};
 use bridge_face::{
-    ChildRows, KeptItem, KeptItems, Rewriting, child_group, component_count, group_row_image,
-    inner_variables,
+    ChildRows, KeptItem, Rewriting, child_group, component_count, group_row_image, inner_variables,
 };
 use item_core::{Body, Edge, Expressions, Family, Image, Item};
 use lists::Duplicate;
@@ -28,8 +27,8 @@ use ratio_core::{NumberFault, Ratios};
 use set_core::Set;
 use std::alloc::Global;
 
-/// The bridge of rows that bound a sum of magnitudes.
-pub type NormOne = KeptItems<NormOneRule>;
+/// The family of rows that bound a sum of magnitudes.
+pub type NormOne = NormOneRule;
 
 /// What `NormOne` does with one row.
 #[derive(Drop)]

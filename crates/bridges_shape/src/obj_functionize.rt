@@ -5,13 +5,13 @@
 //! - In MathOptInterface: `FunctionizeBridge` of objectives.
 
 use aff_core::Aff;
-use bridge_face::{KeptItems, ObjectiveRule, OneObjective};
+use bridge_face::{ObjectiveRule, OneObjective};
 use item_core::{Body, Family};
 use lists::Memory;
 use std::alloc::Global;
 
-/// The bridge that makes affine objectives of plain ones.
-pub type ObjFunctionize = KeptItems<OneObjective<ObjFunctionizeRule>>;
+/// The family that makes affine objectives of plain ones.
+pub type ObjFunctionize = OneObjective<ObjFunctionizeRule>;
 
 /// What `ObjFunctionize` does with one objective.
 #[derive(Drop)]

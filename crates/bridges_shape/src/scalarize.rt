@@ -13,15 +13,15 @@ ghost use Rattle.item_core.specs.Item.{functions_of};
 ghost use Rattle.item_core.specs.declared.item.Body.TheVariants as bodies;
 
 use aff_core::{Address, Aff};
-use bridge_face::{ChildRows, KeptItem, KeptItems, Rewriting, component_count, rows_image};
+use bridge_face::{ChildRows, KeptItem, Rewriting, component_count, rows_image};
 use item_core::{Body, Edge, Family, Image, Item};
 use lists::{Duplicate, Memory};
 use ratio_core::{NumberFault, Ratio, Ratios};
 use set_core::Set;
 use std::alloc::Global;
 
-/// The bridge that makes a row of each component.
-pub type Scalarize = KeptItems<ScalarizeRule>;
+/// The family that makes a row of each component.
+pub type Scalarize = ScalarizeRule;
 
 /// What `Scalarize` does with one row.
 #[derive(Drop)]

@@ -6,14 +6,14 @@
 //! - In MathOptInterface: `VectorFunctionizeBridge`.
 
 use crate::functionize::functionized;
-use bridge_face::{KeptItems, OneRow, RowRule};
+use bridge_face::{OneRow, RowRule};
 use item_core::{Body, Family};
 use lists::Duplicate;
 use ratio_core::{NumberFault, Ratios};
 use std::alloc::Global;
 
-/// The bridge that makes affine rows of plain vector rows.
-pub type VectorFunctionize = KeptItems<OneRow<VectorFunctionizeRule>>;
+/// The family that makes affine rows of plain vector rows.
+pub type VectorFunctionize = OneRow<VectorFunctionizeRule>;
 
 /// What `VectorFunctionize` does with one row.
 #[derive(Drop)]

@@ -15,17 +15,15 @@ ghost use Rattle.bridge_face.specs.Images.{function_of_body};
 ghost use Rattle.bridges_slack.specs.ObjSlackLaws.{IsAffineObjective, row_of};
 
 use aff_core::Address;
-use bridge_face::{
-    ChildRows, KeptItem, KeptItems, Rewriting, inner_variables, one_item, variable_less,
-};
+use bridge_face::{ChildRows, KeptItem, Rewriting, inner_variables, one_item, variable_less};
 use item_core::{Body, Edge, Expressions, Family, Image, Item, Sense};
 use lists::Memory;
 use ratio_core::{NumberFault, Ratio, Ratios};
 use set_core::Set;
 use std::alloc::Global;
 
-/// The bridge of objectives by a slack variable.
-pub type ObjSlack = KeptItems<ObjSlackRule>;
+/// The family of objectives by a slack variable.
+pub type ObjSlack = ObjSlackRule;
 
 /// What `ObjSlack` does with one objective.
 #[derive(Drop)]

@@ -15,8 +15,7 @@ ghost use Rattle.bridges_slack.specs.ScalarSlackLaws.{IsBoundedRow};
 
 use aff_core::Address;
 use bridge_face::{
-    GroupRule, KeptItems, OneGroup, child_group, group_row_image, inner_variables, item_set,
-    less_variable,
+    GroupRule, OneGroup, child_group, group_row_image, inner_variables, item_set, less_variable,
 };
 use item_core::{Body, Edge, Expressions, Family, Image, Item};
 use lists::Memory;
@@ -24,8 +23,8 @@ use ratio_core::Ratio;
 use set_core::Set;
 use std::alloc::Global;
 
-/// The bridge by a slack variable.
-pub type ScalarSlack = KeptItems<OneGroup<ScalarSlackRule>>;
+/// The family by a slack variable.
+pub type ScalarSlack = OneGroup<ScalarSlackRule>;
 
 /// What `ScalarSlack` does with one row.
 #[derive(Drop)]

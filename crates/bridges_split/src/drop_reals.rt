@@ -7,14 +7,14 @@
 ghost use Rattle.std.specs.Prelude.{◌≡◌, IfOk, replicate};
 ghost use Rattle.ratio_core.specs.Rational.{zero_ℚ};
 
-use bridge_face::{ChildRows, KeptItem, KeptItems, Rewriting, component_count, rows_image};
+use bridge_face::{ChildRows, KeptItem, Rewriting, component_count, rows_image};
 use item_core::{Edge, Family, Image, Item};
 use lists::Memory;
 use ratio_core::{NumberFault, Ratio, Ratios};
 use std::alloc::Global;
 
-/// The bridge that drops rows in all vectors.
-pub type DropReals = KeptItems<DropRealsRule>;
+/// The family that drops rows in all vectors.
+pub type DropReals = DropRealsRule;
 
 /// What `DropReals` does with one row.
 #[derive(Drop)]

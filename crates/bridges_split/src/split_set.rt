@@ -11,15 +11,15 @@ ghost use Rattle.item_core.specs.Item as items;
 ghost use Rattle.bridge_face.specs.Images as images;
 ghost use Rattle.bridges_split.specs.SplitSetLaws.{IsSplitRow, IsSplitSet};
 
-use bridge_face::{ChildRows, KeptItem, KeptItems, Rewriting, place_sums, rows_image};
+use bridge_face::{ChildRows, KeptItem, Rewriting, place_sums, rows_image};
 use item_core::{Body, Edge, Family, Image, Item};
 use lists::{Duplicate, Memory};
 use ratio_core::{NumberFault, Ratios};
 use set_core::Set;
 use std::alloc::Global;
 
-/// The bridge that splits a set into two.
-pub type SplitSet = KeptItems<SplitSetRule>;
+/// The family that splits a set into two.
+pub type SplitSet = SplitSetRule;
 
 /// What `SplitSet` does with one row.
 #[derive(Drop)]

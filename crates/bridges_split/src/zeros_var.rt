@@ -7,14 +7,14 @@ ghost use Rattle.std.specs.Prelude.{◌≡◌, IfOk, replicate};
 ghost use Rattle.bridges_split.specs.ZerosVarLaws.{none_of};
 
 use aff_core::Aff;
-use bridge_face::{ChildRows, KeptItem, KeptItems, Rewriting, component_count};
+use bridge_face::{ChildRows, KeptItem, Rewriting, component_count};
 use item_core::{Edge, Expression, Expressions, Family, Image, Item, Items};
 use lists::Memory;
 use ratio_core::{NumberFault, Ratio, Ratios};
 use std::alloc::Global;
 
-/// The bridge of variables that are 0.
-pub type ZerosVar = KeptItems<ZerosVarRule>;
+/// The family of variables that are 0.
+pub type ZerosVar = ZerosVarRule;
 
 /// What `ZerosVar` does with one group.
 #[derive(Drop)]
