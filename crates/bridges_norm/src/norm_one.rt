@@ -28,13 +28,10 @@ use set_core::Set;
 use std::alloc::Global;
 
 /// The family of rows that bound a sum of magnitudes.
-pub type NormOne = NormOneRule;
-
-/// What `NormOne` does with one row.
 #[derive(Drop)]
-pub struct NormOneRule;
+pub struct NormOne;
 
-impl Rewriting for NormOneRule {
+impl Rewriting for NormOne {
     ghost use Rattle.item_core.specs.declared.family.Family.TheVariants as families;
     ghost use Rattle.bridges_norm.specs.NormOneLaws.{norm_one_lawful};
 

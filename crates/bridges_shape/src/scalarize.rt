@@ -21,13 +21,10 @@ use set_core::Set;
 use std::alloc::Global;
 
 /// The family that makes a row of each component.
-pub type Scalarize = ScalarizeRule;
-
-/// What `Scalarize` does with one row.
 #[derive(Drop)]
-pub struct ScalarizeRule;
+pub struct Scalarize;
 
-impl Rewriting for ScalarizeRule {
+impl Rewriting for Scalarize {
     ghost use Rattle.item_core.specs.declared.family.Family.TheVariants as families;
     ghost use Rattle.bridges_shape.specs.ScalarizeLaws.{scalarize_lawful};
 

@@ -23,13 +23,10 @@ use set_core::Set;
 use std::alloc::Global;
 
 /// The family of objectives by a slack variable.
-pub type ObjSlack = ObjSlackRule;
-
-/// What `ObjSlack` does with one objective.
 #[derive(Drop)]
-pub struct ObjSlackRule;
+pub struct ObjSlack;
 
-impl Rewriting for ObjSlackRule {
+impl Rewriting for ObjSlack {
     ghost use Rattle.item_core.specs.declared.family.Family.TheVariants as families;
     ghost use Rattle.bridges_slack.specs.ObjSlackLaws.{obj_slack_lawful};
 

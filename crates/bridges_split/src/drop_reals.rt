@@ -14,13 +14,10 @@ use ratio_core::{NumberFault, Ratio, Ratios};
 use std::alloc::Global;
 
 /// The family that drops rows in all vectors.
-pub type DropReals = DropRealsRule;
-
-/// What `DropReals` does with one row.
 #[derive(Drop)]
-pub struct DropRealsRule;
+pub struct DropReals;
 
-impl Rewriting for DropRealsRule {
+impl Rewriting for DropReals {
     ghost use Rattle.item_core.specs.declared.family.Family.TheVariants as families;
     ghost use Rattle.bridges_split.specs.DropRealsLaws.{drop_reals_lawful};
 

@@ -19,13 +19,10 @@ use set_core::Set;
 use std::alloc::Global;
 
 /// The family that splits a set into two.
-pub type SplitSet = SplitSetRule;
-
-/// What `SplitSet` does with one row.
 #[derive(Drop)]
-pub struct SplitSetRule;
+pub struct SplitSet;
 
-impl Rewriting for SplitSetRule {
+impl Rewriting for SplitSet {
     ghost use Rattle.item_core.specs.declared.family.Family.TheVariants as families;
     ghost use Rattle.bridges_split.specs.SplitSetLaws.{split_set_lawful};
 

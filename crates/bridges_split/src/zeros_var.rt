@@ -14,13 +14,10 @@ use ratio_core::{NumberFault, Ratio, Ratios};
 use std::alloc::Global;
 
 /// The family of variables that are 0.
-pub type ZerosVar = ZerosVarRule;
-
-/// What `ZerosVar` does with one group.
 #[derive(Drop)]
-pub struct ZerosVarRule;
+pub struct ZerosVar;
 
-impl Rewriting for ZerosVarRule {
+impl Rewriting for ZerosVar {
     ghost use Rattle.item_core.specs.declared.family.Family.TheVariants as families;
     ghost use Rattle.bridges_split.specs.ZerosVarLaws.{zeros_var_lawful};
 
