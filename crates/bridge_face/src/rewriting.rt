@@ -7,7 +7,7 @@ ghost use Rattle.bridge_face.specs.Law.{IsItemFor, IsLawful};
 ghost use Rattle.bridge_face.specs.BridgeState.{IsCarriedBack, TakesDuals, child_rows_of};
 
 use crate::{ChildRows, KeptItem};
-use item_core::{Edge, Family, Image, Item};
+use item_core::{Edge, Image, Item};
 use ratio_core::{NumberFault, Ratios};
 use std::alloc::Global;
 
@@ -17,9 +17,6 @@ pub trait Rewriting: Drop {
     ghost use Rattle.item_core.specs.declared.family.Family.{Family};
 
     ghost family: { Family };
-
-    fn family() -> Family
-        ensures { result ≡ family };
 
     /// The item's image by an edge of the family.
     fn image(alloc: Global, edge: Edge, item: &Item) -> Result<Image, NumberFault>

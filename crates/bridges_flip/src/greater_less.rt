@@ -8,7 +8,7 @@
 use crate::flips::{mirror, negations};
 use aff_core::Aff;
 use bridge_face::{OneRow, RowRule};
-use item_core::{Body, Family};
+use item_core::Body;
 use ratio_core::{NumberFault, Ratios};
 use std::alloc::Global;
 
@@ -31,10 +31,6 @@ impl RowRule for GreaterLessRule {
     ghost made = { laws.made };
 
     ghost carried = { flips.negated_dual };
-
-    fn family() -> Family {
-        Family::GreaterLess
-    }
 
     fn child(alloc: Global, row: &Body) -> Result<Body, NumberFault> {
         match row {

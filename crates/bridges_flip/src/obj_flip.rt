@@ -7,7 +7,7 @@ ghost use Rattle.std.specs.Prelude.{◌≡◌};
 ghost use Rattle.bridge_face.specs.ImageOf.{opposite as other};
 
 use bridge_face::{ObjectiveRule, OneObjective};
-use item_core::{Body, Family, Sense};
+use item_core::{Body, Sense};
 use lists::Memory;
 use std::alloc::Global;
 
@@ -28,10 +28,6 @@ impl ObjectiveRule for ObjFlipRule {
     ghost source = { objectives.IsAffineObjective };
 
     ghost made = { laws.made };
-
-    fn family() -> Family {
-        Family::ObjFlip
-    }
 
     fn child(_alloc: Global, objective: &Body) -> Result<Body, Memory> {
         match objective {

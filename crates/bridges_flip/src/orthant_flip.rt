@@ -7,7 +7,7 @@
 
 use crate::flips::{mirror, negated_functions, negations};
 use bridge_face::{OneRow, RowRule};
-use item_core::{Body, Family};
+use item_core::Body;
 use ratio_core::{NumberFault, Ratios};
 use std::alloc::Global;
 
@@ -30,10 +30,6 @@ impl RowRule for OrthantFlipRule {
     ghost made = { laws.made };
 
     ghost carried = { flips.negated_dual };
-
-    fn family() -> Family {
-        Family::OrthantFlip
-    }
 
     fn child(alloc: Global, row: &Body) -> Result<Body, NumberFault> {
         match row {

@@ -21,7 +21,7 @@ use aff_core::{Address, Aff, VecAff};
 use bridge_face::{
     ChildRows, KeptItem, Rewriting, child_group, component_count, group_row_image, inner_variables,
 };
-use item_core::{Body, Edge, Expressions, Family, Image, Item};
+use item_core::{Body, Edge, Expressions, Image, Item};
 use lists::Duplicate;
 use ratio_core::{NumberFault, Ratios};
 use set_core::Set;
@@ -36,10 +36,6 @@ impl Rewriting for NormOne {
     ghost use Rattle.bridges_norm.specs.NormOneLaws.{norm_one_lawful};
 
     ghost family = { families.NormOne };
-
-    fn family() -> Family {
-        Family::NormOne
-    }
 
     fn image(alloc: Global, _edge: Edge, item: &Item) -> Result<Image, NumberFault> {
         let count = component_count(&item.body) - 1;

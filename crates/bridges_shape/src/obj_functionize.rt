@@ -6,7 +6,7 @@
 
 use aff_core::Aff;
 use bridge_face::{ObjectiveRule, OneObjective};
-use item_core::{Body, Family};
+use item_core::Body;
 use lists::Memory;
 use std::alloc::Global;
 
@@ -26,10 +26,6 @@ impl ObjectiveRule for ObjFunctionizeRule {
     ghost source = { laws.IsPlainObjective };
 
     ghost made = { laws.made };
-
-    fn family() -> Family {
-        Family::ObjFunctionize
-    }
 
     fn child(alloc: Global, objective: &Body) -> Result<Body, Memory> {
         match objective {

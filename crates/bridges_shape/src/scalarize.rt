@@ -14,7 +14,7 @@ ghost use Rattle.item_core.specs.declared.item.Body.TheVariants as bodies;
 
 use aff_core::{Address, Aff};
 use bridge_face::{ChildRows, KeptItem, Rewriting, component_count, rows_image};
-use item_core::{Body, Edge, Family, Image, Item};
+use item_core::{Body, Edge, Image, Item};
 use lists::{Duplicate, Memory};
 use ratio_core::{NumberFault, Ratio, Ratios};
 use set_core::Set;
@@ -29,10 +29,6 @@ impl Rewriting for Scalarize {
     ghost use Rattle.bridges_shape.specs.ScalarizeLaws.{scalarize_lawful};
 
     ghost family = { families.Scalarize };
-
-    fn family() -> Family {
-        Family::Scalarize
-    }
 
     fn image(alloc: Global, _edge: Edge, item: &Item) -> Result<Image, NumberFault> {
         let rows = parts(alloc, item)?;

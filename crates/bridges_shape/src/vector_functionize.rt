@@ -7,7 +7,7 @@
 
 use crate::functionize::functionized;
 use bridge_face::{OneRow, RowRule};
-use item_core::{Body, Family};
+use item_core::Body;
 use lists::Duplicate;
 use ratio_core::{NumberFault, Ratios};
 use std::alloc::Global;
@@ -32,10 +32,6 @@ impl RowRule for VectorFunctionizeRule {
     ghost made = { functionize.made };
 
     ghost carried = { rows.same_dual };
-
-    fn family() -> Family {
-        Family::VectorFunctionize
-    }
 
     fn child(alloc: Global, row: &Body) -> Result<Body, NumberFault> {
         Ok(functionized(alloc, row)?)

@@ -16,7 +16,7 @@ ghost use Rattle.ratio_core.specs.Rational.{SumFits, neg_ℚ};
 use crate::numbers::{cone, number};
 use aff_core::Aff;
 use bridge_face::{OneRow, RowRule, alone};
-use item_core::{Body, Family};
+use item_core::Body;
 use lists::Duplicate;
 use ratio_core::{NumberFault, Ratios};
 use set_core::Set;
@@ -43,10 +43,6 @@ impl RowRule for VectorizeRule {
     ghost fits = { laws.FitsLowered };
 
     ghost carried = { rows.same_dual };
-
-    fn family() -> Family {
-        Family::Vectorize
-    }
 
     fn child(alloc: Global, row: &Body) -> Result<Body, NumberFault> {
         match row {

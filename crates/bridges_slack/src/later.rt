@@ -18,7 +18,7 @@ use aff_core::{Address, Addresses, Aff};
 use bridge_face::{
     GroupRule, OneGroup, component_count, group_row_image, inner_variables, item_set, variables,
 };
-use item_core::{Body, Children, Edge, Expression, Expressions, Family, Image, Item, Kind};
+use item_core::{Body, Children, Edge, Expression, Expressions, Image, Item, Kind};
 use lists::Memory;
 use set_core::Set;
 use std::alloc::Global;
@@ -41,10 +41,6 @@ impl GroupRule for LaterRule {
     ghost made = { images.later };
 
     ghost row_count = { 1 };
-
-    fn family() -> Family {
-        Family::Later
-    }
 
     fn rows() -> u16 {
         1

@@ -16,7 +16,7 @@ ghost use Rattle.bridges_slack.specs.ObjSlackLaws.{IsAffineObjective, row_of};
 
 use aff_core::Address;
 use bridge_face::{ChildRows, KeptItem, Rewriting, inner_variables, one_item, variable_less};
-use item_core::{Body, Edge, Expressions, Family, Image, Item, Sense};
+use item_core::{Body, Edge, Expressions, Image, Item, Sense};
 use lists::Memory;
 use ratio_core::{NumberFault, Ratio, Ratios};
 use set_core::Set;
@@ -31,10 +31,6 @@ impl Rewriting for ObjSlack {
     ghost use Rattle.bridges_slack.specs.ObjSlackLaws.{obj_slack_lawful};
 
     ghost family = { families.ObjSlack };
-
-    fn family() -> Family {
-        Family::ObjSlack
-    }
 
     fn image(alloc: Global, _edge: Edge, item: &Item) -> Result<Image, NumberFault> {
         let at = item.at.child(0);

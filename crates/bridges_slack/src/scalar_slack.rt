@@ -17,7 +17,7 @@ use aff_core::Address;
 use bridge_face::{
     GroupRule, OneGroup, child_group, group_row_image, inner_variables, item_set, less_variable,
 };
-use item_core::{Body, Edge, Expressions, Family, Image, Item};
+use item_core::{Body, Edge, Expressions, Image, Item};
 use lists::Memory;
 use ratio_core::Ratio;
 use set_core::Set;
@@ -42,10 +42,6 @@ impl GroupRule for ScalarSlackRule {
     ghost made = { λ edge. images.scalar_slack };
 
     ghost row_count = { 1 };
-
-    fn family() -> Family {
-        Family::ScalarSlack
-    }
 
     fn rows() -> u16 {
         1

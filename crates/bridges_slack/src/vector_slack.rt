@@ -20,7 +20,7 @@ use bridge_face::{
     GroupRule, OneGroup, child_group, component_count, group_row_image, inner_variables, item_set,
     less_variables,
 };
-use item_core::{Body, Edge, Expressions, Family, Image, Item};
+use item_core::{Body, Edge, Expressions, Image, Item};
 use lists::Memory;
 use set_core::Set;
 use std::alloc::Global;
@@ -44,10 +44,6 @@ impl GroupRule for VectorSlackRule {
     ghost made = { λ edge. images.vector_slack };
 
     ghost row_count = { 1 };
-
-    fn family() -> Family {
-        Family::VectorSlack
-    }
 
     fn rows() -> u16 {
         1

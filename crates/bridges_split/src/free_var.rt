@@ -12,7 +12,7 @@ use aff_core::{Address, Aff};
 use bridge_face::{
     GroupRule, OneGroup, child_group, component_count, group_image, inner_variables, less_variable,
 };
-use item_core::{Edge, Expression, Expressions, Family, Image, Item};
+use item_core::{Edge, Expression, Expressions, Image, Item};
 use lists::Memory;
 use set_core::Set;
 use std::alloc::Global;
@@ -36,10 +36,6 @@ impl GroupRule for FreeVarRule {
     ghost made = { λ edge. images.free_var };
 
     ghost row_count = { 0 };
-
-    fn family() -> Family {
-        Family::FreeVar
-    }
 
     fn rows() -> u16 {
         0

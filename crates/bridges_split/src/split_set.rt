@@ -12,7 +12,7 @@ ghost use Rattle.bridge_face.specs.Images as images;
 ghost use Rattle.bridges_split.specs.SplitSetLaws.{IsSplitRow, IsSplitSet};
 
 use bridge_face::{ChildRows, KeptItem, Rewriting, place_sums, rows_image};
-use item_core::{Body, Edge, Family, Image, Item};
+use item_core::{Body, Edge, Image, Item};
 use lists::{Duplicate, Memory};
 use ratio_core::{NumberFault, Ratios};
 use set_core::Set;
@@ -27,10 +27,6 @@ impl Rewriting for SplitSet {
     ghost use Rattle.bridges_split.specs.SplitSetLaws.{split_set_lawful};
 
     ghost family = { families.SplitSet };
-
-    fn family() -> Family {
-        Family::SplitSet
-    }
 
     fn image(alloc: Global, _edge: Edge, item: &Item) -> Result<Image, NumberFault> {
         let set = set_of(&item.body);

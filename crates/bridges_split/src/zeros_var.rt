@@ -8,7 +8,7 @@ ghost use Rattle.bridges_split.specs.ZerosVarLaws.{none_of};
 
 use aff_core::Aff;
 use bridge_face::{ChildRows, KeptItem, Rewriting, component_count};
-use item_core::{Edge, Expression, Expressions, Family, Image, Item, Items};
+use item_core::{Edge, Expression, Expressions, Image, Item, Items};
 use lists::Memory;
 use ratio_core::{NumberFault, Ratio, Ratios};
 use std::alloc::Global;
@@ -22,10 +22,6 @@ impl Rewriting for ZerosVar {
     ghost use Rattle.bridges_split.specs.ZerosVarLaws.{zeros_var_lawful};
 
     ghost family = { families.ZerosVar };
-
-    fn family() -> Family {
-        Family::ZerosVar
-    }
 
     fn image(alloc: Global, _edge: Edge, item: &Item) -> Result<Image, NumberFault> {
         let count = component_count(&item.body);
