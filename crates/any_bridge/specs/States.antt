@@ -7,6 +7,6 @@ use Rattle.item_core.specs.declared.family.Family.{Family}
 abbrev pub fresh : Family → BridgeState
 fresh family = record { family = family; kept = finite.empty; turns = 0 }
 
--- a bridge is seen as its state
+-- a bridge's value is its state: what `state` of the trait is for `AnyBridge`
 abbrev pub state_of_any : BridgeState → BridgeState
 state_of_any state = state

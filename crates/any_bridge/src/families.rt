@@ -1,4 +1,4 @@
-//! What each family of bridges does with one item, by the family of an edge.
+//! What the family of an edge does with one item.
 ghost use Rattle.std.specs.Prelude.{◌≡◌};
 ghost use Rattle.ratio_core.specs.Answers.{ExactWhere};
 ghost use Rattle.item_core.specs.Edge.{family_of};
@@ -21,7 +21,7 @@ use std::alloc::Global;
 // A call of the function `$name` of the family `$family`.
 macro_rules! by_family {
     ($family:expr, $name:ident($($argument:expr),*)) => {
-        with_families!([
+        match_families!([
             GreaterLess OrthantFlip NonposVar ObjFlip Vectorize Scalarize ScalarFunctionize
             VectorFunctionize VectorizeVar ObjFunctionize SplitSet DropReals ZerosVar FreeVar
             ScalarSlack VectorSlack Later ObjSlack NormInfinity NormOne
@@ -29,7 +29,8 @@ macro_rules! by_family {
     };
 }
 
-macro_rules! with_families {
+// The `match` with an arm for each of these families.
+macro_rules! match_families {
     ([$($each:ident)*] $family:expr, $name:ident, $arguments:tt) => {
         match $family {
             $(Family::$each => $each::$name $arguments,)*
@@ -44,7 +45,7 @@ fn family(edge: Edge) -> Family
     edge.entry().family
 }
 
-/// The image of an item by an edge.
+// The image of an item by an edge.
 pub(crate) fn image(alloc: Global, edge: Edge, item: &Item) -> Result<Image, NumberFault>
     requires { IsItemFor edge item.now }
     ensures { ExactWhere result (ImageFits edge item.now)
@@ -53,7 +54,7 @@ pub(crate) fn image(alloc: Global, edge: Edge, item: &Item) -> Result<Image, Num
     by_family!(family(edge), image(alloc, edge, item))
 }
 
-/// Where the child rows of an item stand.
+// Where the child rows of an item stand.
 pub(crate) fn child_rows(kept: &KeptItem) -> ChildRows
     requires { IsItemFor kept.now.edge kept.now.item }
     ensures { result ≡ child_rows_of kept.now.edge kept.now.item }
@@ -61,7 +62,7 @@ pub(crate) fn child_rows(kept: &KeptItem) -> ChildRows
     by_family!(family(kept.edge), child_rows(kept))
 }
 
-/// The dual of a row, by those of its child rows.
+// The dual of a row, by those of its child rows.
 pub(crate) fn back(alloc: Global, kept: &KeptItem, duals: &[Ratios]) -> Result<Ratios, NumberFault>
     requires suits { IsItemFor kept.now.edge kept.now.item }
     requires duals { TakesDuals kept.now duals.now }

@@ -12,7 +12,7 @@ use item_core::Body;
 use ratio_core::{NumberFault, Ratios};
 use std::alloc::Global;
 
-/// The family that turns a bound round.
+/// The family that turns upper bounds into lower ones, and back.
 pub type GreaterLess = OneRow<GreaterLessRule>;
 
 /// What `GreaterLess` does with one row.

@@ -11,7 +11,7 @@ use item_core::{Body, Sense};
 use lists::Memory;
 use std::alloc::Global;
 
-/// The family that turns an objective round.
+/// The family that turns `min` into `max`, and back.
 pub type ObjFlip = OneObjective<ObjFlipRule>;
 
 /// What `ObjFlip` does with one objective.

@@ -11,7 +11,7 @@ use item_core::Body;
 use ratio_core::{NumberFault, Ratios};
 use std::alloc::Global;
 
-/// The family that turns an orthant round.
+/// The family that turns `Nonnegatives` into `Nonpositives`, and back.
 pub type OrthantFlip = OneRow<OrthantFlipRule>;
 
 /// What `OrthantFlip` does with one row.

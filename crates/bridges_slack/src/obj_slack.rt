@@ -22,7 +22,7 @@ use ratio_core::{NumberFault, Ratio, Ratios};
 use set_core::Set;
 use std::alloc::Global;
 
-/// The family of objectives by a slack variable.
+/// The family that gives an objective a slack variable.
 #[derive(Drop)]
 pub struct ObjSlack;
 

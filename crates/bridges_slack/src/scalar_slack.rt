@@ -23,7 +23,7 @@ use ratio_core::Ratio;
 use set_core::Set;
 use std::alloc::Global;
 
-/// The family by a slack variable.
+/// The family that gives a row of numbers a slack variable.
 pub type ScalarSlack = OneGroup<ScalarSlackRule>;
 
 /// What `ScalarSlack` does with one row.

@@ -25,7 +25,7 @@ use lists::Memory;
 use set_core::Set;
 use std::alloc::Global;
 
-/// The family by slack variables.
+/// The family that gives a row of vectors slack variables.
 pub type VectorSlack = OneGroup<VectorSlackRule>;
 
 /// What `VectorSlack` does with one row.

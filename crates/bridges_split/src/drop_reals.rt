@@ -13,7 +13,7 @@ use lists::Memory;
 use ratio_core::{NumberFault, Ratio, Ratios};
 use std::alloc::Global;
 
-/// The family that drops rows in all vectors.
+/// The family that drops rows in `Reals`.
 #[derive(Drop)]
 pub struct DropReals;
 
