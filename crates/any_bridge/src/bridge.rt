@@ -1,82 +1,39 @@
-//! A bridge of any family: each call goes to the family's own bridge.
+//! A bridge of any family.
 ghost use Rattle.std.specs.Prelude.{◌≡◌};
+ghost use Rattle.bridge_face.specs.BridgeState.{one_more};
 ghost use Rattle.any_bridge.specs.States.{fresh, state_of_any};
 
+use crate::families;
+use crate::kept_map::KeptMap;
 use aff_core::Address;
 use bridge_face::{Bridge, ChildRows};
-use bridges_flip::{GreaterLess, NonposVar, ObjFlip, OrthantFlip};
-use bridges_norm::{NormInfinity, NormOne};
-use bridges_shape::{
-    ObjFunctionize, ScalarFunctionize, Scalarize, VectorFunctionize, Vectorize, VectorizeVar,
-};
-use bridges_slack::{Later, ObjSlack, ScalarSlack, VectorSlack};
-use bridges_split::{DropReals, FreeVar, SplitSet, ZerosVar};
 use item_core::{Edge, Family, Image, Item};
 use lists::Memory;
 use ratio_core::{NumberFault, Ratios};
 use std::alloc::Global;
+use std::marker::Model;
 
-/// A bridge of one of the families.
+/// A bridge: its family, the items that it keeps, and its turns.
+///
+/// The family is a value and no type parameter, so that one list has bridges of all families, and
+/// what keeps and frees their items is written and proved once.
 #[derive(Drop)]
-pub enum AnyBridge {
-    GreaterLess(GreaterLess),
-    OrthantFlip(OrthantFlip),
-    NonposVar(NonposVar),
-    ObjFlip(ObjFlip),
-    Vectorize(Vectorize),
-    Scalarize(Scalarize),
-    ScalarFunctionize(ScalarFunctionize),
-    VectorFunctionize(VectorFunctionize),
-    VectorizeVar(VectorizeVar),
-    ObjFunctionize(ObjFunctionize),
-    SplitSet(SplitSet),
-    DropReals(DropReals),
-    ZerosVar(ZerosVar),
-    FreeVar(FreeVar),
-    ScalarSlack(ScalarSlack),
-    VectorSlack(VectorSlack),
-    Later(Later),
-    ObjSlack(ObjSlack),
-    NormInfinity(NormInfinity),
-    NormOne(NormOne),
+pub struct AnyBridge {
+    alloc: Global,
+    family: Family,
+    kept: KeptMap,
+    turns: u64,
 }
 
-// The families, each the name of a variant and of the type that it holds, before what a macro takes.
-macro_rules! with_families {
-    ($then:ident, $($taken:tt)*) => {
-        $then! {
-            [
-                GreaterLess OrthantFlip NonposVar ObjFlip Vectorize Scalarize ScalarFunctionize
-                VectorFunctionize VectorizeVar ObjFunctionize SplitSet DropReals ZerosVar FreeVar
-                ScalarSlack VectorSlack Later ObjSlack NormInfinity NormOne
-            ]
-            $($taken)*
-        }
-    };
-}
+impl Model for AnyBridge {
+    ghost use Rattle.bridge_face.specs.BridgeState.{BridgeState};
+    ghost use Rattle.bridge_set.specs.Bridges.{state_code};
 
-// A new bridge of the family `$wanted`.
-macro_rules! make {
-    ([$($family:ident)*] $wanted:expr, $alloc:expr) => {
-        match $wanted {
-            $(Family::$family => AnyBridge::$family($family::new($alloc)),)*
-        }
-    };
-}
+    ghost Value = { BridgeState };
 
-// A call of the bridge that `$any` holds, as `$bridge`.
-macro_rules! call {
-    ($any:expr, $bridge:ident => $call:expr) => {
-        with_families!(call_held, $any, $bridge, $call)
-    };
-}
+    ghost coded = { state_code };
 
-macro_rules! call_held {
-    ([$($family:ident)*] $any:expr, $bridge:ident, $call:expr) => {
-        match $any {
-            $(AnyBridge::$family($bridge) => $call,)*
-        }
-    };
+    ghost view = { λ a. record { family = a.family; kept = a.kept; turns = a.turns } };
 }
 
 impl AnyBridge {
@@ -84,50 +41,74 @@ impl AnyBridge {
     pub fn new(alloc: Global, family: Family) -> AnyBridge
         ensures { state_of_any result ≡ fresh family }
     {
-        with_families!(make, family, alloc)
+        AnyBridge {
+            alloc,
+            family,
+            kept: KeptMap::new(alloc),
+            turns: 0,
+        }
     }
+}
+
+// One turn more.
+fn turned(turns: u64) -> u64
+    ensures { result ≡ one_more turns }
+{
+    turns.saturating_add(1)
 }
 
 impl Bridge for AnyBridge {
     ghost state = { state_of_any };
 
     fn family(&self) -> Family {
-        call!(self, bridge => bridge.family())
+        self.family
     }
 
     fn turns(&self) -> u64 {
-        call!(self, bridge => bridge.turns())
+        self.turns
     }
 
     fn image(&mut self, edge: Edge, item: &Item) -> Result<Image, NumberFault> {
-        call!(self, bridge => bridge.image(edge, item))
+        self.turns = turned(self.turns);
+        families::image(self.alloc, edge, item)
     }
 
     fn keep(&mut self, edge: Edge, item: Item) -> Result<(), (Item, Memory)> {
-        call!(self, bridge => bridge.keep(edge, item))
+        self.turns = turned(self.turns);
+        self.kept.put(edge, item)
     }
 
     fn alter(&mut self, item: Item) -> Item {
-        call!(self, bridge => bridge.alter(item))
+        self.turns = turned(self.turns);
+        self.kept.replace(item)
     }
 
     fn let_go(&mut self, at: &Address) -> Option<Item> {
-        call!(self, bridge => bridge.let_go(at))
+        self.turns = turned(self.turns);
+        let kept = self.kept.take(at)?;
+        Some(kept.item)
     }
 
     fn let_all_go(&mut self) {
-        call!(self, bridge => bridge.let_all_go())
+        self.turns = turned(self.turns);
+        self.kept = KeptMap::new(self.alloc);
     }
 
     fn first_of(&self, at: &Address) -> Option<Address> {
-        call!(self, bridge => bridge.first_of(at))
+        self.kept.first_of(at)
     }
 
     fn child_rows(&self, at: &Address) -> Option<ChildRows> {
-        call!(self, bridge => bridge.child_rows(at))
+        let Some(kept) = self.kept.get(at) else {
+            return None;
+        };
+        Some(families::child_rows(kept))
     }
 
     fn back(&self, at: &Address, duals: &[Ratios]) -> Result<Ratios, NumberFault> {
-        call!(self, bridge => bridge.back(at, duals))
+        let Some(kept) = self.kept.get(at) else {
+            unreachable!()
+        };
+        families::back(self.alloc, kept, duals)
     }
 }

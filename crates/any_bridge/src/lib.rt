@@ -2,7 +2,10 @@
 #![tactic(auto)]
 
 mod bridge;
+mod families;
+mod kept_map;
 mod making;
+mod suited_item;
 
 pub use bridge::AnyBridge;
 pub use making::{all_bridges, bridges_of};

@@ -1,12 +1,11 @@
 -- What is seen of a bridge: its family, what it keeps, and how often it was called to work.
-use Rattle.std.specs.Prelude.{◌≡◌, ℕ, ◌+◌, ◌-◌, ◌^◌, min, false, List, Option, Some, Result, length, map, refl}
-use Rattle.std.specs.Coded.{Coded, code_by, coded×, coded_ℕ}
+use Rattle.std.specs.Prelude.{◌≡◌, ℕ, ◌+◌, ◌-◌, ◌^◌, min, false, List, Option, Result, length, map}
+use Rattle.std.specs.Coded.{Coded}
 use Rattle.std.specs.FinMap as finite
 use Rattle.std.specs.FinMap.{FinMap}
 use Rattle.aff_core.specs.Address.{Address, address_cmp, address_code}
 use Rattle.item_core.specs.declared.family.Family.{Family}
 use Rattle.item_core.specs.declared.item.Item.{Item}
-use Rattle.item_core.specs.Edge.{family_of}
 use Rattle.bridge_face.specs.declared.kept_item.KeptItem.{KeptItem}
 use Rattle.bridge_face.specs.contracts.kept_item.KeptItem as contracts
 use Rattle.ratio_core.specs.Rational.{Rational}
@@ -17,7 +16,7 @@ use Rattle.item_core.specs.Item.{functions_of, is_group}
 use Rattle.bridge_face.specs.declared.child_rows.ChildRows.{ChildRows}
 use Rattle.bridge_face.specs.BackOf.{BackFits, back_of}
 use Rattle.bridge_face.specs.ImageOf.{image_of}
-use Rattle.bridge_face.specs.Law.{IsItemFor, is_objective}
+use Rattle.bridge_face.specs.Law.{is_objective}
 
 -- items with their edges, by address
 abbrev pub KeptByAddress : Type 0
@@ -31,35 +30,12 @@ pub record BridgeState : Type 0 where
   pub kept : KeptByAddress
   pub turns : ℕ
 
--- the same but for the family
-pub record Keeping : Type 0 where
-  pub kept : KeptByAddress
-  pub turns : ℕ
-
-abbrev pub keeping_code : Coded Keeping
-keeping_code =
-    code_by (KeptByAddress × ℕ) (coded× kept_code coded_ℕ)
-    (λ s. (s.kept, s.turns)) (λ p. record { kept = p.0; turns = p.1 }) (λ _. refl)
-
-abbrev pub state_of : Family → Keeping → BridgeState
-state_of family s = record { family = family; kept = s.kept; turns = s.turns }
-
 -- one turn more, or the last number of turns
 abbrev pub one_more : ℕ → ℕ
 one_more n = min (n + 1) (2 ^ 64 - 1)
 
 abbrev pub kept_item : Item → KeptItem → KeptItem
 kept_item item kept = record kept { item = item }
-
--- what is kept at an address is an item of that address for an edge of the family
-pub record IsKeptAt (family : Family) (at : Address) (kept : KeptItem) : Type 0 where
-  pub own : family_of kept.edge ≡ family
-  pub here : kept.item.at ≡ at
-  pub suits : IsItemFor kept.edge kept.item
-
-abbrev pub AllKept : Family → KeptByAddress → Type 0
-AllKept family kept =
-    (at : Address) (item : KeptItem) → finite.get kept at ≡ Some item → IsKeptAt family at item
 
 -- ---- what a bridge's calls leave and answer
 

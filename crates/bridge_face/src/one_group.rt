@@ -3,7 +3,7 @@ ghost use Rattle.std.specs.Prelude.{◌≡◌, IfOk};
 ghost use Rattle.item_core.specs.Valid.{IsValidItem};
 
 use crate::{ChildRows, KeptItem, Rewriting};
-use item_core::{Edge, Family, Image, Item};
+use item_core::{Edge, Image, Item};
 use lists::{Duplicate, Memory};
 use ratio_core::{NumberFault, Ratios};
 use std::alloc::Global;
@@ -30,9 +30,6 @@ pub trait GroupRule: Drop {
 
     ghost row_count: { ℕ };
 
-    fn family() -> Family
-        ensures { result ≡ family };
-
     /// The number of child rows, which is 0 or 1.
     fn rows() -> u16
         ensures { result ≡ row_count };
@@ -57,10 +54,6 @@ impl<R: GroupRule> Rewriting for OneGroup<R> {
     ghost use Rattle.bridge_face.specs.GroupLaws.{group_lawful};
 
     ghost family = { R.family };
-
-    fn family() -> Family {
-        R::family()
-    }
 
     fn image(alloc: Global, edge: Edge, item: &Item) -> Result<Image, NumberFault> {
         Ok(R::image(alloc, edge, item)?)

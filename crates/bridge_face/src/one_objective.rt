@@ -3,7 +3,7 @@ ghost use Rattle.std.specs.Prelude.{◌≡◌, ◌<◌, IfOk, length};
 ghost use Rattle.bridge_face.specs.ImageOf.{objective_at};
 
 use crate::{ChildRows, KeptItem, Rewriting};
-use item_core::{Body, Edge, Expressions, Family, Image, Item, Items};
+use item_core::{Body, Edge, Expressions, Image, Item, Items};
 use lists::Memory;
 use ratio_core::{NumberFault, Ratios};
 use std::alloc::Global;
@@ -24,9 +24,6 @@ pub trait ObjectiveRule: Drop {
     // what they make of one
     ghost made: { Body → Body };
 
-    fn family() -> Family
-        ensures { result ≡ family };
-
     /// The objective that is made of an objective.
     fn child(alloc: Global, objective: &Body) -> Result<Body, Memory>
         requires { source objective.now }
@@ -45,10 +42,6 @@ impl<R: ObjectiveRule> Rewriting for OneObjective<R> {
     ghost use Rattle.bridge_face.specs.ObjectiveLaws.{objective_lawful};
 
     ghost family = { R.family };
-
-    fn family() -> Family {
-        R::family()
-    }
 
     fn image(alloc: Global, _edge: Edge, item: &Item) -> Result<Image, NumberFault> {
         let body = R::child(alloc, &item.body)?;

@@ -6,7 +6,7 @@ ghost use Rattle.bridge_face.specs.Images.{row_at};
 
 use crate::images::one_item;
 use crate::{ChildRows, KeptItem, Rewriting};
-use item_core::{Body, Edge, Expressions, Family, Image, Item, Items};
+use item_core::{Body, Edge, Expressions, Image, Item, Items};
 use lists::Memory;
 use ratio_core::{NumberFault, Ratios};
 use std::alloc::Global;
@@ -35,9 +35,6 @@ pub trait RowRule: Drop {
     ghost carried: { Body → List Rational → List Rational };
 
     ghost carried_fits: { Body → List Rational → Type 0 } = { λ row dual. Unit {0} };
-
-    fn family() -> Family
-        ensures { result ≡ family };
 
     /// The row that is made of a row. `Overflow` exactly where a sum in it exceeds 128 bits.
     fn child(alloc: Global, row: &Body) -> Result<Body, NumberFault>
@@ -68,10 +65,6 @@ impl<R: RowRule> Rewriting for OneRow<R> {
     ghost use Rattle.bridge_face.specs.OneRowLaws.{row_lawful};
 
     ghost family = { R.family };
-
-    fn family() -> Family {
-        R::family()
-    }
 
     fn image(alloc: Global, _edge: Edge, item: &Item) -> Result<Image, NumberFault> {
         let body = R::child(alloc, &item.body)?;

@@ -7,19 +7,16 @@ ghost use Rattle.bridge_face.specs.Law.{IsItemFor, IsLawful};
 ghost use Rattle.bridge_face.specs.BridgeState.{IsCarriedBack, TakesDuals, child_rows_of};
 
 use crate::{ChildRows, KeptItem};
-use item_core::{Edge, Family, Image, Item};
+use item_core::{Edge, Image, Item};
 use ratio_core::{NumberFault, Ratios};
 use std::alloc::Global;
 
 /// What a family of bridges does with one item: its image, the dual that is carried back, and the
-/// proof of its law. What it keeps, and what is asked of all bridges, is `KeptItems`.
+/// proof of its law. A bridge keeps the items, and calls the family of each.
 pub trait Rewriting: Drop {
     ghost use Rattle.item_core.specs.declared.family.Family.{Family};
 
     ghost family: { Family };
-
-    fn family() -> Family
-        ensures { result ≡ family };
 
     /// The item's image by an edge of the family.
     fn image(alloc: Global, edge: Edge, item: &Item) -> Result<Image, NumberFault>

@@ -8,10 +8,9 @@ use crate::round::{keep, show_end};
 use crate::samples::{place, ratio};
 use crate::shown::show_image;
 use aff_core::{Aff, VecAff};
+use any_bridge::AnyBridge;
 use bridge_face::Bridge;
-use bridges_norm::NormInfinity;
-use bridges_split::DropReals;
-use item_core::{Body, Edge, Image, Item};
+use item_core::{Body, Edge, Family, Image, Item};
 use lists::Memory;
 use ratio_core::{NumberFault, Ratio};
 use set_core::Set;
@@ -21,7 +20,7 @@ use test_support::Page;
 /// Prints what is carried back to a row of two numbers in `Reals`, and that nothing is kept after
 /// all is removed.
 pub fn reals(page: &mut Page) {
-    let mut bridge = DropReals::new(page.alloc());
+    let mut bridge = AnyBridge::new(page.alloc(), Family::DropReals);
     if let Err(fault) = keep_reals(page, &mut bridge) {
         show_fault(page, fault);
     }
@@ -67,7 +66,7 @@ fn show_fault(page: &mut Page, fault: NumberFault) {
 fn norm_image(alloc: Global, first: Ratio, other: Ratio) -> Result<Image, NumberFault> {
     let set = Set::NormInfinityCone { dimension: 2 };
     let item = constants(alloc, first, other, set)?;
-    let mut bridge = NormInfinity::new(alloc);
+    let mut bridge = AnyBridge::new(alloc, Family::NormInfinity);
     let image = bridge.image(Edge::E41, &item);
     drop(bridge);
     drop(item);

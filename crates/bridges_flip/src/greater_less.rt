@@ -7,13 +7,13 @@
 
 use crate::flips::{mirror, negations};
 use aff_core::Aff;
-use bridge_face::{KeptItems, OneRow, RowRule};
-use item_core::{Body, Family};
+use bridge_face::{OneRow, RowRule};
+use item_core::Body;
 use ratio_core::{NumberFault, Ratios};
 use std::alloc::Global;
 
-/// The bridge that turns a bound round.
-pub type GreaterLess = KeptItems<OneRow<GreaterLessRule>>;
+/// The family that turns upper bounds into lower ones, and back.
+pub type GreaterLess = OneRow<GreaterLessRule>;
 
 /// What `GreaterLess` does with one row.
 #[derive(Drop)]
@@ -31,10 +31,6 @@ impl RowRule for GreaterLessRule {
     ghost made = { laws.made };
 
     ghost carried = { flips.negated_dual };
-
-    fn family() -> Family {
-        Family::GreaterLess
-    }
 
     fn child(alloc: Global, row: &Body) -> Result<Body, NumberFault> {
         match row {

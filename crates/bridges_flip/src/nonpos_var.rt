@@ -8,15 +8,15 @@ ghost use Rattle.bridges_flip.specs.NonposVarLaws.{negative};
 
 use aff_core::{Address, Aff};
 use bridge_face::{
-    GroupRule, KeptItems, OneGroup, child_group, component_count, group_image, inner_variables,
+    GroupRule, OneGroup, child_group, component_count, group_image, inner_variables,
 };
-use item_core::{Edge, Expression, Expressions, Family, Image, Item};
+use item_core::{Edge, Expression, Expressions, Image, Item};
 use lists::Memory;
 use set_core::Set;
 use std::alloc::Global;
 
-/// The bridge of variables that are at most 0.
-pub type NonposVar = KeptItems<OneGroup<NonposVarRule>>;
+/// The family of variables that are at most 0.
+pub type NonposVar = OneGroup<NonposVarRule>;
 
 /// What `NonposVar` does with one group.
 #[derive(Drop)]
@@ -34,10 +34,6 @@ impl GroupRule for NonposVarRule {
     ghost made = { λ edge. images.nonpos_var };
 
     ghost row_count = { 0 };
-
-    fn family() -> Family {
-        Family::NonposVar
-    }
 
     fn rows() -> u16 {
         0

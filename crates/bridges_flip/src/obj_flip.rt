@@ -6,13 +6,13 @@
 ghost use Rattle.std.specs.Prelude.{◌≡◌};
 ghost use Rattle.bridge_face.specs.ImageOf.{opposite as other};
 
-use bridge_face::{KeptItems, ObjectiveRule, OneObjective};
-use item_core::{Body, Family, Sense};
+use bridge_face::{ObjectiveRule, OneObjective};
+use item_core::{Body, Sense};
 use lists::Memory;
 use std::alloc::Global;
 
-/// The bridge that turns an objective round.
-pub type ObjFlip = KeptItems<OneObjective<ObjFlipRule>>;
+/// The family that turns `min` into `max`, and back.
+pub type ObjFlip = OneObjective<ObjFlipRule>;
 
 /// What `ObjFlip` does with one objective.
 #[derive(Drop)]
@@ -28,10 +28,6 @@ impl ObjectiveRule for ObjFlipRule {
     ghost source = { objectives.IsAffineObjective };
 
     ghost made = { laws.made };
-
-    fn family() -> Family {
-        Family::ObjFlip
-    }
 
     fn child(_alloc: Global, objective: &Body) -> Result<Body, Memory> {
         match objective {

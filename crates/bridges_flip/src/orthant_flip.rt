@@ -6,13 +6,13 @@
 //! - In MathOptInterface: `NonnegToNonposBridge` and `NonposToNonnegBridge`.
 
 use crate::flips::{mirror, negated_functions, negations};
-use bridge_face::{KeptItems, OneRow, RowRule};
-use item_core::{Body, Family};
+use bridge_face::{OneRow, RowRule};
+use item_core::Body;
 use ratio_core::{NumberFault, Ratios};
 use std::alloc::Global;
 
-/// The bridge that turns an orthant round.
-pub type OrthantFlip = KeptItems<OneRow<OrthantFlipRule>>;
+/// The family that turns `Nonnegatives` into `Nonpositives`, and back.
+pub type OrthantFlip = OneRow<OrthantFlipRule>;
 
 /// What `OrthantFlip` does with one row.
 #[derive(Drop)]
@@ -30,10 +30,6 @@ impl RowRule for OrthantFlipRule {
     ghost made = { laws.made };
 
     ghost carried = { flips.negated_dual };
-
-    fn family() -> Family {
-        Family::OrthantFlip
-    }
 
     fn child(alloc: Global, row: &Body) -> Result<Body, NumberFault> {
         match row {

@@ -8,4 +8,4 @@ mod norm_one;
 mod parts;
 
 pub use norm_infinity::{NormInfinity, NormInfinityRule};
-pub use norm_one::{NormOne, NormOneRule};
+pub use norm_one::NormOne;

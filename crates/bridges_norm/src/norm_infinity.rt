@@ -15,14 +15,14 @@ use crate::differences::less_function;
 use crate::duals::{across_behind, sum};
 use crate::parts::{first_function, other_functions};
 use aff_core::{Aff, VecAff};
-use bridge_face::{KeptItems, OneRow, RowRule};
-use item_core::{Body, Family};
+use bridge_face::{OneRow, RowRule};
+use item_core::Body;
 use ratio_core::{NumberFault, Ratios};
 use set_core::Set;
 use std::alloc::Global;
 
-/// The bridge of rows that bound each magnitude.
-pub type NormInfinity = KeptItems<OneRow<NormInfinityRule>>;
+/// The family of rows that bound each magnitude.
+pub type NormInfinity = OneRow<NormInfinityRule>;
 
 /// What `NormInfinity` does with one row.
 #[derive(Drop)]
@@ -43,10 +43,6 @@ impl RowRule for NormInfinityRule {
     ghost carried = { laws.carried };
 
     ghost carried_fits = { laws.CarriedFits };
-
-    fn family() -> Family {
-        Family::NormInfinity
-    }
 
     fn child(alloc: Global, row: &Body) -> Result<Body, NumberFault> {
         let Body::AffineVec { func, .. } = row else {

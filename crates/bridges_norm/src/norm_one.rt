@@ -19,31 +19,23 @@ use crate::duals::across_behind;
 use crate::parts::{first_function, first_number, other_functions, other_numbers};
 use aff_core::{Address, Aff, VecAff};
 use bridge_face::{
-    ChildRows, KeptItem, KeptItems, Rewriting, child_group, component_count, group_row_image,
-    inner_variables,
+    ChildRows, KeptItem, Rewriting, child_group, component_count, group_row_image, inner_variables,
 };
-use item_core::{Body, Edge, Expressions, Family, Image, Item};
+use item_core::{Body, Edge, Expressions, Image, Item};
 use lists::Duplicate;
 use ratio_core::{NumberFault, Ratios};
 use set_core::Set;
 use std::alloc::Global;
 
-/// The bridge of rows that bound a sum of magnitudes.
-pub type NormOne = KeptItems<NormOneRule>;
-
-/// What `NormOne` does with one row.
+/// The family of rows that bound a sum of magnitudes.
 #[derive(Drop)]
-pub struct NormOneRule;
+pub struct NormOne;
 
-impl Rewriting for NormOneRule {
+impl Rewriting for NormOne {
     ghost use Rattle.item_core.specs.declared.family.Family.TheVariants as families;
     ghost use Rattle.bridges_norm.specs.NormOneLaws.{norm_one_lawful};
 
     ghost family = { families.NormOne };
-
-    fn family() -> Family {
-        Family::NormOne
-    }
 
     fn image(alloc: Global, _edge: Edge, item: &Item) -> Result<Image, NumberFault> {
         let count = component_count(&item.body) - 1;

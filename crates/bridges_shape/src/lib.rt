@@ -13,7 +13,7 @@ mod vectorize_var;
 
 pub use obj_functionize::{ObjFunctionize, ObjFunctionizeRule};
 pub use scalar_functionize::{ScalarFunctionize, ScalarFunctionizeRule};
-pub use scalarize::{Scalarize, ScalarizeRule};
+pub use scalarize::Scalarize;
 pub use vector_functionize::{VectorFunctionize, VectorFunctionizeRule};
 pub use vectorize::{Vectorize, VectorizeRule};
 pub use vectorize_var::{VectorizeVar, VectorizeVarRule};

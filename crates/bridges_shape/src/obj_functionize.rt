@@ -5,13 +5,13 @@
 //! - In MathOptInterface: `FunctionizeBridge` of objectives.
 
 use aff_core::Aff;
-use bridge_face::{KeptItems, ObjectiveRule, OneObjective};
-use item_core::{Body, Family};
+use bridge_face::{ObjectiveRule, OneObjective};
+use item_core::Body;
 use lists::Memory;
 use std::alloc::Global;
 
-/// The bridge that makes affine objectives of plain ones.
-pub type ObjFunctionize = KeptItems<OneObjective<ObjFunctionizeRule>>;
+/// The family that makes affine objectives of plain ones.
+pub type ObjFunctionize = OneObjective<ObjFunctionizeRule>;
 
 /// What `ObjFunctionize` does with one objective.
 #[derive(Drop)]
@@ -26,10 +26,6 @@ impl ObjectiveRule for ObjFunctionizeRule {
     ghost source = { laws.IsPlainObjective };
 
     ghost made = { laws.made };
-
-    fn family() -> Family {
-        Family::ObjFunctionize
-    }
 
     fn child(alloc: Global, objective: &Body) -> Result<Body, Memory> {
         match objective {

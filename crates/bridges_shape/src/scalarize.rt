@@ -13,29 +13,22 @@ ghost use Rattle.item_core.specs.Item.{functions_of};
 ghost use Rattle.item_core.specs.declared.item.Body.TheVariants as bodies;
 
 use aff_core::{Address, Aff};
-use bridge_face::{ChildRows, KeptItem, KeptItems, Rewriting, component_count, rows_image};
-use item_core::{Body, Edge, Family, Image, Item};
+use bridge_face::{ChildRows, KeptItem, Rewriting, component_count, rows_image};
+use item_core::{Body, Edge, Image, Item};
 use lists::{Duplicate, Memory};
 use ratio_core::{NumberFault, Ratio, Ratios};
 use set_core::Set;
 use std::alloc::Global;
 
-/// The bridge that makes a row of each component.
-pub type Scalarize = KeptItems<ScalarizeRule>;
-
-/// What `Scalarize` does with one row.
+/// The family that makes a row of each component.
 #[derive(Drop)]
-pub struct ScalarizeRule;
+pub struct Scalarize;
 
-impl Rewriting for ScalarizeRule {
+impl Rewriting for Scalarize {
     ghost use Rattle.item_core.specs.declared.family.Family.TheVariants as families;
     ghost use Rattle.bridges_shape.specs.ScalarizeLaws.{scalarize_lawful};
 
     ghost family = { families.Scalarize };
-
-    fn family() -> Family {
-        Family::Scalarize
-    }
 
     fn image(alloc: Global, _edge: Edge, item: &Item) -> Result<Image, NumberFault> {
         let rows = parts(alloc, item)?;

@@ -6,14 +6,14 @@
 //! - In MathOptInterface: `VectorFunctionizeBridge`.
 
 use crate::functionize::functionized;
-use bridge_face::{KeptItems, OneRow, RowRule};
-use item_core::{Body, Family};
+use bridge_face::{OneRow, RowRule};
+use item_core::Body;
 use lists::Duplicate;
 use ratio_core::{NumberFault, Ratios};
 use std::alloc::Global;
 
-/// The bridge that makes affine rows of plain vector rows.
-pub type VectorFunctionize = KeptItems<OneRow<VectorFunctionizeRule>>;
+/// The family that makes affine rows of plain vector rows.
+pub type VectorFunctionize = OneRow<VectorFunctionizeRule>;
 
 /// What `VectorFunctionize` does with one row.
 #[derive(Drop)]
@@ -32,10 +32,6 @@ impl RowRule for VectorFunctionizeRule {
     ghost made = { functionize.made };
 
     ghost carried = { rows.same_dual };
-
-    fn family() -> Family {
-        Family::VectorFunctionize
-    }
 
     fn child(alloc: Global, row: &Body) -> Result<Body, NumberFault> {
         Ok(functionized(alloc, row)?)

@@ -15,15 +15,15 @@ ghost use Rattle.ratio_core.specs.Rational.{SumFits, neg_ℚ};
 
 use crate::numbers::{cone, number};
 use aff_core::Aff;
-use bridge_face::{KeptItems, OneRow, RowRule, alone};
-use item_core::{Body, Family};
+use bridge_face::{OneRow, RowRule, alone};
+use item_core::Body;
 use lists::Duplicate;
 use ratio_core::{NumberFault, Ratios};
 use set_core::Set;
 use std::alloc::Global;
 
-/// The bridge that makes vector rows of rows in sets with one number.
-pub type Vectorize = KeptItems<OneRow<VectorizeRule>>;
+/// The family that makes vector rows of rows in sets with one number.
+pub type Vectorize = OneRow<VectorizeRule>;
 
 /// What `Vectorize` does with one row.
 #[derive(Drop)]
@@ -43,10 +43,6 @@ impl RowRule for VectorizeRule {
     ghost fits = { laws.FitsLowered };
 
     ghost carried = { rows.same_dual };
-
-    fn family() -> Family {
-        Family::Vectorize
-    }
 
     fn child(alloc: Global, row: &Body) -> Result<Body, NumberFault> {
         match row {

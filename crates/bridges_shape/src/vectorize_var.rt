@@ -14,15 +14,15 @@ ghost use Rattle.item_core.specs.declared.image.Expression.TheVariants as expres
 
 use crate::numbers::{cone, number};
 use aff_core::{Address, Aff};
-use bridge_face::{GroupRule, KeptItems, OneGroup, child_group, group_image, inner_variables};
-use item_core::{Body, Edge, Expression, Expressions, Family, Image, Item};
+use bridge_face::{GroupRule, OneGroup, child_group, group_image, inner_variables};
+use item_core::{Body, Edge, Expression, Expressions, Image, Item};
 use lists::Memory;
 use ratio_core::Ratio;
 use set_core::Set;
 use std::alloc::Global;
 
-/// The bridge that makes groups in cones of groups in sets with one number.
-pub type VectorizeVar = KeptItems<OneGroup<VectorizeVarRule>>;
+/// The family that makes groups in cones of groups in sets with one number.
+pub type VectorizeVar = OneGroup<VectorizeVarRule>;
 
 /// What `VectorizeVar` does with one group.
 #[derive(Drop)]
@@ -40,10 +40,6 @@ impl GroupRule for VectorizeVarRule {
     ghost made = { λ edge. images.vectorize_var };
 
     ghost row_count = { 0 };
-
-    fn family() -> Family {
-        Family::VectorizeVar
-    }
 
     fn rows() -> u16 {
         0

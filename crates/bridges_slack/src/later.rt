@@ -16,16 +16,15 @@ ghost use Rattle.bridges_slack.specs.LaterLaws.{first_child, second_child};
 
 use aff_core::{Address, Addresses, Aff};
 use bridge_face::{
-    GroupRule, KeptItems, OneGroup, component_count, group_row_image, inner_variables, item_set,
-    variables,
+    GroupRule, OneGroup, component_count, group_row_image, inner_variables, item_set, variables,
 };
-use item_core::{Body, Children, Edge, Expression, Expressions, Family, Image, Item, Kind};
+use item_core::{Body, Children, Edge, Expression, Expressions, Image, Item, Kind};
 use lists::Memory;
 use set_core::Set;
 use std::alloc::Global;
 
-/// The bridge of variables that are constrained later.
-pub type Later = KeptItems<OneGroup<LaterRule>>;
+/// The family of variables that are constrained later.
+pub type Later = OneGroup<LaterRule>;
 
 /// What `Later` does with one group.
 #[derive(Drop)]
@@ -42,10 +41,6 @@ impl GroupRule for LaterRule {
     ghost made = { images.later };
 
     ghost row_count = { 1 };
-
-    fn family() -> Family {
-        Family::Later
-    }
 
     fn rows() -> u16 {
         1

@@ -7,6 +7,6 @@ mod scalar_slack;
 mod vector_slack;
 
 pub use later::{Later, LaterRule};
-pub use obj_slack::{ObjSlack, ObjSlackRule};
+pub use obj_slack::ObjSlack;
 pub use scalar_slack::{ScalarSlack, ScalarSlackRule};
 pub use vector_slack::{VectorSlack, VectorSlackRule};

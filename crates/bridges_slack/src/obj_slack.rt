@@ -15,31 +15,22 @@ ghost use Rattle.bridge_face.specs.Images.{function_of_body};
 ghost use Rattle.bridges_slack.specs.ObjSlackLaws.{IsAffineObjective, row_of};
 
 use aff_core::Address;
-use bridge_face::{
-    ChildRows, KeptItem, KeptItems, Rewriting, inner_variables, one_item, variable_less,
-};
-use item_core::{Body, Edge, Expressions, Family, Image, Item, Sense};
+use bridge_face::{ChildRows, KeptItem, Rewriting, inner_variables, one_item, variable_less};
+use item_core::{Body, Edge, Expressions, Image, Item, Sense};
 use lists::Memory;
 use ratio_core::{NumberFault, Ratio, Ratios};
 use set_core::Set;
 use std::alloc::Global;
 
-/// The bridge of objectives by a slack variable.
-pub type ObjSlack = KeptItems<ObjSlackRule>;
-
-/// What `ObjSlack` does with one objective.
+/// The family that gives an objective a slack variable.
 #[derive(Drop)]
-pub struct ObjSlackRule;
+pub struct ObjSlack;
 
-impl Rewriting for ObjSlackRule {
+impl Rewriting for ObjSlack {
     ghost use Rattle.item_core.specs.declared.family.Family.TheVariants as families;
     ghost use Rattle.bridges_slack.specs.ObjSlackLaws.{obj_slack_lawful};
 
     ghost family = { families.ObjSlack };
-
-    fn family() -> Family {
-        Family::ObjSlack
-    }
 
     fn image(alloc: Global, _edge: Edge, item: &Item) -> Result<Image, NumberFault> {
         let at = item.at.child(0);

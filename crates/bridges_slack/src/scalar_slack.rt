@@ -15,17 +15,16 @@ ghost use Rattle.bridges_slack.specs.ScalarSlackLaws.{IsBoundedRow};
 
 use aff_core::Address;
 use bridge_face::{
-    GroupRule, KeptItems, OneGroup, child_group, group_row_image, inner_variables, item_set,
-    less_variable,
+    GroupRule, OneGroup, child_group, group_row_image, inner_variables, item_set, less_variable,
 };
-use item_core::{Body, Edge, Expressions, Family, Image, Item};
+use item_core::{Body, Edge, Expressions, Image, Item};
 use lists::Memory;
 use ratio_core::Ratio;
 use set_core::Set;
 use std::alloc::Global;
 
-/// The bridge by a slack variable.
-pub type ScalarSlack = KeptItems<OneGroup<ScalarSlackRule>>;
+/// The family that gives a row of numbers a slack variable.
+pub type ScalarSlack = OneGroup<ScalarSlackRule>;
 
 /// What `ScalarSlack` does with one row.
 #[derive(Drop)]
@@ -43,10 +42,6 @@ impl GroupRule for ScalarSlackRule {
     ghost made = { λ edge. images.scalar_slack };
 
     ghost row_count = { 1 };
-
-    fn family() -> Family {
-        Family::ScalarSlack
-    }
 
     fn rows() -> u16 {
         1

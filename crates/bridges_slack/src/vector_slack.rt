@@ -17,16 +17,16 @@ ghost use Rattle.bridges_slack.specs.VectorSlackLaws.{InCone};
 
 use aff_core::Address;
 use bridge_face::{
-    GroupRule, KeptItems, OneGroup, child_group, component_count, group_row_image, inner_variables,
-    item_set, less_variables,
+    GroupRule, OneGroup, child_group, component_count, group_row_image, inner_variables, item_set,
+    less_variables,
 };
-use item_core::{Body, Edge, Expressions, Family, Image, Item};
+use item_core::{Body, Edge, Expressions, Image, Item};
 use lists::Memory;
 use set_core::Set;
 use std::alloc::Global;
 
-/// The bridge by slack variables.
-pub type VectorSlack = KeptItems<OneGroup<VectorSlackRule>>;
+/// The family that gives a row of vectors slack variables.
+pub type VectorSlack = OneGroup<VectorSlackRule>;
 
 /// What `VectorSlack` does with one row.
 #[derive(Drop)]
@@ -44,10 +44,6 @@ impl GroupRule for VectorSlackRule {
     ghost made = { λ edge. images.vector_slack };
 
     ghost row_count = { 1 };
-
-    fn family() -> Family {
-        Family::VectorSlack
-    }
 
     fn rows() -> u16 {
         1

@@ -7,28 +7,21 @@
 ghost use Rattle.std.specs.Prelude.{◌≡◌, IfOk, replicate};
 ghost use Rattle.ratio_core.specs.Rational.{zero_ℚ};
 
-use bridge_face::{ChildRows, KeptItem, KeptItems, Rewriting, component_count, rows_image};
-use item_core::{Edge, Family, Image, Item};
+use bridge_face::{ChildRows, KeptItem, Rewriting, component_count, rows_image};
+use item_core::{Edge, Image, Item};
 use lists::Memory;
 use ratio_core::{NumberFault, Ratio, Ratios};
 use std::alloc::Global;
 
-/// The bridge that drops rows in all vectors.
-pub type DropReals = KeptItems<DropRealsRule>;
-
-/// What `DropReals` does with one row.
+/// The family that drops rows in `Reals`.
 #[derive(Drop)]
-pub struct DropRealsRule;
+pub struct DropReals;
 
-impl Rewriting for DropRealsRule {
+impl Rewriting for DropReals {
     ghost use Rattle.item_core.specs.declared.family.Family.TheVariants as families;
     ghost use Rattle.bridges_split.specs.DropRealsLaws.{drop_reals_lawful};
 
     ghost family = { families.DropReals };
-
-    fn family() -> Family {
-        Family::DropReals
-    }
 
     fn image(alloc: Global, _edge: Edge, _item: &Item) -> Result<Image, NumberFault> {
         Ok(rows_image(alloc, Vec::new(alloc)))

@@ -10,16 +10,15 @@ ghost use Rattle.bridges_split.specs.FreeVarLaws.{halved};
 
 use aff_core::{Address, Aff};
 use bridge_face::{
-    GroupRule, KeptItems, OneGroup, child_group, component_count, group_image, inner_variables,
-    less_variable,
+    GroupRule, OneGroup, child_group, component_count, group_image, inner_variables, less_variable,
 };
-use item_core::{Edge, Expression, Expressions, Family, Image, Item};
+use item_core::{Edge, Expression, Expressions, Image, Item};
 use lists::Memory;
 use set_core::Set;
 use std::alloc::Global;
 
-/// The bridge of variables without bounds.
-pub type FreeVar = KeptItems<OneGroup<FreeVarRule>>;
+/// The family of variables without bounds.
+pub type FreeVar = OneGroup<FreeVarRule>;
 
 /// What `FreeVar` does with one group.
 #[derive(Drop)]
@@ -37,10 +36,6 @@ impl GroupRule for FreeVarRule {
     ghost made = { λ edge. images.free_var };
 
     ghost row_count = { 0 };
-
-    fn family() -> Family {
-        Family::FreeVar
-    }
 
     fn rows() -> u16 {
         0

@@ -6,7 +6,7 @@ mod free_var;
 mod split_set;
 mod zeros_var;
 
-pub use drop_reals::{DropReals, DropRealsRule};
+pub use drop_reals::DropReals;
 pub use free_var::{FreeVar, FreeVarRule};
-pub use split_set::{SplitSet, SplitSetRule};
-pub use zeros_var::{ZerosVar, ZerosVarRule};
+pub use split_set::SplitSet;
+pub use zeros_var::ZerosVar;

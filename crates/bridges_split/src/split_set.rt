@@ -11,29 +11,22 @@ ghost use Rattle.item_core.specs.Item as items;
 ghost use Rattle.bridge_face.specs.Images as images;
 ghost use Rattle.bridges_split.specs.SplitSetLaws.{IsSplitRow, IsSplitSet};
 
-use bridge_face::{ChildRows, KeptItem, KeptItems, Rewriting, place_sums, rows_image};
-use item_core::{Body, Edge, Family, Image, Item};
+use bridge_face::{ChildRows, KeptItem, Rewriting, place_sums, rows_image};
+use item_core::{Body, Edge, Image, Item};
 use lists::{Duplicate, Memory};
 use ratio_core::{NumberFault, Ratios};
 use set_core::Set;
 use std::alloc::Global;
 
-/// The bridge that splits a set into two.
-pub type SplitSet = KeptItems<SplitSetRule>;
-
-/// What `SplitSet` does with one row.
+/// The family that splits a set into two.
 #[derive(Drop)]
-pub struct SplitSetRule;
+pub struct SplitSet;
 
-impl Rewriting for SplitSetRule {
+impl Rewriting for SplitSet {
     ghost use Rattle.item_core.specs.declared.family.Family.TheVariants as families;
     ghost use Rattle.bridges_split.specs.SplitSetLaws.{split_set_lawful};
 
     ghost family = { families.SplitSet };
-
-    fn family() -> Family {
-        Family::SplitSet
-    }
 
     fn image(alloc: Global, _edge: Edge, item: &Item) -> Result<Image, NumberFault> {
         let set = set_of(&item.body);

@@ -7,28 +7,21 @@ ghost use Rattle.std.specs.Prelude.{◌≡◌, IfOk, replicate};
 ghost use Rattle.bridges_split.specs.ZerosVarLaws.{none_of};
 
 use aff_core::Aff;
-use bridge_face::{ChildRows, KeptItem, KeptItems, Rewriting, component_count};
-use item_core::{Edge, Expression, Expressions, Family, Image, Item, Items};
+use bridge_face::{ChildRows, KeptItem, Rewriting, component_count};
+use item_core::{Edge, Expression, Expressions, Image, Item, Items};
 use lists::Memory;
 use ratio_core::{NumberFault, Ratio, Ratios};
 use std::alloc::Global;
 
-/// The bridge of variables that are 0.
-pub type ZerosVar = KeptItems<ZerosVarRule>;
-
-/// What `ZerosVar` does with one group.
+/// The family of variables that are 0.
 #[derive(Drop)]
-pub struct ZerosVarRule;
+pub struct ZerosVar;
 
-impl Rewriting for ZerosVarRule {
+impl Rewriting for ZerosVar {
     ghost use Rattle.item_core.specs.declared.family.Family.TheVariants as families;
     ghost use Rattle.bridges_split.specs.ZerosVarLaws.{zeros_var_lawful};
 
     ghost family = { families.ZerosVar };
-
-    fn family() -> Family {
-        Family::ZerosVar
-    }
 
     fn image(alloc: Global, _edge: Edge, item: &Item) -> Result<Image, NumberFault> {
         let count = component_count(&item.body);

@@ -31,7 +31,7 @@ fn run_words(rt: &HostRuntime, words: &[String]) -> Result<Status, Memory> {
     Ok(run_by(rt, words, bridges))
 }
 
-// Generic in the bridges, since freeing a session of `AnyBridge` takes a case for each family.
+// Generic in the bridges, so that how they are freed isn't proved here.
 fn run_by<B: Bridge>(rt: &HostRuntime, words: &[String], bridges: Vec<B>) -> Status
     requires once { IsTrue (occur_once (families_of (map B.state bridges.items))) }
     requires kept { All (λ s. s.kept ≡ finite.empty) (map B.state bridges.items) }

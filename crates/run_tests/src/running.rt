@@ -7,11 +7,11 @@ ghost use Rattle.edit_engine.specs.Held.{state_of};
 use crate::case::{Call, Case};
 use crate::full::Full;
 use crate::last::run_last;
-use any_bridge::all_bridges;
+use any_bridge::{AnyBridge, all_bridges};
 use bridge_face::Bridge;
-use bridges_flip::{GreaterLess, NonposVar};
 use edit_engine::Session;
 use io_face::{Calls, MemShelf, MemSink, MemSource, NamedFile, NamedFiles, Shelf, SureShelf};
+use item_core::Family;
 use lazy_bridge::add_bridge;
 use lists::Memory;
 use loaded_again_laws::written_line;
@@ -86,9 +86,9 @@ fn run_boxed<H: Shelf>(
     requires { 1 ≤ case.now.piece }
 {
     let alloc = rt.alloc();
-    let one: Box<dyn Bridge> = Box::new(alloc, GreaterLess::new(alloc))?;
-    let again: Box<dyn Bridge> = Box::new(alloc, GreaterLess::new(alloc))?;
-    let other: Box<dyn Bridge> = Box::new(alloc, NonposVar::new(alloc))?;
+    let one: Box<dyn Bridge> = Box::new(alloc, AnyBridge::new(alloc, Family::GreaterLess))?;
+    let again: Box<dyn Bridge> = Box::new(alloc, AnyBridge::new(alloc, Family::GreaterLess))?;
+    let other: Box<dyn Bridge> = Box::new(alloc, AnyBridge::new(alloc, Family::NonposVar))?;
     run_by_each(rt, case, shelf, input, one, again, other)
 }
 

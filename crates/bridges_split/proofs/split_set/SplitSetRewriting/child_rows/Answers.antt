@@ -1,0 +1,12 @@
+use Rattle.std.specs.Prelude.{[], ◌∷◌}
+use Rattle.bridge_face.specs.FamilyLaws.{child_rows_are, image_is}
+use Rattle.bridge_face.specs.Images.{rows_at}
+use Rattle.bridges_split.specs.SplitSetLaws.{lower, rule, upper}
+use Rattle.bridges_split.proofs.split_set.SplitSetRewriting.child_rows.Goals as goal
+
+pub returns : goal.returns
+returns c =
+    child_rows_are c.args._kept.now.edge c.args._kept.now.item
+    (rows_at c.args._kept.now.item (lower c.args._kept.now.item.body ∷ upper
+    c.args._kept.now.item.body ∷ [])) (image_is rule c.args._kept.now.edge c.requires.own
+    c.args._kept.now.item)
