@@ -1,15 +1,11 @@
 -- What is answered to a dual that is solved.
 use Rattle.std.proofs.Common.{◌≡◌, ◌∙◌, ℕ, suc, ◌+◌, List, [], ◌∷◌, ap, ap₂, flat_map, length, length-append, refl, subst, sym, Ok, Err}
 use Rattle.std.specs.Prelude.{IfOk, Result}
-use Rattle.cache_layer.specs.Answers.{IsAttached}
-use Rattle.cache_layer.specs.Outcome.{IsOptimized}
 use Rattle.cache_layer.specs.CacheState.{CacheState}
-use Rattle.cache_layer.specs.declared.fault.AttachFault.{AttachFault}
-use Rattle.cache_layer.specs.declared.fault.OptFault.{OptFault}
 use Rattle.certificates.specs.Good.{IsOptimal, IsUnbounded}
 use Rattle.certificates.specs.declared.certificate.Certificate.{Certificate}
 use Rattle.certificates.specs.declared.certificate.Certificate.TheVariants.{Infeasible, Unbounded}
-use Rattle.dual_command.specs.Says.{NoneRight, SaysCarried, SaysDual, SaysDualCertificate, SaysDualOptimized, SaysDualSolved, pivots}
+use Rattle.dual_command.specs.Says.{NoneRight, SaysCarried, SaysDual, SaysDualCertificate}
 use Rattle.dual_command.specs.Text.{duals_text, file_line, none_text, unbounded_text}
 use Rattle.dual_command.specs.declared.command.Task.{Task}
 use Rattle.dual_command.specs.declared.command.Task.TheVariants.{Solve, Write}
@@ -25,7 +21,7 @@ use Rattle.file_answers.specs.FileAnswers.{refused}
 use Rattle.fresh_bridging.specs.TheRules.{Setting}
 use Rattle.lists.specs.declared.memory.Memory.{Memory as NoMemory}
 use Rattle.model_command.specs.Alone.{alone}
-use Rattle.model_command.specs.Telling.{attach_fault_answer, optimize_fault_answer}
+use Rattle.model_command.specs.Solved.{SaysSolved}
 use Rattle.ratio_core.specs.Rational.{Rational}
 use Rattle.report_core.specs.declared.answer.Answer.{Answer}
 use Rattle.report_core.specs.declared.answer.Answer.TheVariants.{Printed}
@@ -42,43 +38,12 @@ if_told P Q (Ok answer) h p = h answer p
 if_told P Q (Err e) h p = tt
 
 module _ (model : ModelValue) (told : Result Answer NoMemory) where
-  -- ---- the certificate
-
-  pub says_given : (s : CacheState) (c : Certificate) → IsOptimized s pivots (Ok c)
-      → IfOk told (SaysDualCertificate model c) → IfOk told (SaysDualOptimized model s)
-  says_given s c outcome =
-      if_told (SaysDualCertificate model c) (SaysDualOptimized model s) told
-      (λ answer said. (Ok c, outcome, said))
-
-  pub says_not_given : (s : CacheState) (fault : OptFault) → IsOptimized s pivots (Err fault)
-      → IfOk told (λ answer. answer ≡ optimize_fault_answer fault)
-      → IfOk told (SaysDualOptimized model s)
-  says_not_given s fault outcome =
-      if_told (λ answer. answer ≡ optimize_fault_answer fault) (SaysDualOptimized model s) told
-      (λ answer said. (Err fault, outcome, said))
-
-  -- ---- the solver
-
-  pub says_attached : (old after : CacheState) (n : ℕ) → IsAttached old (Ok n) after
-      → IfOk told (SaysDualOptimized model after) → IfOk told (SaysDualSolved model old)
-  says_attached old after n is =
-      if_told (SaysDualOptimized model after) (SaysDualSolved model old) told
-      (λ answer said. (Ok n, after, is, said))
-
-  pub says_unattached : (old after : CacheState) (fault : AttachFault)
-      → IsAttached old (Err fault) after
-      → IfOk told (λ answer. answer ≡ attach_fault_answer fault)
-      → IfOk told (SaysDualSolved model old)
-  says_unattached old after fault is =
-      if_told (λ answer. answer ≡ attach_fault_answer fault) (SaysDualSolved model old) told
-      (λ answer said. (Err fault, after, is, said))
-
   -- the dual alone
   pub says_alone : (s : CacheState) (setting : Setting) (dual : ModelValue) → s ≡ alone setting dual
-      → dual ≡ dual_of_model model → IfOk told (SaysDualSolved model s)
+      → dual ≡ dual_of_model model → IfOk told (SaysSolved (SaysDualCertificate model) s)
       → IfOk told (SaysDual model setting Solve)
   says_alone s setting dual is same =
-      subst (λ t. IfOk told (SaysDualSolved model t)) (is ∙ ap (alone setting) same)
+      subst (λ t. IfOk told (SaysSolved (SaysDualCertificate model) t)) (is ∙ ap (alone setting) same)
 
   -- ---- the task
 
