@@ -1,6 +1,7 @@
 -- What is answered to a dual that is solved.
 use Rattle.std.proofs.Common.{◌≡◌, ◌∙◌, ℕ, suc, ◌+◌, List, [], ◌∷◌, ap, ap₂, flat_map, length, length-append, refl, subst, sym, Ok, Err}
 use Rattle.std.specs.Prelude.{IfOk, Result}
+use Rattle.std.proofs.lemmas.Result.{IfOk-weaker}
 use Rattle.cache_layer.specs.CacheState.{CacheState}
 use Rattle.certificates.specs.Good.{IsOptimal, IsUnbounded}
 use Rattle.certificates.specs.declared.certificate.Certificate.{Certificate}
@@ -31,12 +32,6 @@ use Rattle.user_model.specs.Edited.{numbered_from}
 use Rattle.user_model.specs.Model.{ModelValue}
 use Rattle.user_model.specs.declared.group.Group.{Group}
 
--- what holds of an answer, if there is one
-if_told : (P Q : Answer → Type 0) (told : Result Answer NoMemory)
-    → ((answer : Answer) → P answer → Q answer) → IfOk told P → IfOk told Q
-if_told P Q (Ok answer) h p = h answer p
-if_told P Q (Err e) h p = tt
-
 module _ (model : ModelValue) (told : Result Answer NoMemory) where
   -- the dual alone
   pub says_alone : (s : CacheState) (setting : Setting) (dual : ModelValue) → s ≡ alone setting dual
@@ -66,8 +61,8 @@ module _ (model : ModelValue) (told : Result Answer NoMemory) where
       → IfOk told (λ answer. answer ≡ Printed none_text) → IfOk told (SaysDualCertificate model c)
   says_none c gap rows vars is none h =
       subst (λ d. IfOk told (SaysDualCertificate model d)) (sym is)
-      (if_told (λ answer. answer ≡ Printed none_text)
-      (SaysDualCertificate model (Infeasible gap rows vars)) told (λ answer said. (none, said)) h)
+      (IfOk-weaker told (λ answer. answer ≡ Printed none_text)
+      (SaysDualCertificate model (Infeasible gap rows vars)) (λ answer said. (none, said)) h)
 
   pub says_unbounded : (c : Certificate) (x d : List Rational) → c ≡ Unbounded x d
       → IsUnbounded (dual_of_model model) x d
@@ -75,8 +70,8 @@ module _ (model : ModelValue) (told : Result Answer NoMemory) where
       → IfOk told (SaysDualCertificate model c)
   says_unbounded c x d is ray h =
       subst (λ e. IfOk told (SaysDualCertificate model e)) (sym is)
-      (if_told (λ answer. answer ≡ Printed unbounded_text)
-      (SaysDualCertificate model (Unbounded x d)) told (λ answer said. (ray, said)) h)
+      (IfOk-weaker told (λ answer. answer ≡ Printed unbounded_text)
+      (SaysDualCertificate model (Unbounded x d)) (λ answer said. (ray, said)) h)
 
   -- ---- the way back
 
@@ -86,9 +81,9 @@ module _ (model : ModelValue) (told : Result Answer NoMemory) where
       → IfOk told (λ answer. (c : Result Carried DualFault) × CarriesPoint model x c
       × SaysCarried model value c answer)
   says_uncarried value x place at =
-      if_told (λ answer. answer ≡ refused (Overflow place))
+      IfOk-weaker told (λ answer. answer ≡ refused (Overflow place))
       (λ answer. (c : Result Carried DualFault) × CarriesPoint model x c
-      × SaysCarried model value c answer) told
+      × SaysCarried model value c answer)
       (λ answer said. (Err (dual.Overflow place), at, said))
 
   pub says_best : (value : Rational) (x : List Rational) (carried : Carried)
@@ -100,9 +95,9 @@ module _ (model : ModelValue) (told : Result Answer NoMemory) where
       → IfOk told (λ answer. (c : Result Carried DualFault) × CarriesPoint model x c
       × SaysCarried model value c answer)
   says_best value x carried best is =
-      if_told (λ answer. answer ≡ Printed (duals_text model value carried.rows carried.vars))
+      IfOk-weaker told (λ answer. answer ≡ Printed (duals_text model value carried.rows carried.vars))
       (λ answer. (c : Result Carried DualFault) × CarriesPoint model x c
-      × SaysCarried model value c answer) told
+      × SaysCarried model value c answer)
       (λ answer said. (
         Ok carried,
         is,

@@ -58,8 +58,7 @@ fn answered<B: Bridge>(
 {
     // what this ensures: the dual is valid
     let _valid = cache.model().rows();
-    let given = solve(alloc, cache)?;
-    match given {
+    match solve(alloc, cache)? {
         Solution::Certified(certificate) => told(alloc, model, &certificate),
         Solution::Refused(refused) => Ok(refused),
     }

@@ -1,8 +1,8 @@
--- How a model is solved, by a solver that is attached and asked once.
+-- How a model is solved: a solver is attached, and optimises once.
 --
---     SaysSolved        what is answered, by what is said of a certificate
---     Solves            a certificate, or what is answered where there is none
---     CertifiesModel    the certificate is good for the model
+--     Solves            the state that this leaves, and a certificate or why there is none
+--     IsGoodSolution    a certificate is good for the model
+--     SaysSolved        what is answered to the model, by what is said of a certificate
 use Rattle.std.specs.Prelude.{◌≡◌, ℕ, Result, Ok, Err}
 use Rattle.cache_layer.specs.Answers.{IsAttached}
 use Rattle.cache_layer.specs.Outcome.{IsOptimized}
@@ -21,44 +21,39 @@ use Rattle.user_model.specs.Model.{ModelValue}
 abbrev pub pivots : ℕ
 pivots = 100000
 
+-- ---- what solving gives
+
+abbrev pub solution_of : Result Certificate OptFault → Solution
+solution_of (Ok certificate) = Certified certificate
+solution_of (Err fault) = Refused (optimize_fault_answer fault)
+
+-- by a solver that is attached
+abbrev pub SolvesAttached : CacheState → Solution → Type 0
+SolvesAttached s solution =
+    (given : Result Certificate OptFault) × IsOptimized s pivots given
+    × (solution ≡ solution_of given)
+
+-- once one was attached, or was not
+abbrev pub SolvesAfter : Result ℕ AttachFault → CacheState → Solution → Type 0
+SolvesAfter (Ok leaves) s solution = SolvesAttached s solution
+SolvesAfter (Err fault) s solution = solution ≡ Refused (attach_fault_answer fault)
+
+abbrev pub Solves : CacheState → CacheState → Solution → Type 0
+Solves old new solution =
+    (made : Result ℕ AttachFault) × IsAttached old made new × SolvesAfter made new solution
+
+abbrev pub IsGoodSolution : ModelValue → Solution → Type 0
+IsGoodSolution model (Certified certificate) = Good model certificate
+IsGoodSolution model (Refused answer) = Unit {0}
+
+-- ---- what is answered
+
 module _ (says : Certificate → Answer → Type 0) where
-  -- to a certificate, or to why there is none
-  abbrev pub SaysGiven : Result Certificate OptFault → Answer → Type 0
-  SaysGiven (Ok certificate) answer = says certificate answer
-  SaysGiven (Err fault) answer = answer ≡ optimize_fault_answer fault
+  abbrev pub SaysSolution : Solution → Answer → Type 0
+  SaysSolution (Certified certificate) answer = says certificate answer
+  SaysSolution (Refused refusal) answer = answer ≡ refusal
 
-  -- to a model that a solver is attached to
-  abbrev pub SaysOptimized : CacheState → Answer → Type 0
-  SaysOptimized s answer =
-      (given : Result Certificate OptFault) × IsOptimized s pivots given × SaysGiven given answer
-
-  abbrev pub SaysAttached : Result ℕ AttachFault → CacheState → Answer → Type 0
-  SaysAttached (Ok leaves) s answer = SaysOptimized s answer
-  SaysAttached (Err fault) s answer = answer ≡ attach_fault_answer fault
-
-  -- to a model before one is
   abbrev pub SaysSolved : CacheState → Answer → Type 0
   SaysSolved s answer =
-      (made : Result ℕ AttachFault) × (after : CacheState) × IsAttached s made after
-      × SaysAttached made after answer
-
--- ---- what the code gives
-
--- nothing is said of a certificate, so there is none
-abbrev pub SaysNothing : Certificate → Answer → Type 0
-SaysNothing certificate answer = ⊥
-
-abbrev pub SolvesAttached : CacheState → Solution → Type 0
-SolvesAttached s (Certified certificate) = IsOptimized s pivots (Ok certificate)
-SolvesAttached s (Refused answer) = SaysOptimized SaysNothing s answer
-
-abbrev pub Solves : CacheState → Solution → Type 0
-Solves s (Certified certificate) =
-    (leaves : ℕ) × (after : CacheState) × IsAttached s (Ok leaves) after
-    × IsOptimized after pivots (Ok certificate)
-Solves s (Refused answer) = SaysSolved SaysNothing s answer
-
--- the model stays, and a certificate is good for it
-abbrev pub CertifiesModel : ModelValue → ModelValue → Solution → Type 0
-CertifiesModel old new (Certified certificate) = (new ≡ old) × Good old certificate
-CertifiesModel old new (Refused answer) = Unit {0}
+      (after : CacheState) × (solution : Solution) × Solves s after solution
+      × SaysSolution solution answer

@@ -1,5 +1,5 @@
-//! The cache of a loaded model, as the commands that solve one model make it; how they solve it; and
-//! what they answer where no solver is attached or it gives no certificate.
+//! What the commands that solve one model share: the model's cache, how it is solved, and what is
+//! answered where no solver is attached or it gives no certificate.
 #![tactic(auto)]
 
 mod caching;

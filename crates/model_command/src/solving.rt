@@ -1,7 +1,7 @@
-//! A model solved, by a solver that is attached and asked once.
-ghost use Rattle.std.specs.Prelude.{IfOk};
+//! A model solved: a solver is attached, and optimises once.
+ghost use Rattle.std.specs.Prelude.{◌≡◌, IfOk};
 ghost use Rattle.cache_layer.specs.Cached.{model_in, state_of};
-ghost use Rattle.model_command.specs.Solved.{CertifiesModel, Solves, SolvesAttached};
+ghost use Rattle.model_command.specs.Solved.{IsGoodSolution, Solves, SolvesAttached};
 
 use crate::telling::{tell_attach, tell_optimize};
 use bridge_face::Bridge;
@@ -18,15 +18,16 @@ pub const PIVOTS: u64 = 100_000;
 pub enum Solution {
     /// A certificate that is good for the model.
     Certified(Certificate),
-    /// What is answered where there is none.
+    /// Why there is none, as it is answered.
     Refused(Answer),
 }
 
 /// Attaches a solver to the model and optimises once, with at most `PIVOTS` pivots. The model stays
-/// as it is, and a certificate is good for it.
+/// as it is, also where memory runs out.
 pub fn solve<B: Bridge>(alloc: Global, cache: &mut Cache<B>) -> Result<Solution, Memory>
-    ensures solves { IfOk result (Solves (state_of cache.old)) }
-    ensures certifies { IfOk result (CertifiesModel (model_in cache.old) (model_in cache.new)) }
+    ensures solves { IfOk result (Solves (state_of cache.old) (state_of cache.new)) }
+    ensures good { IfOk result (IsGoodSolution (model_in cache.old)) }
+    ensures model { model_in cache.new ≡ model_in cache.old }
 {
     match cache.attach() {
         Ok(_leaves) => optimize(alloc, cache),
@@ -37,7 +38,7 @@ pub fn solve<B: Bridge>(alloc: Global, cache: &mut Cache<B>) -> Result<Solution,
 // The same where a solver is attached.
 fn optimize<B: Bridge>(alloc: Global, cache: &Cache<B>) -> Result<Solution, Memory>
     ensures solves { IfOk result (SolvesAttached (state_of cache.now)) }
-    ensures certifies { IfOk result (CertifiesModel (model_in cache.now) (model_in cache.now)) }
+    ensures good { IfOk result (IsGoodSolution (model_in cache.now)) }
 {
     match cache.optimize(PIVOTS) {
         Ok(certificate) => Ok(Solution::Certified(certificate)),

@@ -45,8 +45,7 @@ fn answered<B: Bridge>(alloc: Global, cache: &mut Cache<B>) -> Result<Answer, Me
     ensures { (model : ModelValue) → IsRelaxedFrom model (model_in cache.old)
         → IfOk result (SaysSolved (SaysRelaxedCertificate model) (state_of cache.old)) }
 {
-    let given = solve(alloc, cache)?;
-    match given {
+    match solve(alloc, cache)? {
         Solution::Certified(certificate) => told(alloc, cache.model(), certificate),
         Solution::Refused(refused) => Ok(refused),
     }

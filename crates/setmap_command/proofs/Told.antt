@@ -1,6 +1,7 @@
 -- What is answered to the model with the mapped rows.
 use Rattle.std.specs.Prelude.{◌≡◌, ◌≢◌, Some, None, Result, Ok, Err, IfOk, OnOk, refl}
 use Rattle.std.proofs.Common.{ap, inl, inr, subst, sym, ◌∙◌}
+use Rattle.std.proofs.lemmas.Result.{IfOk-weaker}
 use Rattle.cert_text.specs.Text.{certificate_text}
 use Rattle.certificates.specs.Good.{Good}
 use Rattle.certificates.specs.Points.{variables_of}
@@ -28,12 +29,6 @@ use Rattle.setmap_command.specs.Text.{bad_map, fault_answer}
 use Rattle.user_model.specs.Model.{ModelValue}
 use Rattle.user_model.specs.Valid.{IsValid}
 
--- what holds of an answer, if there is one
-if_told : (P Q : Answer → Type 0) (told : Result Answer NoMemory)
-    → ((answer : Answer) → P answer → Q answer) → IfOk told P → IfOk told Q
-if_told P Q (Ok answer) h p = h answer p
-if_told P Q (Err e) h p = tt
-
 module _ (model : ModelValue) (file : MapFile) (new : ModelValue)
     (told : Result Answer NoMemory) where
   -- ---- the certificate
@@ -44,9 +39,9 @@ module _ (model : ModelValue) (file : MapFile) (new : ModelValue)
       ≡ Printed (certificate_text (variables_of new.groups) new.rows back))
       → IfOk told (SaysMappedCertificate model file new c)
   says_printed c back stands valid good tells =
-      if_told
+      IfOk-weaker told
       (λ answer. answer ≡ Printed (certificate_text (variables_of new.groups) new.rows back))
-      (SaysMappedCertificate model file new c) told
+      (SaysMappedCertificate model file new c)
       (λ answer is. (
         None,
         tells.0,
@@ -65,7 +60,8 @@ module _ (model : ModelValue) (file : MapFile) (new : ModelValue)
   says_unfit c (fault.BadMap name) tells = absurd tells
   says_unfit c (fault.Refused refusal) tells = absurd tells
   says_unfit c (fault.Overflow row) tells = λ is not.
-      if_told _ (SaysMappedCertificate model file new c) told (λ answer e. (Some row, tells, e)) is
+      IfOk-weaker told _ (SaysMappedCertificate model file new c)
+      (λ answer e. (Some row, tells, e)) is
   says_unfit c fault.Memory tells = λ is not. by told not
     where
       by : (told : Result Answer NoMemory)
@@ -85,8 +81,9 @@ module _ (setting : Setting) (file : MapFile) (old new : StoredModel)
       (alone setting new.model)))
       → IfOk told (SaysFile setting file old.model)
   says_mapped mapped rows stands solved =
-      if_told (SaysSolved (SaysMappedCertificate old.model file new.model) (alone setting new.model))
-      (SaysFile setting file old.model) told
+      IfOk-weaker told
+      (SaysSolved (SaysMappedCertificate old.model file new.model) (alone setting new.model))
+      (SaysFile setting file old.model)
       (λ answer said. subst (λ o. SaysBy setting file old.model o answer) (sym rows.0.lines)
       (inr (rows.0.maps, (Made new.model, rows.2, said))))
       (subst (λ f. IfOk told (SaysSolved (SaysMappedCertificate old.model f new.model)
@@ -98,18 +95,18 @@ module _ (setting : Setting) (file : MapFile) (old new : StoredModel)
       → IfOk told (λ answer. answer ≡ fault_answer reason)
       → OnOk told (reason ≢ fault.Memory) → IfOk told (SaysFile setting file old.model)
   says_unmapped (fault.BadMaps line) rows = λ is not.
-      if_told _ (SaysFile setting file old.model) told
+      IfOk-weaker told _ (SaysFile setting file old.model)
       (λ answer e. subst (λ o. SaysBy setting file old.model o answer) (sym rows) e) is
   says_unmapped (fault.BadMap name) rows = λ is not.
-      if_told _ (SaysFile setting file old.model) told
+      IfOk-weaker told _ (SaysFile setting file old.model)
       (λ answer e. subst (λ o. SaysBy setting file old.model o answer) (sym rows.0)
       (inl (rows.1.0, rows.1.1, e ∙ ap bad_map rows.1.2))) is
   says_unmapped (fault.Refused refusal) rows = λ is not.
-      if_told _ (SaysFile setting file old.model) told
+      IfOk-weaker told _ (SaysFile setting file old.model)
       (λ answer e. subst (λ o. SaysBy setting file old.model o answer) (sym rows.0.lines)
       (inr (rows.0.maps, (IsRefused refusal, rows.1, e)))) is
   says_unmapped (fault.Overflow row) rows = λ is not.
-      if_told _ (SaysFile setting file old.model) told
+      IfOk-weaker told _ (SaysFile setting file old.model)
       (λ answer e. subst (λ o. SaysBy setting file old.model o answer) (sym rows.0.lines)
       (inr (rows.0.maps, (Exceeds row, rows.1, e)))) is
   says_unmapped fault.Memory rows = λ is not. by told not

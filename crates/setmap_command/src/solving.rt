@@ -56,8 +56,7 @@ fn answered<B: Bridge>(
         → IfOk result (SaysSolved (SaysMappedCertificate old rows.now (model_in cache.old))
         (state_of cache.old)) }
 {
-    let given = solve(alloc, cache)?;
-    match given {
+    match solve(alloc, cache)? {
         Solution::Certified(certificate) => told(alloc, rows, cache.model(), certificate),
         Solution::Refused(refused) => Ok(refused),
     }
