@@ -23,21 +23,23 @@ pivots = 100000
 
 -- ---- what solving gives
 
+-- by an optimise
 abbrev pub solution_of : Result Certificate OptFault → Solution
 solution_of (Ok certificate) = Certified certificate
 solution_of (Err fault) = Refused (optimize_fault_answer fault)
 
--- by a solver that is attached
+-- in a state with a solver attached
 abbrev pub SolvesAttached : CacheState → Solution → Type 0
 SolvesAttached s solution =
     (given : Result Certificate OptFault) × IsOptimized s pivots given
     × (solution ≡ solution_of given)
 
--- once one was attached, or was not
+-- after one was attached, or was not
 abbrev pub SolvesAfter : Result ℕ AttachFault → CacheState → Solution → Type 0
 SolvesAfter (Ok leaves) s solution = SolvesAttached s solution
 SolvesAfter (Err fault) s solution = solution ≡ Refused (attach_fault_answer fault)
 
+-- in any state, of which the next one is left
 abbrev pub Solves : CacheState → CacheState → Solution → Type 0
 Solves old new solution =
     (made : Result ℕ AttachFault) × IsAttached old made new × SolvesAfter made new solution

@@ -1,5 +1,4 @@
--- What is answered to a model that is solved, where memory may run out; and that it is no fault of
--- the shelf.
+-- What is answered to a model that is solved: by its solution, and never a fault of the shelf.
 use Rattle.std.specs.Prelude.{◌≡◌, ℕ, None, Result, Ok, Err, IfOk}
 use Rattle.std.proofs.Common.{subst, sym}
 use Rattle.std.proofs.lemmas.Result.{IfOk-weaker}
@@ -15,7 +14,7 @@ use Rattle.model_command.specs.declared.solving.Solution.{Solution}
 use Rattle.model_command.specs.declared.solving.Solution.TheVariants.{Certified, Refused}
 use Rattle.report_core.specs.declared.answer.Answer.{Answer}
 
--- a solution of this form is answered
+-- by the solution, where memory may run out
 pub says_solution : {given solution : Solution} (says : Certificate → Answer → Type 0)
     (told : Result Answer NoMemory) (old new : CacheState) → Solves old new given
     → given ≡ solution → IfOk told (SaysSolution says solution) → IfOk told (SaysSolved says old)

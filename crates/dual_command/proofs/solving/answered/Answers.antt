@@ -16,16 +16,16 @@ told-requires-clause-valid g c =
 pub told-requires-clause-good : goal.told-requires-clause-good
 told-requires-clause-good g c =
     subst (λ m. Good m c.in-Certified.certificate) c.requires
-    (subst (IsGoodSolution (model_in c.args.cache.now)) c.in-Certified.is c.in_ok-solve.ensures.good)
+    (subst (IsGoodSolution (model_in c.args.cache.now)) c.in-Certified.is c.in_ok-certificate.ensures.good)
 
 pub returns-in-Certified : goal.returns-in-Certified
 returns-in-Certified g c =
     says_solution (SaysDualCertificate c.args.model.now.model) c.told.result
-    (state_of c.args.cache.now) (state_of c.solve.new.cache) c.in_ok-solve.ensures.solves
+    (state_of c.args.cache.now) (state_of c.solve.new.cache) c.in_ok-certificate.ensures.solves
     c.in-Certified.is c.told.ensures
 
 pub returns-in-Refused : goal.returns-in-Refused
 returns-in-Refused g c =
     says_solution (SaysDualCertificate c.args.model.now.model) (Ok c.in-Refused.refused)
-    (state_of c.args.cache.now) (state_of c.solve.new.cache) c.in_ok-solve.ensures.solves
+    (state_of c.args.cache.now) (state_of c.solve.new.cache) c.in_ok-certificate.ensures.solves
     c.in-Refused.is refl

@@ -17,17 +17,17 @@ pub told-requires-clause-good : goal.told-requires-clause-good
 told-requires-clause-good g c =
     let same = ap (λ (s : StoredModel). s.model) c.model.ensures.value ∙ c.solve.ensures.model in
     subst (λ m. Good m c.in-Certified.certificate) (sym same)
-    (subst (IsGoodSolution (model_in c.args.cache.now)) c.in-Certified.is c.in_ok-solve.ensures.good)
+    (subst (IsGoodSolution (model_in c.args.cache.now)) c.in-Certified.is c.in_ok-certificate.ensures.good)
 
 pub returns-in-Certified : goal.returns-in-Certified
 returns-in-Certified g c = λ model from.
     let same = ap (λ (s : StoredModel). s.model) c.model.ensures.value ∙ c.solve.ensures.model in
     says_solution (SaysRelaxedCertificate model) c.told.result (state_of c.args.cache.now)
-    (state_of c.solve.new.cache) c.in_ok-solve.ensures.solves c.in-Certified.is
+    (state_of c.solve.new.cache) c.in_ok-certificate.ensures.solves c.in-Certified.is
     (c.told.ensures model (subst (IsRelaxedFrom model) (sym same) from))
 
 pub returns-in-Refused : goal.returns-in-Refused
 returns-in-Refused g c = λ model from.
     says_solution (SaysRelaxedCertificate model) (Ok c.in-Refused.refused)
-    (state_of c.args.cache.now) (state_of c.solve.new.cache) c.in_ok-solve.ensures.solves
+    (state_of c.args.cache.now) (state_of c.solve.new.cache) c.in_ok-certificate.ensures.solves
     c.in-Refused.is refl

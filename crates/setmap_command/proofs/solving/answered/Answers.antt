@@ -19,14 +19,14 @@ pub told-requires-clause-good : goal.told-requires-clause-good
 told-requires-clause-good g c =
     let same = ap (λ (s : StoredModel). s.model) c.model.ensures.value ∙ c.solve.ensures.model in
     subst (λ m. Good m c.in-Certified.certificate) (sym same)
-    (subst (IsGoodSolution (model_in c.args.cache.now)) c.in-Certified.is c.in_ok-solve.ensures.good)
+    (subst (IsGoodSolution (model_in c.args.cache.now)) c.in-Certified.is c.in_ok-certificate.ensures.good)
 
 pub returns-in-Certified : goal.returns-in-Certified
 returns-in-Certified g c = λ old stands.
     let same = ap (λ (s : StoredModel). s.model) c.model.ensures.value ∙ c.solve.ensures.model in
     says_solution (SaysMappedCertificate old c.args.rows.now (model_in c.args.cache.now))
     c.told.result (state_of c.args.cache.now) (state_of c.solve.new.cache)
-    c.in_ok-solve.ensures.solves c.in-Certified.is
+    c.in_ok-certificate.ensures.solves c.in-Certified.is
     (subst (λ m. IfOk c.told.result (SaysMappedCertificate old c.args.rows.now m
     c.in-Certified.certificate)) same
     (c.told.ensures old (subst (StandsFor old (uses_in old c.args.rows.now)) (sym same) stands)))
@@ -35,4 +35,4 @@ pub returns-in-Refused : goal.returns-in-Refused
 returns-in-Refused g c = λ old stands.
     says_solution (SaysMappedCertificate old c.args.rows.now (model_in c.args.cache.now))
     (Ok c.in-Refused.refused) (state_of c.args.cache.now) (state_of c.solve.new.cache)
-    c.in_ok-solve.ensures.solves c.in-Refused.is refl
+    c.in_ok-certificate.ensures.solves c.in-Refused.is refl
