@@ -39,7 +39,7 @@ abbrev pub SolvesAfter : Result ℕ AttachFault → CacheState → Solution → 
 SolvesAfter (Ok leaves) s solution = SolvesAttached s solution
 SolvesAfter (Err fault) s solution = solution ≡ Refused (attach_fault_answer fault)
 
--- in any state, of which the next one is left
+-- in any state, and the state after it
 abbrev pub Solves : CacheState → CacheState → Solution → Type 0
 Solves old new solution =
     (made : Result ℕ AttachFault) × IsAttached old made new × SolvesAfter made new solution
