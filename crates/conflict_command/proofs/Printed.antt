@@ -7,7 +7,7 @@ use Rattle.certificates.specs.declared.certificate.Certificate.{Certificate}
 use Rattle.certificates.specs.declared.certificate.Certificate.TheVariants.{Infeasible, Optimal, Unbounded}
 use Rattle.conflict_command.specs.Says.{SaysFound}
 use Rattle.conflict_command.specs.Text.{conflict_text, feasible_text, found_text, rows_text, without_text}
-use Rattle.model_conflict.specs.Conflict.{ShowsFound, conflict_of, rows_of}
+use Rattle.model_conflict.specs.Conflict.{ShowsFound, rows_of}
 use Rattle.model_conflict.specs.Walk.{NamesRows}
 use Rattle.model_conflict.specs.declared.found.Found.{Found}
 use Rattle.model_conflict.specs.declared.found.Found.TheVariants.{Conflict, Feasible}

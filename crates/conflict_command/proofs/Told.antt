@@ -1,5 +1,5 @@
 -- What is answered to what is found, and to the model of a file.
-use Rattle.std.proofs.Common.{◌≡◌, ◌≢◌, ◌+◌, ◌≤◌, List, ℕ, ap, arith, length, subst, sym, ◌∙◌, Ok, Err}
+use Rattle.std.proofs.Common.{◌≡◌, ◌≢◌, ◌+◌, ◌≤◌, List, ℕ, arith, length, subst, sym, Ok, Err}
 use Rattle.std.proofs.lemmas.Result.{IfOk-weaker}
 use Rattle.std.specs.Prelude.{IfOk, Result}
 use Rattle.std.specs.Result.{result_unwrap_or}
@@ -8,13 +8,14 @@ use Rattle.cache_layer.specs.declared.fault.OptFault.{OptFault}
 use Rattle.certificates.specs.Points.{variables_of}
 use Rattle.conflict_command.proofs.Printed.{says_found}
 use Rattle.conflict_command.proofs.Room.{file_in_step}
-use Rattle.conflict_command.specs.Says.{SaysOfConflict, SaysSought, pivots}
+use Rattle.conflict_command.specs.Says.{SaysOfConflict, SaysSought}
 use Rattle.conflict_command.specs.Text.{found_text}
 use Rattle.file_command.specs.Loading.{IsModelOf}
 use Rattle.fresh_bridging.specs.TheRules.{Setting}
 use Rattle.io_face.specs.Told.{Told}
 use Rattle.lists.specs.declared.memory.Memory.{Memory as NoMemory}
 use Rattle.model_command.specs.Alone.{alone}
+use Rattle.model_command.specs.Solved.{pivots}
 use Rattle.model_command.specs.Telling.{optimize_fault_answer}
 use Rattle.model_conflict.specs.Conflict.{ShowsFound}
 use Rattle.model_conflict.specs.Walk.{Finds, NamesRows}

@@ -11,6 +11,7 @@ use Rattle.conflict_command.specs.Text.{conflict_text, feasible_text}
 use Rattle.model_command.specs.Telling.{attach_fault_answer, optimize_fault_answer}
 use Rattle.fresh_bridging.specs.TheRules.{Setting}
 use Rattle.model_command.specs.Alone.{alone}
+use Rattle.model_command.specs.Solved.{pivots}
 use Rattle.model_conflict.specs.Conflict.{IsConflict, NeededRow, conflict_of, rows_of}
 use Rattle.model_conflict.specs.Walk.{Finds}
 use Rattle.model_conflict.specs.declared.found.Found.{Found}
@@ -19,9 +20,6 @@ use Rattle.report_core.specs.declared.answer.Answer.{Answer}
 use Rattle.report_core.specs.declared.answer.Answer.TheVariants.{Printed}
 use Rattle.user_model.specs.Model.{ModelValue}
 use Rattle.user_model.specs.declared.objective.Objective.TheVariants.{Feasibility}
-
-abbrev pub pivots : ℕ
-pivots = 100000
 
 -- a feasible point or a conflict, in the model's names; or a refusal, why neither is found
 abbrev pub SaysFound : ModelValue → Result Found OptFault → Answer → Type 0

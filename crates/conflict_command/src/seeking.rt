@@ -9,14 +9,11 @@ use crate::printing::tell_found;
 use bridge_face::Bridge;
 use cache_layer::{Cache, EditFault};
 use lists::Memory;
-use model_command::{tell_attach, tell_optimize};
+use model_command::{PIVOTS, tell_attach, tell_optimize};
 use model_conflict::find_in;
 use report_core::Answer;
 use std::alloc::Global;
 use user_model::Edit;
-
-/// The most pivots of an optimise.
-const PIVOTS: u64 = 100_000;
 
 /// What is answered to a model with no solver attached, whose objective is dropped and to which one
 /// is attached then. The cache is lent, so that it is freed once.

@@ -1,15 +1,12 @@
 -- What is answered to a dual that is solved.
 use Rattle.std.proofs.Common.{◌≡◌, ◌∙◌, ℕ, suc, ◌+◌, List, [], ◌∷◌, ap, ap₂, flat_map, length, length-append, refl, subst, sym, Ok, Err}
 use Rattle.std.specs.Prelude.{IfOk, Result}
-use Rattle.cache_layer.specs.Answers.{IsAttached}
-use Rattle.cache_layer.specs.Outcome.{IsOptimized}
+use Rattle.std.proofs.lemmas.Result.{IfOk-weaker}
 use Rattle.cache_layer.specs.CacheState.{CacheState}
-use Rattle.cache_layer.specs.declared.fault.AttachFault.{AttachFault}
-use Rattle.cache_layer.specs.declared.fault.OptFault.{OptFault}
 use Rattle.certificates.specs.Good.{IsOptimal, IsUnbounded}
 use Rattle.certificates.specs.declared.certificate.Certificate.{Certificate}
 use Rattle.certificates.specs.declared.certificate.Certificate.TheVariants.{Infeasible, Unbounded}
-use Rattle.dual_command.specs.Says.{NoneRight, SaysCarried, SaysDual, SaysDualCertificate, SaysDualOptimized, SaysDualSolved, pivots}
+use Rattle.dual_command.specs.Says.{NoneRight, SaysCarried, SaysDual, SaysDualCertificate}
 use Rattle.dual_command.specs.Text.{duals_text, file_line, none_text, unbounded_text}
 use Rattle.dual_command.specs.declared.command.Task.{Task}
 use Rattle.dual_command.specs.declared.command.Task.TheVariants.{Solve, Write}
@@ -25,7 +22,7 @@ use Rattle.file_answers.specs.FileAnswers.{refused}
 use Rattle.fresh_bridging.specs.TheRules.{Setting}
 use Rattle.lists.specs.declared.memory.Memory.{Memory as NoMemory}
 use Rattle.model_command.specs.Alone.{alone}
-use Rattle.model_command.specs.Telling.{attach_fault_answer, optimize_fault_answer}
+use Rattle.model_command.specs.Solved.{SaysSolved}
 use Rattle.ratio_core.specs.Rational.{Rational}
 use Rattle.report_core.specs.declared.answer.Answer.{Answer}
 use Rattle.report_core.specs.declared.answer.Answer.TheVariants.{Printed}
@@ -35,50 +32,13 @@ use Rattle.user_model.specs.Edited.{numbered_from}
 use Rattle.user_model.specs.Model.{ModelValue}
 use Rattle.user_model.specs.declared.group.Group.{Group}
 
--- what holds of an answer, if there is one
-if_told : (P Q : Answer → Type 0) (told : Result Answer NoMemory)
-    → ((answer : Answer) → P answer → Q answer) → IfOk told P → IfOk told Q
-if_told P Q (Ok answer) h p = h answer p
-if_told P Q (Err e) h p = tt
-
 module _ (model : ModelValue) (told : Result Answer NoMemory) where
-  -- ---- the certificate
-
-  pub says_given : (s : CacheState) (c : Certificate) → IsOptimized s pivots (Ok c)
-      → IfOk told (SaysDualCertificate model c) → IfOk told (SaysDualOptimized model s)
-  says_given s c outcome =
-      if_told (SaysDualCertificate model c) (SaysDualOptimized model s) told
-      (λ answer said. (Ok c, outcome, said))
-
-  pub says_not_given : (s : CacheState) (fault : OptFault) → IsOptimized s pivots (Err fault)
-      → IfOk told (λ answer. answer ≡ optimize_fault_answer fault)
-      → IfOk told (SaysDualOptimized model s)
-  says_not_given s fault outcome =
-      if_told (λ answer. answer ≡ optimize_fault_answer fault) (SaysDualOptimized model s) told
-      (λ answer said. (Err fault, outcome, said))
-
-  -- ---- the solver
-
-  pub says_attached : (old after : CacheState) (n : ℕ) → IsAttached old (Ok n) after
-      → IfOk told (SaysDualOptimized model after) → IfOk told (SaysDualSolved model old)
-  says_attached old after n is =
-      if_told (SaysDualOptimized model after) (SaysDualSolved model old) told
-      (λ answer said. (Ok n, after, is, said))
-
-  pub says_unattached : (old after : CacheState) (fault : AttachFault)
-      → IsAttached old (Err fault) after
-      → IfOk told (λ answer. answer ≡ attach_fault_answer fault)
-      → IfOk told (SaysDualSolved model old)
-  says_unattached old after fault is =
-      if_told (λ answer. answer ≡ attach_fault_answer fault) (SaysDualSolved model old) told
-      (λ answer said. (Err fault, after, is, said))
-
   -- the dual alone
   pub says_alone : (s : CacheState) (setting : Setting) (dual : ModelValue) → s ≡ alone setting dual
-      → dual ≡ dual_of_model model → IfOk told (SaysDualSolved model s)
+      → dual ≡ dual_of_model model → IfOk told (SaysSolved (SaysDualCertificate model) s)
       → IfOk told (SaysDual model setting Solve)
   says_alone s setting dual is same =
-      subst (λ t. IfOk told (SaysDualSolved model t)) (is ∙ ap (alone setting) same)
+      subst (λ t. IfOk told (SaysSolved (SaysDualCertificate model) t)) (is ∙ ap (alone setting) same)
 
   -- ---- the task
 
@@ -101,8 +61,8 @@ module _ (model : ModelValue) (told : Result Answer NoMemory) where
       → IfOk told (λ answer. answer ≡ Printed none_text) → IfOk told (SaysDualCertificate model c)
   says_none c gap rows vars is none h =
       subst (λ d. IfOk told (SaysDualCertificate model d)) (sym is)
-      (if_told (λ answer. answer ≡ Printed none_text)
-      (SaysDualCertificate model (Infeasible gap rows vars)) told (λ answer said. (none, said)) h)
+      (IfOk-weaker told (λ answer. answer ≡ Printed none_text)
+      (SaysDualCertificate model (Infeasible gap rows vars)) (λ answer said. (none, said)) h)
 
   pub says_unbounded : (c : Certificate) (x d : List Rational) → c ≡ Unbounded x d
       → IsUnbounded (dual_of_model model) x d
@@ -110,8 +70,8 @@ module _ (model : ModelValue) (told : Result Answer NoMemory) where
       → IfOk told (SaysDualCertificate model c)
   says_unbounded c x d is ray h =
       subst (λ e. IfOk told (SaysDualCertificate model e)) (sym is)
-      (if_told (λ answer. answer ≡ Printed unbounded_text)
-      (SaysDualCertificate model (Unbounded x d)) told (λ answer said. (ray, said)) h)
+      (IfOk-weaker told (λ answer. answer ≡ Printed unbounded_text)
+      (SaysDualCertificate model (Unbounded x d)) (λ answer said. (ray, said)) h)
 
   -- ---- the way back
 
@@ -121,9 +81,9 @@ module _ (model : ModelValue) (told : Result Answer NoMemory) where
       → IfOk told (λ answer. (c : Result Carried DualFault) × CarriesPoint model x c
       × SaysCarried model value c answer)
   says_uncarried value x place at =
-      if_told (λ answer. answer ≡ refused (Overflow place))
+      IfOk-weaker told (λ answer. answer ≡ refused (Overflow place))
       (λ answer. (c : Result Carried DualFault) × CarriesPoint model x c
-      × SaysCarried model value c answer) told
+      × SaysCarried model value c answer)
       (λ answer said. (Err (dual.Overflow place), at, said))
 
   pub says_best : (value : Rational) (x : List Rational) (carried : Carried)
@@ -135,9 +95,9 @@ module _ (model : ModelValue) (told : Result Answer NoMemory) where
       → IfOk told (λ answer. (c : Result Carried DualFault) × CarriesPoint model x c
       × SaysCarried model value c answer)
   says_best value x carried best is =
-      if_told (λ answer. answer ≡ Printed (duals_text model value carried.rows carried.vars))
+      IfOk-weaker told (λ answer. answer ≡ Printed (duals_text model value carried.rows carried.vars))
       (λ answer. (c : Result Carried DualFault) × CarriesPoint model x c
-      × SaysCarried model value c answer) told
+      × SaysCarried model value c answer)
       (λ answer said. (
         Ok carried,
         is,

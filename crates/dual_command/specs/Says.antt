@@ -7,12 +7,7 @@
 --     NoneRight       what `dual none` says: no duals are right
 --     IsUnbounded     what `dual unbounded` says (certificates): the dual has a feasible point, and
 --                     a ray along which its objective improves
-use Rattle.std.specs.Prelude.{◌≡◌, ℕ, List, Result, Ok, Err}
-use Rattle.cache_layer.specs.Answers.{IsAttached}
-use Rattle.cache_layer.specs.Outcome.{IsOptimized}
-use Rattle.cache_layer.specs.CacheState.{CacheState}
-use Rattle.cache_layer.specs.declared.fault.AttachFault.{AttachFault}
-use Rattle.cache_layer.specs.declared.fault.OptFault.{OptFault}
+use Rattle.std.specs.Prelude.{◌≡◌, List, Result, Ok, Err}
 use Rattle.certificates.specs.Good.{IsUnbounded}
 use Rattle.certificates.specs.declared.certificate.Certificate.{Certificate}
 use Rattle.certificates.specs.declared.certificate.Certificate.TheVariants.{Infeasible, Optimal, Unbounded}
@@ -31,7 +26,7 @@ use Rattle.file_answers.specs.FileAnswers.{refused}
 use Rattle.fresh_bridging.specs.TheRules.{Setting}
 use Rattle.limit_laws.specs.Limits.{IsFull}
 use Rattle.model_command.specs.Alone.{alone}
-use Rattle.model_command.specs.Telling.{attach_fault_answer, optimize_fault_answer}
+use Rattle.model_command.specs.Solved.{SaysSolved}
 use Rattle.model_load.specs.Loads.{after_edits}
 use Rattle.ratio_core.specs.Rational.{Rational}
 use Rattle.report_core.specs.Refused.{refused_of}
@@ -41,10 +36,6 @@ use Rattle.report_core.specs.declared.refused.Place.{Place}
 use Rattle.report_core.specs.declared.refused.Refused.TheVariants.{Overflow}
 use Rattle.user_model.specs.Model.{ModelValue, empty_model}
 use Rattle.user_model.specs.declared.refusal.Refusal.{Refusal}
-
--- the most pivots of an optimise
-abbrev pub pivots : ℕ
-pivots = 100000
 
 -- no duals are right
 abbrev pub NoneRight : ModelValue → Type 0
@@ -72,29 +63,11 @@ module _ (model : ModelValue) where
   SaysDualCertificate (Unbounded x d) answer =
       IsUnbounded (dual_of_model model) x d × (answer ≡ Printed unbounded_text)
 
-  abbrev pub SaysDualGiven : Result Certificate OptFault → Answer → Type 0
-  SaysDualGiven (Ok certificate) answer = SaysDualCertificate certificate answer
-  SaysDualGiven (Err fault) answer = answer ≡ optimize_fault_answer fault
-
-  -- to the dual that a solver is attached to
-  abbrev pub SaysDualOptimized : CacheState → Answer → Type 0
-  SaysDualOptimized s answer =
-      (given : Result Certificate OptFault) × IsOptimized s pivots given × SaysDualGiven given answer
-
-  abbrev pub SaysDualAttached : Result ℕ AttachFault → CacheState → Answer → Type 0
-  SaysDualAttached (Ok leaves) s answer = SaysDualOptimized s answer
-  SaysDualAttached (Err fault) s answer = answer ≡ attach_fault_answer fault
-
-  -- to the dual before one is
-  abbrev pub SaysDualSolved : CacheState → Answer → Type 0
-  SaysDualSolved s answer =
-      (made : Result ℕ AttachFault) × (after : CacheState) × IsAttached s made after
-      × SaysDualAttached made after answer
-
   -- to the dual as a model
   abbrev pub SaysDual : Setting → Task → Answer → Type 0
   SaysDual setting Write answer = answer ≡ Printed (file_line (dual_of_model model))
-  SaysDual setting Solve answer = SaysDualSolved (alone setting (dual_of_model model)) answer
+  SaysDual setting Solve answer =
+      SaysSolved SaysDualCertificate (alone setting (dual_of_model model)) answer
 
 -- ---- what is answered to a model
 

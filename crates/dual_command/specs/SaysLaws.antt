@@ -1,19 +1,18 @@
 -- What is answered to a model is no fault of the shelf.
-use Rattle.std.specs.Prelude.{◌≡◌, ℕ, None, Result, Ok, Err, refl}
-use Rattle.cache_layer.specs.CacheState.{CacheState}
-use Rattle.cache_layer.specs.declared.fault.AttachFault.{AttachFault}
-use Rattle.cache_layer.specs.declared.fault.OptFault.{OptFault}
+use Rattle.std.specs.Prelude.{◌≡◌, None, Result, Ok, Err, refl}
 use Rattle.certificates.specs.declared.certificate.Certificate.{Certificate}
 use Rattle.certificates.specs.declared.certificate.Certificate.TheVariants.{Infeasible, Optimal, Unbounded}
-use Rattle.dual_command.specs.Says.{SaysCarried, SaysDual, SaysDualAttached, SaysDualCertificate, SaysDualGiven, SaysOfDual, full, made, unfit}
+use Rattle.dual_command.specs.Says.{SaysCarried, SaysDual, SaysDualCertificate, SaysOfDual, full, made, unfit}
 use Rattle.dual_command.specs.declared.command.Task.{Task}
 use Rattle.dual_command.specs.declared.command.Task.TheVariants.{Solve, Write}
+use Rattle.dual_model.specs.DualOf.{dual_of_model}
 use Rattle.dualization.specs.declared.carrying.Carried.{Carried}
 use Rattle.dualization.specs.declared.fault.DualFault.{DualFault}
 use Rattle.dualization.specs.declared.fault.DualFault.TheVariants as dual
 use Rattle.file_command.specs.LoadingLaws.{SaysNoFault, same_fault, shelf_fault}
 use Rattle.fresh_bridging.specs.TheRules.{Setting}
-use Rattle.model_command.specs.TellingLaws.{attach_fault, optimize_fault}
+use Rattle.model_command.specs.Alone.{alone}
+use Rattle.model_command.specs.SolvedLaws.{solved_plain}
 use Rattle.ratio_core.specs.Rational.{Rational}
 use Rattle.report_core.specs.declared.answer.Answer.{Answer}
 use Rattle.user_model.specs.Model.{ModelValue}
@@ -31,21 +30,12 @@ module _ (model : ModelValue) (answer : Answer) where
   certificate_plain (Infeasible gap rows vars) h = same_fault answer _ h.1 refl
   certificate_plain (Unbounded x d) h = same_fault answer _ h.1 refl
 
-  given_plain : (given : Result Certificate OptFault) → SaysDualGiven model given answer
-      → shelf_fault answer ≡ None
-  given_plain (Ok c) h = certificate_plain c h
-  given_plain (Err fault) h = same_fault answer _ h (optimize_fault fault)
-
-  attached_plain : (made : Result ℕ AttachFault) (s : CacheState)
-      → SaysDualAttached model made s answer
-      → shelf_fault answer ≡ None
-  attached_plain (Ok leaves) s h = given_plain h.0 h.2
-  attached_plain (Err fault) s h = same_fault answer _ h (attach_fault fault)
-
   dual_plain : (setting : Setting) (task : Task) → SaysDual model setting task answer
       → shelf_fault answer ≡ None
   dual_plain setting Write h = same_fault answer _ h refl
-  dual_plain setting Solve h = attached_plain h.0 h.1 h.3
+  dual_plain setting Solve h =
+      solved_plain (SaysDualCertificate model) answer certificate_plain
+      (alone setting (dual_of_model model)) h
 
 pub says_plain : (setting : Setting) (task : Task) → SaysNoFault (SaysOfDual setting task)
 says_plain setting task model answer (made fits leads h) =

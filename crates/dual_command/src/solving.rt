@@ -1,11 +1,11 @@
 //! The dual of a model solved, and what its answer says of the model.
-ghost use Rattle.std.specs.Prelude.{◌≡◌, [], All, IfOk, IsTrue, false, length};
+ghost use Rattle.std.specs.Prelude.{◌≡◌, [], All, IfOk, IsTrue, length};
 ghost use Rattle.std.specs.Prelude as prelude;
 ghost use Rattle.std.specs.FinMap as finite;
 ghost use Rattle.bridge_set.specs.Bridges.{families_of, occur_once};
 ghost use Rattle.cache_layer.specs.Cached.{model_in, state_of};
 ghost use Rattle.certificates.specs.Good.{Good};
-ghost use Rattle.dual_command.specs.Says.{SaysCarried, SaysDual, SaysDualCertificate, SaysDualOptimized, SaysDualSolved};
+ghost use Rattle.dual_command.specs.Says.{SaysCarried, SaysDual, SaysDualCertificate};
 ghost use Rattle.dual_command.specs.declared.command.Task.TheVariants.{Solve};
 ghost use Rattle.group_numbering.specs.NewGroups.{variable_count};
 ghost use Rattle.dual_model.specs.Carried.{carried_rows, carried_variables};
@@ -15,6 +15,7 @@ ghost use Rattle.dualization.specs.Answers.{CarriesPoint};
 ghost use Rattle.dualization.specs.declared.carrying.Carried.{Carried};
 ghost use Rattle.dualization.specs.declared.fault.DualFault.{DualFault};
 ghost use Rattle.model_command.specs.Alone.{standard_by};
+ghost use Rattle.model_command.specs.Solved.{SaysSolved};
 ghost use Rattle.user_model.specs.Valid.{IsValid};
 
 use crate::printing::{best_duals, printed};
@@ -22,14 +23,11 @@ use bridge_face::Bridge;
 use cache_layer::{Cache, Certificate};
 use dualization::{DualFault, carry};
 use lists::Memory;
-use model_command::{cache_of, tell_attach, tell_optimize};
+use model_command::{Solution, cache_of, solve};
 use model_store::UserModel;
 use ratio_core::{Ratio, Ratios};
 use report_core::{Answer, Refused, refusal};
 use std::alloc::Global;
-
-/// The most pivots that the dual is solved with.
-const PIVOTS: u64 = 100_000;
 
 /// What is answered to the dual of a model, as it is solved.
 pub(crate) fn solved<B: Bridge>(
@@ -46,37 +44,23 @@ pub(crate) fn solved<B: Bridge>(
         (standard_by (prelude.map B.state bridges.items)) Solve) }
 {
     let mut cache = cache_of(alloc, dual, bridges);
-    attached(alloc, model, &mut cache)
+    answered(alloc, model, &mut cache)
 }
 
 // What is answered by a cache of the dual, which is lent so that it is freed once.
-fn attached<B: Bridge>(
+fn answered<B: Bridge>(
     alloc: Global,
     model: &UserModel,
     cache: &mut Cache<B>,
 ) -> Result<Answer, Memory>
     requires { model_in cache.old ≡ dual_of_model model.now.model }
-    ensures { IfOk result (SaysDualSolved model.now.model (state_of cache.old)) }
-{
-    match cache.attach() {
-        Ok(_leaves) => optimized(alloc, model, cache),
-        Err(fault) => tell_attach(alloc, fault),
-    }
-}
-
-fn optimized<B: Bridge>(
-    alloc: Global,
-    model: &UserModel,
-    cache: &Cache<B>,
-) -> Result<Answer, Memory>
-    requires { model_in cache.now ≡ dual_of_model model.now.model }
-    ensures { IfOk result (SaysDualOptimized model.now.model (state_of cache.now)) }
+    ensures { IfOk result (SaysSolved (SaysDualCertificate model.now.model) (state_of cache.old)) }
 {
     // what this ensures: the dual is valid
     let _valid = cache.model().rows();
-    match cache.optimize(PIVOTS) {
-        Ok(certificate) => told(alloc, model, &certificate),
-        Err(fault) => tell_optimize(alloc, fault),
+    match solve(alloc, cache)? {
+        Solution::Certified(certificate) => told(alloc, model, &certificate),
+        Solution::Refused(refused) => Ok(refused),
     }
 }
 

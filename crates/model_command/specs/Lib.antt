@@ -1,3 +1,5 @@
 pub mod Alone
+pub mod Solved
+pub mod SolvedLaws
 pub mod Telling
 pub mod TellingLaws

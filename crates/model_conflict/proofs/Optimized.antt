@@ -39,7 +39,7 @@ module _ (s : CacheState) (pivots : ℕ) where
       good = subst (Good s.model) is.3 good;
     },
   )
-  tells_given certificate (optimum.None duals) out good is = record {
+  tells_given certificate (optimum.Infeasible duals) out good is = record {
     outcome = subst (λ c. IsOptimized s pivots (Ok c)) is out;
     good = subst (Good s.model) is good;
   }

@@ -21,7 +21,7 @@ abbrev pub IsOptimumOf : Certificate → Optimum → Type 0
 IsOptimumOf certificate (optimum.Point x) =
     (value : Rational) × (rows : List (List Rational)) × (vars : List Rational)
     × (certificate ≡ Optimal value x rows vars)
-IsOptimumOf certificate (optimum.None duals) = certificate ≡ infeasible_by duals
+IsOptimumOf certificate (optimum.Infeasible duals) = certificate ≡ infeasible_by duals
 
 -- a feasible point, or duals that show that there is none; or the fault of the optimise, to which a
 -- solver is attached
@@ -29,7 +29,7 @@ abbrev pub TellsOptimum : CacheState → ℕ → Result Optimum OptFault → Typ
 TellsOptimum s pivots (Ok (optimum.Point x)) =
     (value : Rational) × (rows : List (List Rational)) × (vars : List Rational)
     × GivesGood s pivots (Optimal value x rows vars)
-TellsOptimum s pivots (Ok (optimum.None duals)) = GivesGood s pivots (infeasible_by duals)
+TellsOptimum s pivots (Ok (optimum.Infeasible duals)) = GivesGood s pivots (infeasible_by duals)
 TellsOptimum s pivots (Err Memory) = Unit {0}
 TellsOptimum s pivots (Err NotAttached) = ⊥
 TellsOptimum s pivots (Err fault) = IsOptimized s pivots (Err fault)

@@ -1,5 +1,5 @@
 //! The conflict of an attached model.
-ghost use Rattle.std.specs.Prelude.{◌≡◌, ◌≤◌, ◌+◌, IfOk, OnOk, length, map, true};
+ghost use Rattle.std.specs.Prelude.{◌≡◌, IfOk, OnOk, length};
 ghost use Rattle.cache_layer.specs.Cached.{model_in, state_of};
 ghost use Rattle.model_conflict.specs.Conflict.{ShowsFound};
 ghost use Rattle.model_conflict.specs.Steps.{CanWalk};
@@ -49,7 +49,7 @@ fn seek<B: Bridge>(cache: &mut Cache<B>, pivots: u64) -> Result<Found, ConflictF
 {
     match optimize(cache, pivots) {
         Ok(Optimum::Point(x)) => Ok(Found::Feasible { x }),
-        Ok(Optimum::None(duals)) => walk(cache, pivots, duals),
+        Ok(Optimum::Infeasible(duals)) => walk(cache, pivots, duals),
         Err(fault) => Err(fault),
     }
 }

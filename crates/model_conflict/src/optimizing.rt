@@ -22,7 +22,7 @@ pub(crate) struct Duals {
 #[derive(Drop)]
 pub(crate) enum Optimum {
     Point(Ratios),
-    None(Duals),
+    Infeasible(Duals),
 }
 
 /// A feasible point, or duals that show that there is none.
@@ -44,7 +44,11 @@ fn optimum_of(certificate: Certificate) -> Optimum
 {
     match certificate {
         Certificate::Optimal { x, .. } => Optimum::Point(x),
-        Certificate::Infeasible { gap, rows, vars } => Optimum::None(Duals { gap, rows, vars }),
+        Certificate::Infeasible { gap, rows, vars } => Optimum::Infeasible(Duals {
+            gap,
+            rows,
+            vars,
+        }),
         Certificate::Unbounded { .. } => unreachable!(),
     }
 }

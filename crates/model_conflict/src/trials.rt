@@ -108,7 +108,7 @@ fn try_first<B: Bridge>(
     make(cache, trial.delete)?;
     let optimum = optimize(cache, pivots)?;
     match optimum {
-        Optimum::None(duals) => {
+        Optimum::Infeasible(duals) => {
             walked.duals = duals;
             Ok(())
         }

@@ -7,9 +7,10 @@ use Rattle.fresh_bridging.specs.TheRules.{Setting}
 use Rattle.limit_laws.specs.Limits.{LimitsAlone}
 use Rattle.lists.specs.declared.memory.Memory.{Memory as NoMemory}
 use Rattle.model_command.specs.Alone.{alone}
+use Rattle.model_command.specs.Solved.{SaysSolved}
 use Rattle.model_load.specs.Loads.{after_edits}
 use Rattle.model_store.specs.Store.{StoredModel}
-use Rattle.relax_command.specs.Says.{Relaxes, SaysMade, SaysOfRelaxation, SaysRelaxedSolved}
+use Rattle.relax_command.specs.Says.{Relaxes, SaysMade, SaysOfRelaxation, SaysRelaxedCertificate}
 use Rattle.relaxation.specs.Answers.{IsRelaxedFrom}
 use Rattle.relaxation.specs.RelaxedEdits.{relaxed_edits}
 use Rattle.relaxed_model.specs.Relaxed.{relaxed_model}
@@ -51,10 +52,13 @@ module _ (old new : StoredModel) (valid : IsValid old.model) (edits : List Edit)
 pub says_with : (setting : Setting) (old new : StoredModel) (told : Result Answer NoMemory)
     (answer : Answer) → Relaxes old (Ok tt) new
     → ((model : ModelValue) → IsRelaxedFrom model new.model
-    → IfOk told (SaysRelaxedSolved model (alone setting new.model)))
+    → IfOk told (SaysSolved (SaysRelaxedCertificate model) (alone setting new.model)))
     → answer ≡ result_unwrap_or told Memory → answer ≢ Memory
     → SaysOfRelaxation setting old.model answer
 says_with setting old new (Ok a) answer h says is not =
-    subst (λ gave. SaysMade old.model setting gave answer) (sym h.1)
-    (h.0.is, subst (SaysRelaxedSolved old.model (alone setting new.model)) (sym is) (says old.model h.0))
+    subst (λ gave. SaysMade old.model setting gave answer) (sym h.1) (
+      h.0.is,
+      subst (SaysSolved (SaysRelaxedCertificate old.model) (alone setting new.model)) (sym is)
+          (says old.model h.0),
+    )
 says_with setting old new (Err e) answer h says is not = absurd (not is)

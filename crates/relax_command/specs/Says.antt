@@ -1,22 +1,18 @@
 -- What is answered to a model, and what that says of it.
 --
---     SaysOfRelaxation  what is answered, by what the limits of models, the bridging and the solver say of
---                the model's relaxation: a refusal comes exactly where one of them refuses
---     IsLeast    what `relaxed V` says (relaxed_model): the point meets the hard rows, and the numbers
---                that are printed are its violations of the soft rows, in total V. No point that
---                meets the hard rows has a smaller total
-use Rattle.std.specs.Prelude.{◌≡◌, ◌≢◌, ℕ, Result, Ok, Err}
-use Rattle.cache_layer.specs.Answers.{IsAttached}
-use Rattle.cache_layer.specs.Outcome.{IsOptimized}
-use Rattle.cache_layer.specs.CacheState.{CacheState}
-use Rattle.cache_layer.specs.declared.fault.AttachFault.{AttachFault}
-use Rattle.cache_layer.specs.declared.fault.OptFault.{OptFault}
+--     SaysOfRelaxation    what is answered, by what the limits of models, the bridging and the
+--                         solver say of the model's relaxation: a refusal comes exactly where one
+--                         of them refuses
+--     IsLeastMissed       what `relaxed V` says (relaxed_model): the point meets the hard rows, and
+--                         the numbers that are printed are its violations of the soft rows, in
+--                         total V. No point that meets the hard rows has a smaller total
+use Rattle.std.specs.Prelude.{◌≡◌, ◌≢◌, Result, Ok, Err}
 use Rattle.certificates.specs.declared.certificate.Certificate.{Certificate}
 use Rattle.file_answers.specs.FileAnswers.{refused}
 use Rattle.fresh_bridging.specs.TheRules.{Setting}
 use Rattle.limit_laws.specs.Limits.{IsFull}
 use Rattle.model_command.specs.Alone.{alone}
-use Rattle.model_command.specs.Telling.{attach_fault_answer, optimize_fault_answer}
+use Rattle.model_command.specs.Solved.{SaysSolved}
 use Rattle.model_load.specs.Loads.{after_edits}
 use Rattle.model_store.specs.Store.{StoredModel}
 use Rattle.relax_command.specs.Text.{relaxation_text}
@@ -30,10 +26,6 @@ use Rattle.report_core.specs.declared.answer.Answer.TheVariants.{Memory, Printed
 use Rattle.user_model.specs.Model.{ModelValue}
 use Rattle.user_model.specs.declared.refusal.Refusal.{Refusal}
 
--- the most pivots of an optimise
-abbrev pub pivots : ℕ
-pivots = 100000
-
 module _ (model : ModelValue) where
   -- what the certificate of the relaxation says of the model, shown, and printed in its names
   pub record SaysRelaxedCertificate (certificate : Certificate) (answer : Answer) : Type 0 where
@@ -42,29 +34,11 @@ module _ (model : ModelValue) where
     pub shows : ShowsRelaxation model relaxation
     pub prints : answer ≡ Printed (relaxation_text model relaxation)
 
-  abbrev pub SaysRelaxedGiven : Result Certificate OptFault → Answer → Type 0
-  SaysRelaxedGiven (Ok certificate) answer = SaysRelaxedCertificate certificate answer
-  SaysRelaxedGiven (Err fault) answer = answer ≡ optimize_fault_answer fault
-
-  -- to the relaxation that a solver is attached to
-  abbrev pub SaysRelaxedOptimized : CacheState → Answer → Type 0
-  SaysRelaxedOptimized s answer =
-      (given : Result Certificate OptFault) × IsOptimized s pivots given × SaysRelaxedGiven given answer
-
-  abbrev pub SaysRelaxedAttached : Result ℕ AttachFault → CacheState → Answer → Type 0
-  SaysRelaxedAttached (Ok leaves) s answer = SaysRelaxedOptimized s answer
-  SaysRelaxedAttached (Err fault) s answer = answer ≡ attach_fault_answer fault
-
-  -- to the relaxation before one is
-  abbrev pub SaysRelaxedSolved : CacheState → Answer → Type 0
-  SaysRelaxedSolved s answer =
-      (made : Result ℕ AttachFault) × (after : CacheState) × IsAttached s made after
-      × SaysRelaxedAttached made after answer
-
   -- the edits lead to the relaxation, or exceed a limit
   abbrev pub SaysMade : Setting → Result ModelValue Refusal → Answer → Type 0
   SaysMade setting (Ok relaxed) answer =
-      (relaxed ≡ relaxed_model model) × SaysRelaxedSolved (alone setting relaxed) answer
+      (relaxed ≡ relaxed_model model)
+      × SaysSolved SaysRelaxedCertificate (alone setting relaxed) answer
   SaysMade setting (Err refusal) answer = IsFull refusal × (answer ≡ refused (refused_of refusal))
 
 abbrev pub SaysOfRelaxation : Setting → ModelValue → Answer → Type 0

@@ -6,7 +6,8 @@ ghost use Rattle.bridge_set.specs.Bridges.{families_of, occur_once};
 ghost use Rattle.cache_layer.specs.Cached.{model_in, state_of};
 ghost use Rattle.certificates.specs.Good.{Good};
 ghost use Rattle.model_command.specs.Alone.{alone, standard_by};
-ghost use Rattle.relax_command.specs.Says.{SaysRelaxedCertificate, SaysRelaxedOptimized, SaysRelaxedSolved};
+ghost use Rattle.model_command.specs.Solved.{SaysSolved};
+ghost use Rattle.relax_command.specs.Says.{SaysRelaxedCertificate};
 ghost use Rattle.relaxation.specs.Answers.{IsRelaxedFrom};
 ghost use Rattle.user_model.specs.Model.{ModelValue};
 
@@ -14,14 +15,11 @@ use crate::printing::relaxation_text;
 use bridge_face::Bridge;
 use cache_layer::{Cache, Certificate};
 use lists::Memory;
-use model_command::{cache_of, tell_attach, tell_optimize};
+use model_command::{Solution, cache_of, solve};
 use model_store::UserModel;
 use relaxation::relaxation_of;
 use report_core::Answer;
 use std::alloc::Global;
-
-/// The most pivots that the relaxation is solved with.
-const PIVOTS: u64 = 100_000;
 
 /// What is answered to the relaxation of a model, as it is solved.
 pub(crate) fn solved<B: Bridge>(
@@ -33,33 +31,23 @@ pub(crate) fn solved<B: Bridge>(
     requires settled { relaxed.parked ≡ [] }
     requires once { IsTrue (occur_once (families_of (prelude.map B.state bridges.items))) }
     requires kept { All (λ s. s.kept ≡ finite.empty) (prelude.map B.state bridges.items) }
-    ensures { (model : ModelValue) → IsRelaxedFrom model relaxed.model → IfOk result (SaysRelaxedSolved model
+    ensures { (model : ModelValue) → IsRelaxedFrom model relaxed.model
+        → IfOk result (SaysSolved (SaysRelaxedCertificate model)
         (alone (standard_by (prelude.map B.state bridges.items)) relaxed.model)) }
 {
     let mut cache = cache_of(alloc, relaxed, bridges);
-    attached(alloc, &mut cache)
+    answered(alloc, &mut cache)
 }
 
-// What is answered once a solver is attached, or isn't. The cache is lent, so that it is freed once.
-fn attached<B: Bridge>(alloc: Global, cache: &mut Cache<B>) -> Result<Answer, Memory>
+// What is answered by a cache of the relaxation, which is lent so that it is freed once.
+fn answered<B: Bridge>(alloc: Global, cache: &mut Cache<B>) -> Result<Answer, Memory>
     requires { (model : ModelValue) × IsRelaxedFrom model (model_in cache.old) }
     ensures { (model : ModelValue) → IsRelaxedFrom model (model_in cache.old)
-        → IfOk result (SaysRelaxedSolved model (state_of cache.old)) }
+        → IfOk result (SaysSolved (SaysRelaxedCertificate model) (state_of cache.old)) }
 {
-    match cache.attach() {
-        Ok(_leaves) => optimized(alloc, cache),
-        Err(fault) => tell_attach(alloc, fault),
-    }
-}
-
-fn optimized<B: Bridge>(alloc: Global, cache: &Cache<B>) -> Result<Answer, Memory>
-    requires { (model : ModelValue) × IsRelaxedFrom model (model_in cache.now) }
-    ensures { (model : ModelValue) → IsRelaxedFrom model (model_in cache.now)
-        → IfOk result (SaysRelaxedOptimized model (state_of cache.now)) }
-{
-    match cache.optimize(PIVOTS) {
-        Ok(certificate) => told(alloc, cache.model(), certificate),
-        Err(fault) => tell_optimize(alloc, fault),
+    match solve(alloc, cache)? {
+        Solution::Certified(certificate) => told(alloc, cache.model(), certificate),
+        Solution::Refused(refused) => Ok(refused),
     }
 }
 

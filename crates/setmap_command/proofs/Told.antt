@@ -1,11 +1,7 @@
 -- What is answered to the model with the mapped rows.
-use Rattle.std.specs.Prelude.{◌≡◌, ◌≢◌, ℕ, Some, None, Result, Ok, Err, IfOk, OnOk, refl}
+use Rattle.std.specs.Prelude.{◌≡◌, ◌≢◌, Some, None, Result, Ok, Err, IfOk, OnOk, refl}
 use Rattle.std.proofs.Common.{ap, inl, inr, subst, sym, ◌∙◌}
-use Rattle.cache_layer.specs.Answers.{IsAttached}
-use Rattle.cache_layer.specs.Outcome.{IsOptimized}
-use Rattle.cache_layer.specs.CacheState.{CacheState}
-use Rattle.cache_layer.specs.declared.fault.AttachFault.{AttachFault}
-use Rattle.cache_layer.specs.declared.fault.OptFault.{OptFault}
+use Rattle.std.proofs.lemmas.Result.{IfOk-weaker}
 use Rattle.cert_text.specs.Text.{certificate_text}
 use Rattle.certificates.specs.Good.{Good}
 use Rattle.certificates.specs.Points.{variables_of}
@@ -23,21 +19,15 @@ use Rattle.mapped_model.specs.Uses.{uses_in}
 use Rattle.mapped_model.specs.declared.fault.MappingFault.{MappingFault}
 use Rattle.mapped_model.specs.declared.fault.MappingFault.TheVariants as fault
 use Rattle.model_command.specs.Alone.{alone}
-use Rattle.model_command.specs.Telling.{attach_fault_answer, optimize_fault_answer}
+use Rattle.model_command.specs.Solved.{SaysSolved}
 use Rattle.model_store.specs.Store.{StoredModel}
 use Rattle.report_core.specs.declared.answer.Answer.{Answer}
 use Rattle.report_core.specs.declared.answer.Answer.TheVariants.{Printed, ReadFault}
-use Rattle.setmap_command.specs.Says.{SaysBy, SaysFile, SaysMappedGiven, SaysMappedOptimized, SaysMappedSolved, pivots}
+use Rattle.setmap_command.specs.Says.{SaysBy, SaysFile, SaysMappedCertificate}
 use Rattle.setmap_command.specs.SaysLaws.{said_plain}
 use Rattle.setmap_command.specs.Text.{bad_map, fault_answer}
 use Rattle.user_model.specs.Model.{ModelValue}
 use Rattle.user_model.specs.Valid.{IsValid}
-
--- what holds of an answer, if there is one
-if_told : (P Q : Answer → Type 0) (told : Result Answer NoMemory)
-    → ((answer : Answer) → P answer → Q answer) → IfOk told P → IfOk told Q
-if_told P Q (Ok answer) h p = h answer p
-if_told P Q (Err e) h p = tt
 
 module _ (model : ModelValue) (file : MapFile) (new : ModelValue)
     (told : Result Answer NoMemory) where
@@ -47,11 +37,11 @@ module _ (model : ModelValue) (file : MapFile) (new : ModelValue)
       → IsValid new → Good new c → TellsBack file c (Ok back)
       → IfOk told (λ answer. answer
       ≡ Printed (certificate_text (variables_of new.groups) new.rows back))
-      → IfOk told (SaysMappedGiven model file new (Ok c))
+      → IfOk told (SaysMappedCertificate model file new c)
   says_printed c back stands valid good tells =
-      if_told
+      IfOk-weaker told
       (λ answer. answer ≡ Printed (certificate_text (variables_of new.groups) new.rows back))
-      (SaysMappedGiven model file new (Ok c)) told
+      (SaysMappedCertificate model file new c)
       (λ answer is. (
         None,
         tells.0,
@@ -65,50 +55,20 @@ module _ (model : ModelValue) (file : MapFile) (new : ModelValue)
 
   pub says_unfit : (c : Certificate) (reason : MappingFault) → TellsBack file c (Err reason)
       → IfOk told (λ answer. answer ≡ fault_answer reason)
-      → OnOk told (reason ≢ fault.Memory) → IfOk told (SaysMappedGiven model file new (Ok c))
+      → OnOk told (reason ≢ fault.Memory) → IfOk told (SaysMappedCertificate model file new c)
   says_unfit c (fault.BadMaps line) tells = absurd tells
   says_unfit c (fault.BadMap name) tells = absurd tells
   says_unfit c (fault.Refused refusal) tells = absurd tells
   says_unfit c (fault.Overflow row) tells = λ is not.
-      if_told _ (SaysMappedGiven model file new (Ok c)) told (λ answer e. (Some row, tells, e)) is
+      IfOk-weaker told _ (SaysMappedCertificate model file new c)
+      (λ answer e. (Some row, tells, e)) is
   says_unfit c fault.Memory tells = λ is not. by told not
     where
       by : (told : Result Answer NoMemory)
           → OnOk told (fault.Memory ≢ fault.Memory)
-          → IfOk told (SaysMappedGiven model file new (Ok c))
+          → IfOk told (SaysMappedCertificate model file new c)
       by (Ok answer) not = absurd (not refl)
       by (Err e) not = tt
-
-  pub says_given : (s : CacheState) (c : Certificate) → IsOptimized s pivots (Ok c)
-      → IfOk told (SaysMappedGiven model file new (Ok c))
-      → IfOk told (SaysMappedOptimized model file new s)
-  says_given s c outcome =
-      if_told (SaysMappedGiven model file new (Ok c)) (SaysMappedOptimized model file new s) told
-      (λ answer said. (Ok c, outcome, said))
-
-  pub says_not_given : (s : CacheState) (reason : OptFault) → IsOptimized s pivots (Err reason)
-      → IfOk told (λ answer. answer ≡ optimize_fault_answer reason)
-      → IfOk told (SaysMappedOptimized model file new s)
-  says_not_given s reason outcome =
-      if_told (λ answer. answer ≡ optimize_fault_answer reason)
-      (SaysMappedOptimized model file new s) told (λ answer said. (Err reason, outcome, said))
-
-  -- ---- the solver
-
-  pub says_attached : (old after : CacheState) (n : ℕ) → IsAttached old (Ok n) after
-      → IfOk told (SaysMappedOptimized model file new after)
-      → IfOk told (SaysMappedSolved model file new old)
-  says_attached old after n is =
-      if_told (SaysMappedOptimized model file new after) (SaysMappedSolved model file new old) told
-      (λ answer said. (Ok n, after, is, said))
-
-  pub says_unattached : (old after : CacheState) (reason : AttachFault)
-      → IsAttached old (Err reason) after
-      → IfOk told (λ answer. answer ≡ attach_fault_answer reason)
-      → IfOk told (SaysMappedSolved model file new old)
-  says_unattached old after reason is =
-      if_told (λ answer. answer ≡ attach_fault_answer reason) (SaysMappedSolved model file new old) told
-      (λ answer said. (Err reason, after, is, said))
 
 -- ---- the rows
 
@@ -117,14 +77,17 @@ module _ (setting : Setting) (file : MapFile) (old new : StoredModel)
   pub says_mapped : (mapped : MapFile) → MapsRows old file (Ok mapped) new
       → StandsFor old.model (uses_in old.model file) new.model
       → ((model : ModelValue) → StandsFor model (uses_in model mapped) new.model
-      → IfOk told (SaysMappedSolved model mapped new.model (alone setting new.model)))
+      → IfOk told (SaysSolved (SaysMappedCertificate model mapped new.model)
+      (alone setting new.model)))
       → IfOk told (SaysFile setting file old.model)
   says_mapped mapped rows stands solved =
-      if_told (SaysMappedSolved old.model file new.model (alone setting new.model))
-      (SaysFile setting file old.model) told
+      IfOk-weaker told
+      (SaysSolved (SaysMappedCertificate old.model file new.model) (alone setting new.model))
+      (SaysFile setting file old.model)
       (λ answer said. subst (λ o. SaysBy setting file old.model o answer) (sym rows.0.lines)
       (inr (rows.0.maps, (Made new.model, rows.2, said))))
-      (subst (λ f. IfOk told (SaysMappedSolved old.model f new.model (alone setting new.model))) rows.1
+      (subst (λ f. IfOk told (SaysSolved (SaysMappedCertificate old.model f new.model)
+      (alone setting new.model))) rows.1
       (solved old.model
       (subst (λ f. StandsFor old.model (uses_in old.model f) new.model) (sym rows.1) stands)))
 
@@ -132,18 +95,18 @@ module _ (setting : Setting) (file : MapFile) (old new : StoredModel)
       → IfOk told (λ answer. answer ≡ fault_answer reason)
       → OnOk told (reason ≢ fault.Memory) → IfOk told (SaysFile setting file old.model)
   says_unmapped (fault.BadMaps line) rows = λ is not.
-      if_told _ (SaysFile setting file old.model) told
+      IfOk-weaker told _ (SaysFile setting file old.model)
       (λ answer e. subst (λ o. SaysBy setting file old.model o answer) (sym rows) e) is
   says_unmapped (fault.BadMap name) rows = λ is not.
-      if_told _ (SaysFile setting file old.model) told
+      IfOk-weaker told _ (SaysFile setting file old.model)
       (λ answer e. subst (λ o. SaysBy setting file old.model o answer) (sym rows.0)
       (inl (rows.1.0, rows.1.1, e ∙ ap bad_map rows.1.2))) is
   says_unmapped (fault.Refused refusal) rows = λ is not.
-      if_told _ (SaysFile setting file old.model) told
+      IfOk-weaker told _ (SaysFile setting file old.model)
       (λ answer e. subst (λ o. SaysBy setting file old.model o answer) (sym rows.0.lines)
       (inr (rows.0.maps, (IsRefused refusal, rows.1, e)))) is
   says_unmapped (fault.Overflow row) rows = λ is not.
-      if_told _ (SaysFile setting file old.model) told
+      IfOk-weaker told _ (SaysFile setting file old.model)
       (λ answer e. subst (λ o. SaysBy setting file old.model o answer) (sym rows.0.lines)
       (inr (rows.0.maps, (Exceeds row, rows.1, e)))) is
   says_unmapped fault.Memory rows = λ is not. by told not

@@ -2,12 +2,7 @@
 -- the bridging, the solver and the way back say, and what a printed certificate says: it is good for
 -- the model with the used rows in their cones seen through the maps, and shows what it says of the
 -- points that meet them.
-use Rattle.std.specs.Prelude.{◌≡◌, ◌⊎◌, ℕ, List, All, Option, Some, None, Result, Ok, Err}
-use Rattle.cache_layer.specs.Answers.{IsAttached}
-use Rattle.cache_layer.specs.Outcome.{IsOptimized}
-use Rattle.cache_layer.specs.CacheState.{CacheState}
-use Rattle.cache_layer.specs.declared.fault.AttachFault.{AttachFault}
-use Rattle.cache_layer.specs.declared.fault.OptFault.{OptFault}
+use Rattle.std.specs.Prelude.{◌≡◌, ◌⊎◌, ℕ, List, All, Option, Some, None}
 use Rattle.cert_text.specs.Text.{certificate_text}
 use Rattle.certificates.specs.declared.certificate.Certificate.{Certificate}
 use Rattle.certificates.specs.Points.{variables_of}
@@ -23,16 +18,12 @@ use Rattle.mapped_model.specs.Stands.{StandsFor}
 use Rattle.mapped_model.specs.Tells.{TakesFrom, taken_from}
 use Rattle.mapped_model.specs.Uses.{IsFirstBad, IsMap, uses_in, wrong_line}
 use Rattle.model_command.specs.Alone.{alone}
-use Rattle.model_command.specs.Telling.{attach_fault_answer, optimize_fault_answer}
+use Rattle.model_command.specs.Solved.{SaysSolved}
 use Rattle.report_core.specs.Refused.{refused_of}
 use Rattle.report_core.specs.declared.answer.Answer.{Answer}
 use Rattle.report_core.specs.declared.answer.Answer.TheVariants.{Printed}
 use Rattle.setmap_command.specs.Text.{bad_map, bad_maps, row_overflow}
 use Rattle.user_model.specs.Model.{ModelValue}
-
--- the most pivots of an optimise
-abbrev pub pivots : ℕ
-pivots = 100000
 
 -- the model is one with the mapped rows
 abbrev pub StandsForMapped : MapFile → ModelValue → Type 0
@@ -51,30 +42,17 @@ module _ (model : ModelValue) (file : MapFile) (new : ModelValue) where
       × (answer ≡ Printed
       (certificate_text (variables_of new.groups) new.rows (taken_from file c)))
 
-  abbrev pub SaysMappedGiven : Result Certificate OptFault → Answer → Type 0
-  SaysMappedGiven (Ok c) answer =
+  abbrev pub SaysMappedCertificate : Certificate → Answer → Type 0
+  SaysMappedCertificate c answer =
       (exceeds : Option (List ℕ)) × TakesFrom file c exceeds × SaysBack c exceeds answer
-  SaysMappedGiven (Err fault) answer = answer ≡ optimize_fault_answer fault
-
-  abbrev pub SaysMappedOptimized : CacheState → Answer → Type 0
-  SaysMappedOptimized s answer =
-      (given : Result Certificate OptFault) × IsOptimized s pivots given × SaysMappedGiven given answer
-
-  abbrev pub SaysMappedAttached : Result ℕ AttachFault → CacheState → Answer → Type 0
-  SaysMappedAttached (Ok leaves) s answer = SaysMappedOptimized s answer
-  SaysMappedAttached (Err fault) s answer = answer ≡ attach_fault_answer fault
-
-  abbrev pub SaysMappedSolved : CacheState → Answer → Type 0
-  SaysMappedSolved s answer =
-      (made : Result ℕ AttachFault) × (after : CacheState) × IsAttached s made after
-      × SaysMappedAttached made after answer
 
 -- ---- to a model and what its maps say
 
 module _ (setting : Setting) (file : MapFile) (model : ModelValue) where
   -- the model with the mapped rows, or why there is none
   abbrev pub SaysMapped : Mapped → Answer → Type 0
-  SaysMapped (Made new) answer = SaysMappedSolved model file new (alone setting new) answer
+  SaysMapped (Made new) answer =
+      SaysSolved (SaysMappedCertificate model file new) (alone setting new) answer
   SaysMapped (IsRefused refusal) answer = answer ≡ refused (refused_of refusal)
   SaysMapped (Exceeds row) answer = answer ≡ row_overflow row
 

@@ -10,7 +10,8 @@ ghost use Rattle.certificates.specs.Points.{variables_of};
 ghost use Rattle.mapped_model.specs.Stands.{StandsFor};
 ghost use Rattle.mapped_model.specs.Uses.{uses_in};
 ghost use Rattle.model_command.specs.Alone.{alone, standard_by};
-ghost use Rattle.setmap_command.specs.Says.{SaysMappedGiven, SaysMappedOptimized, SaysMappedSolved, StandsForMapped};
+ghost use Rattle.model_command.specs.Solved.{SaysSolved};
+ghost use Rattle.setmap_command.specs.Says.{SaysMappedCertificate, StandsForMapped};
 ghost use Rattle.user_model.specs.Model.{ModelValue};
 ghost use Rattle.user_model.specs.Valid.{IsValid};
 
@@ -20,13 +21,10 @@ use cache_layer::{Cache, Certificate};
 use cert_text::print;
 use lists::Memory;
 use mapped_model::MappedRows;
-use model_command::{cache_of, tell_attach, tell_optimize};
+use model_command::{Solution, cache_of, solve};
 use model_store::UserModel;
 use report_core::Answer;
 use std::alloc::Global;
-
-/// The most pivots that a model is solved with.
-const PIVOTS: u64 = 100_000;
 
 /// What is answered to the model with its mapped rows, as it is solved.
 pub(crate) fn solved<B: Bridge>(
@@ -40,41 +38,27 @@ pub(crate) fn solved<B: Bridge>(
     requires once { IsTrue (occur_once (families_of (prelude.map B.state bridges.items))) }
     requires kept { All (λ s. s.kept ≡ finite.empty) (prelude.map B.state bridges.items) }
     ensures { (old : ModelValue) → StandsFor old (uses_in old rows.now) model.model
-        → IfOk result (SaysMappedSolved old rows.now model.model
+        → IfOk result (SaysSolved (SaysMappedCertificate old rows.now model.model)
         (alone (standard_by (prelude.map B.state bridges.items)) model.model)) }
 {
     let mut cache = cache_of(alloc, model, bridges);
-    attached(alloc, rows, &mut cache)
+    answered(alloc, rows, &mut cache)
 }
 
 // What is answered by a cache of the model, which is lent so that it is freed once.
-fn attached<B: Bridge>(
+fn answered<B: Bridge>(
     alloc: Global,
     rows: &MappedRows,
     cache: &mut Cache<B>,
 ) -> Result<Answer, Memory>
     requires { StandsForMapped rows.now (model_in cache.old) }
     ensures { (old : ModelValue) → StandsFor old (uses_in old rows.now) (model_in cache.old)
-        → IfOk result (SaysMappedSolved old rows.now (model_in cache.old) (state_of cache.old)) }
+        → IfOk result (SaysSolved (SaysMappedCertificate old rows.now (model_in cache.old))
+        (state_of cache.old)) }
 {
-    match cache.attach() {
-        Ok(_leaves) => optimized(alloc, rows, cache),
-        Err(fault) => tell_attach(alloc, fault),
-    }
-}
-
-fn optimized<B: Bridge>(
-    alloc: Global,
-    rows: &MappedRows,
-    cache: &Cache<B>,
-) -> Result<Answer, Memory>
-    requires { StandsForMapped rows.now (model_in cache.now) }
-    ensures { (old : ModelValue) → StandsFor old (uses_in old rows.now) (model_in cache.now)
-        → IfOk result (SaysMappedOptimized old rows.now (model_in cache.now) (state_of cache.now)) }
-{
-    match cache.optimize(PIVOTS) {
-        Ok(certificate) => told(alloc, rows, cache.model(), certificate),
-        Err(fault) => tell_optimize(alloc, fault),
+    match solve(alloc, cache)? {
+        Solution::Certified(certificate) => told(alloc, rows, cache.model(), certificate),
+        Solution::Refused(refused) => Ok(refused),
     }
 }
 
@@ -88,7 +72,7 @@ fn told(
     requires stands { StandsForMapped rows.now model.now.model }
     requires good { Good model.now.model certificate }
     ensures { (old : ModelValue) → StandsFor old (uses_in old rows.now) model.now.model
-        → IfOk result (SaysMappedGiven old rows.now model.now.model (prelude.Ok certificate)) }
+        → IfOk result (SaysMappedCertificate old rows.now model.now.model certificate) }
 {
     match rows.take_back(certificate) {
         Ok(certificate) => printed(alloc, model, &certificate),

@@ -78,8 +78,8 @@ returns-in_err-optimum g c = λ row rest first.
     (state_without s row rest trial ready now c.in_ok-make.ensures.ok) c.args.pivots
     c.args.walked.now why now c.args.walked.now c.in_err-optimum.ensures)
 
-pub returns-in-None : goal.returns-in-None
-returns-in-None g c = λ row rest first.
+pub returns-in-Infeasible : goal.returns-in-Infeasible
+returns-in-Infeasible g c = λ row rest first.
     let s = state_of c.args.cache.now in
     let trial = c.in-Ok.trial in
     let ready : IsReady s row rest trial = record {
@@ -91,8 +91,8 @@ returns-in-None g c = λ row rest first.
     } in
     let now = state_of c.make.new.cache in
     out_tried s row rest now (state_without s row rest trial ready now c.in_ok-make.ensures.ok)
-    c.args.pivots c.args.walked.now c.in-None.duals _
-    (subst (λ o. TellsOptimum now c.args.pivots (Ok o)) c.in-None.is c.in_ok-optimum.ensures) refl
+    c.args.pivots c.args.walked.now c.in-Infeasible.duals _
+    (subst (λ o. TellsOptimum now c.args.pivots (Ok o)) c.in-Infeasible.is c.in_ok-optimum.ensures) refl
 
 pub add_again-requires : goal.add_again-requires
 add_again-requires g c =
