@@ -76,6 +76,11 @@ pub item_width : (w : ℕ) (rows : List Row) (i : ℕ) (d item : Row) → AreSpa
 item_width w rows i d item wide b is =
     ap (λ (x : Row). width_of x.now) is ∙ row_wide w rows i d wide b
 
+pub may_leave_is : (rows : List Row) (q i : ℕ) → i < length rows → IsTrue (may_leave rows q i)
+    → IsSparseCandidate rows q i
+may_leave_is rows q i b t =
+    record { within = b; above = lt_from_test zero_ℚ (number_in_row rows i q) t }
+
 -- ---- the best so far, and a row that passes the test
 
 pub better_some : (test : ℕ → Bool) (before : ℕ → ℕ → Bool) (best : Option ℕ) (i k : ℕ) (t : Bool)

@@ -8,7 +8,7 @@ use Rattle.std.proofs.lemmas.Nat.Bits.{bit_at-lt, bit_at-zero, bit_at_or}
 use Rattle.simplex_laws.specs.BoundedSumLaws.{same_or_other}
 use Rattle.whole_rows.specs.Bits.{IsBitCleared, IsLowestBit}
 use Rattle.whole_rows.proofs.BitSteps.{IsRest, one_zero, rest_next}
-use Rattle.sparse_board.specs.Words.{AreJoined, Clears}
+use Rattle.sparse_board.specs.Words.{AreJoined, Clears, Leaves}
 
 -- ---- the lowest of the bits that are left
 
@@ -146,6 +146,51 @@ module _ (P : ℕ → Type 0) (n start word kept bit : ℕ) (h : AreLookedTo P n
       where
         end_lem : (k s n e b : ℕ) → k < 64 → s + k < n → s ≤ n → e ≡ min 64 (n - s) → e ≤ b → k < b
         end_lem k s n e b c d h i p = omega (arith, c, d, h, i, p)
+
+-- the rows with a bit below `bit` that is left have P
+pub record AreLeftTo (P : ℕ → Type 0) (n start kept bit : ℕ) : Type 0 where
+  pub left : (k : ℕ) → k < bit → k < 64 → start + k < n → bit_at kept k ≡ 1 → P (start + k)
+
+pub left_first : (P : ℕ → Type 0) (n start word bit : ℕ)
+    → ((k : ℕ) → 0 ≤ k → k < bit → bit_at word k ≡ 0) → AreLeftTo P n start word bit
+left_first P n start word bit passed = record {
+  left = λ k b c d e. absurd (one_zero (bit_at word k) e (passed k (omega arith) b));
+}
+
+module _ (P Q : ℕ → Type 0) (n start word kept bit : ℕ) (h : AreLeftTo P n start kept bit)
+    (looked : AreLookedTo Q n start word kept bit) where
+  pub left_more : (new next : ℕ) (clears : Bool) → (clears ≡ false → P (start + bit))
+      → (clears ≡ true → bit_at new bit ≡ 0)
+      → ((i : ℕ) → i < 64 → ¬ (i ≡ bit) → bit_at new i ≡ bit_at kept i)
+      → ((k : ℕ) → bit < k → k < next → bit_at word k ≡ 0) → AreLeftTo P n start new next
+  left_more new next clears holds cleared others passed = record {
+    left = λ k b c d e. same_or_other (P (start + k)) k bit
+        (λ g. subst (λ m. P (start + m)) (sym g)
+        (by_test clears refl (subst (λ m. bit_at new m ≡ 1) g e)))
+        (λ m. by_order k b c d e m (cases_lt k bit));
+  }
+    where
+      beyond_lem : (k bit : ℕ) → bit ≤ k → ¬ (k ≡ bit) → bit < k
+      beyond_lem k bit a m = omega (arith, a, m)
+
+      by_test : (t : Bool) → clears ≡ t → bit_at new bit ≡ 1 → P (start + bit)
+      by_test true t e = absurd (one_zero (bit_at new bit) e (cleared t))
+      by_test false t e = holds t
+
+      by_order : (k : ℕ) → k < next → k < 64 → start + k < n → bit_at new k ≡ 1 → ¬ (k ≡ bit)
+          → (k < bit) ⊎ (bit ≤ k) → P (start + k)
+      by_order k b c d e m (inl l) = h.left k l c d (sym (others k c m) ∙ e)
+      by_order k b c d e m (inr l) =
+          absurd (one_zero (bit_at new k) e (others k c m ∙ looked.same k l c
+          ∙ passed k (beyond_lem k bit l m) b))
+
+  pub left_all : (end : ℕ) → start ≤ n → end ≡ min 64 (n - start) → end ≤ bit
+      → Leaves P n start kept
+  left_all end within is past k b c e =
+      h.left k (end_lem k start n end bit b c within is past) b c e
+    where
+      end_lem : (k s n e b : ℕ) → k < 64 → s + k < n → s ≤ n → e ≡ min 64 (n - s) → e ≤ b → k < b
+      end_lem k s n e b c d h i p = omega (arith, c, d, h, i, p)
 
 -- what a bit that isn't set says of its row, of the rows between two bits that are set
 pub between_bits : (P : ℕ → Type 0) (n start word bit next end : ℕ) → start ≤ n

@@ -17,3 +17,8 @@ pub record AreJoined (from to n : ℕ) (old new : List ℕ) : Type 0 where
 abbrev pub Clears : (ℕ → Type 0) → ℕ → ℕ → ℕ → ℕ → Type 0
 Clears P n start word kept =
     (k : ℕ) → k < 64 → start + k < n → bit_at word k ≡ 1 → bit_at kept k ≡ 0 → P (start + k)
+
+-- of the rows from `start` on, below n, those whose bits of a word are set have P
+abbrev pub Leaves : (ℕ → Type 0) → ℕ → ℕ → ℕ → Type 0
+Leaves P n start word =
+    (k : ℕ) → k < 64 → start + k < n → bit_at word k ≡ 1 → P (start + k)

@@ -8,7 +8,7 @@ ghost use Rattle.sparse_board.specs.Leaving.{IsBestTo, IsSparseCandidate, leaves
 ghost use Rattle.sparse_board.specs.Mixed.{number_of, width_of};
 ghost use Rattle.sparse_board.specs.Marking.{AreNumbersMarked};
 ghost use Rattle.sparse_board.specs.Rows.{AreSparseRowsWide};
-ghost use Rattle.sparse_board.specs.Words.{Clears};
+ghost use Rattle.sparse_board.specs.Words.{Clears, Leaves};
 ghost use Rattle.std.specs.Int.{bit_at};
 ghost use Rattle.whole_rows.specs.Rows as whole;
 
@@ -56,7 +56,9 @@ fn positive_bits(rows: &[Row], side: usize, q: usize, start: usize, word: u64) -
     requires wide { AreSparseRowsWide (side + 1) rows.now }
     requires column { q < side }
     requires start { start ≤ length rows.now }
-    ensures { Clears (λ i. may_leave rows.now q i ≡ false) (length rows.now) start word result }
+    ensures clears { Clears (λ i. may_leave rows.now q i ≡ false) (length rows.now) start word
+        result }
+    ensures left { Leaves (λ i. IsTrue (may_leave rows.now q i)) (length rows.now) start result }
 {
     let mut kept = word;
     let end = word_end(rows.len() - start);
@@ -89,6 +91,7 @@ fn leaving_in(
     requires start { start ≤ length rows.now }
     requires others { (k : ℕ) → k < 64 → start + k < length rows.now → bit_at word k ≡ 0
         → may_leave rows.now q (start + k) ≡ false }
+    requires left { Leaves (λ i. IsTrue (may_leave rows.now q i)) (length rows.now) start word }
     requires first { IsBestTo rows.now basis.now side q start first }
     ensures { IsBestTo rows.now basis.now side q (min (start + 64) (length rows.now)) result }
 {
@@ -107,7 +110,7 @@ fn leaving_in(
     best
 }
 
-// Whether row i leaves before the best so far.
+// Whether row i, which may leave, does so before the best so far.
 fn leaves_first(
     rows: &[Row],
     basis: &[usize],
@@ -120,17 +123,14 @@ fn leaves_first(
     requires column { q < side }
     requires basis { length basis.now ≡ length rows.now }
     requires row { i < length rows.now }
+    requires may_leave { IsTrue (may_leave rows.now q i) }
     requires best { IfSome best (λ k. IsSparseCandidate rows.now q k) }
     ensures value { better_of (may_leave rows.now q) (leaves_before rows.now basis.now side q) best i
         ≡ (if result then Some i else best) }
     ensures candidate { IsTrue result → IsSparseCandidate rows.now q i }
 {
-    let row = &rows[i];
-    if !is_entry_positive(&row.now, q) {
-        return false;
-    }
     match best {
-        Some(k) => leaves_sooner(row, &rows[k], side, q, basis[i] < basis[k]),
+        Some(k) => leaves_sooner(&rows[i], &rows[k], side, q, basis[i] < basis[k]),
         None => true,
     }
 }

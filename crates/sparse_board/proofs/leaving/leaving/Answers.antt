@@ -41,7 +41,11 @@ pub leaving_in-best-requires-clause-others : goal.leaving_in-best-requires-claus
 leaving_in-best-requires-clause-others c =
     cleared_none c.args.rows.now c.args.marks.now (c.args.side + 1) c.args.q c.loop-k.k
     c.word.result c.positive_bits-word.result c.requires.marked
-    (omega (arith, c.requires.column)) c.requires.count c.word.ensures c.positive_bits-word.ensures
+    (omega (arith, c.requires.column)) c.requires.count c.word.ensures
+    c.positive_bits-word.ensures.clears
+
+pub leaving_in-best-requires-clause-left : goal.leaving_in-best-requires-clause-left
+leaving_in-best-requires-clause-left c = c.positive_bits-word.ensures.left
 
 pub leaving_in-best-requires-clause-first : goal.leaving_in-best-requires-clause-first
 leaving_in-best-requires-clause-first c =

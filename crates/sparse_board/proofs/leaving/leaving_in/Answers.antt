@@ -30,6 +30,16 @@ loop-bit-smaller c =
       c.word_end-end.ensures,
     )
 
+-- the row of a bit that is set may leave
+pub leaves_first-requires-clause-may_leave : goal.leaves_first-requires-clause-may_leave
+leaves_first-requires-clause-may_leave c =
+    let small : c.loop-bit.bit < 64 =
+    omega (arith, c.loop-bit-test.true, c.word_end-end.ensures) in
+    c.requires.left c.loop-bit.bit small
+    (omega (arith, c.loop-bit-test.true, c.word_end-end.ensures))
+    (sym (c.loop-bit.invariant.next.left.same c.loop-bit.bit (omega arith))
+    ∙ c.loop-bit.invariant.next.set small)
+
 none_lem : (s e : ℕ) → s ≡ s + min 0 e
 none_lem s e = omega arith
 
