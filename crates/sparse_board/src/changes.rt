@@ -150,7 +150,7 @@ fn change_count(is_zero: bool, is_own: bool) -> usize
     ensures none { result ≡ 0 → is_zero ≡ false → IsTrue is_own }
     ensures one { result ≡ 1 → is_own ≡ false }
 {
-    if is_zero || is_own { 0 } else { 1 }
+    !(is_zero | is_own) as usize
 }
 
 // Whether the row's number of column q is 0.

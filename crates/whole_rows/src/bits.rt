@@ -65,5 +65,5 @@ fn bit_if(set: bool) -> u64
     ensures one { IsTrue set → result ≡ 1 }
     ensures none { set ≡ false → result ≡ 0 }
 {
-    if set { 1 } else { 0 }
+    set as u64
 }

@@ -68,7 +68,7 @@ fn nonzero_count(number: i64) -> usize
     ensures none { result ≡ 0 → number ≡ pos 0 }
     ensures one { result ≡ 1 → number ≢ pos 0 }
 {
-    if number != 0 { 1 } else { 0 }
+    (number != 0) as usize
 }
 
 // Lowers the numbers of the listed columns by a multiple of the step's, in place. The row's

@@ -70,7 +70,7 @@ fn marked_count(word: u64) -> usize
     ensures none { result ≡ 0 → word ≡ 0 }
     ensures one { result ≡ 1 → word ≢ 0 }
 {
-    if word != 0 { 1 } else { 0 }
+    (word != 0) as usize
 }
 
 // Marks the columns that another row has marked, whose words with a mark are these.
