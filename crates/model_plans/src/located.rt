@@ -8,6 +8,7 @@ ghost use Rattle.user_model.specs.Refusals.{IsKnown};
 ghost use Rattle.user_model.specs.declared.edit.NamedFunc.TheVariants.{Affine, AffineVec};
 
 use aff_core::{Address, Addresses, Aff, Root, VecAff};
+use lists::Duplicate;
 use model_catalog::Catalog;
 use name_index::{Name, Names};
 use named_aff::{NamedAff, NamedTerm, NamedVec};
@@ -43,7 +44,8 @@ pub(crate) fn affine(alloc: Global, model: &Catalog, func: &NamedAff) -> Result<
     ensures { IfOk result (λ f. f ≡ affine model.now.model func.now) }
 {
     let terms = located_terms(alloc, model, func.terms.as_slice())?;
-    Aff::gather(alloc, &terms, func.constant)
+    // what is gathered has room for more terms, and its copy, which stays, for its own
+    Aff::gather(alloc, &terms, func.constant)?.copy()
 }
 
 fn located_terms(
