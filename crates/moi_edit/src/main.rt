@@ -37,7 +37,10 @@ fn run_by<B: Bridge>(rt: &HostRuntime, words: &[String], bridges: Vec<B>) -> Sta
     requires kept { All (λ s. s.kept ≡ finite.empty) (map B.state bridges.items) }
 {
     let mut session = Session::new(rt.alloc(), bridges);
-    run_on(rt, words, &mut session)
+    let status = run_on(rt, words, &mut session);
+    // By name: what falls at the end of a block is freed there field by field, down to each list.
+    drop(session);
+    status
 }
 
 // The session is lent, so that it is freed once, where nothing else is at hand.
