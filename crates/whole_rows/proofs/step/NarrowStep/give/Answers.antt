@@ -1,4 +1,5 @@
-use Rattle.std.proofs.Common.{map, pos}
+use Rattle.std.proofs.Common.{ap, map, pos}
+use Rattle.whole_rows.specs.Rows.{number_of}
 use Rattle.whole_rows.proofs.ListedSteps.{lists_zeros}
 use Rattle.whole_rows.proofs.step.NarrowStep.give.Goals as goal
 
@@ -11,3 +12,6 @@ pub invariant_of-self-clause-words_list : goal.invariant_of-self-clause-words_li
 invariant_of-self-clause-words_list c =
     lists_zeros c.args.self.now.words.items (map pos c.clear_marked.new.self.marks.items)
     c.clear_marked.ensures.words
+
+pub returns-clause-numbers : goal.returns-clause-numbers
+returns-clause-numbers c = λ j b. ap (λ r. number_of r j) c.swap.ensures.y_after
