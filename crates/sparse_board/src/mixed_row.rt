@@ -110,7 +110,7 @@ impl MixedRow {
             → number_of self.new j ≡ units_of step.old j }
     {
         if step.is_narrow {
-            self.narrow.copy(&step.narrow.row);
+            step.narrow.give(&mut self.narrow);
             self.is_wide = false;
         } else {
             step.is_narrow = true;

@@ -16,5 +16,7 @@ pub mod NotingSteps
 pub mod JoiningSteps
 pub mod MeasuringSteps
 pub mod ListedDividingSteps
+pub mod TakingSteps
+pub mod ClearingSteps
 pub mod CoverSteps
 pub mod CommonSteps

@@ -38,16 +38,20 @@ pub mark_past : (marks : List ℕ) (j : ℕ) → length marks ≤ j / 64 → mar
 mark_past marks j b =
     ap (λ w. bit_at w (j % 64)) (get_or_past marks (j / 64) 0 b) ∙ bit_at-zero (j % 64)
 
+-- words that are cleared
+pub cleared_words : (marks : List ℕ) (n : ℕ) → marks ≡ replicate n 0 → (k : ℕ)
+    → slice_index marks k ≡ 0
+cleared_words marks n zeros k = ap (λ l. slice_index l k) zeros ∙ by_end (cases_lt k n)
+  where
+    by_end : (k < n) ⊎ (n ≤ k) → slice_index (replicate n 0) k ≡ 0
+    by_end (inl b) = get_or-replicate n k 0 0 b
+    by_end (inr b) =
+        get_or_past (replicate n 0) k 0 (subst (λ m. m ≤ k) (sym (length-replicate n 0)) b)
+
 pub cleared_marks : (marks : List ℕ) (n : ℕ) → marks ≡ replicate n 0 → (j : ℕ)
     → mark_of marks j ≡ 0
 cleared_marks marks n zeros j =
-    ap (λ l. mark_of l j) zeros ∙ by_end (cases_lt (j / 64) n)
-  where
-    by_end : (j / 64 < n) ⊎ (n ≤ j / 64) → mark_of (replicate n 0) j ≡ 0
-    by_end (inl b) =
-        ap (λ w. bit_at w (j % 64)) (get_or-replicate n (j / 64) 0 0 b) ∙ bit_at-zero (j % 64)
-    by_end (inr b) =
-        mark_past (replicate n 0) j (subst (λ m. m ≤ j / 64) (sym (length-replicate n 0)) b)
+    ap (λ w. bit_at w (j % 64)) (cleared_words marks n zeros (j / 64)) ∙ bit_at-zero (j % 64)
 
 -- the columns of a word that is read
 pub word_covers : (marks : List ℕ) (numbers : List ℤ) (k word : ℕ) → MarksCover marks numbers

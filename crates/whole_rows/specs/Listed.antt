@@ -12,6 +12,10 @@ pub record ListsNonzeros (columns : List ℕ) (numbers : List ℤ) : Type 0 wher
       ((k : ℕ) → k < length columns → ¬ (slice_index columns k ≡ j)) →
       slice_index_or numbers j (pos 0) ≡ pos 0
 
+-- each number is 0
+abbrev pub AreZeros : List ℤ → Type 0
+AreZeros numbers = (j : ℕ) → slice_index_or numbers j (pos 0) ≡ pos 0
+
 abbrev pub lowered_once : ℤ → ℤ → ℤ → ℤ
 lowered_once N b n = N +ℤ neg_ℤ (b *ℤ n)
 

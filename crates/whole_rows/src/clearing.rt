@@ -1,6 +1,7 @@
 //! A list of numerators that is rebuilt.
 ghost use Rattle.std.specs.Prelude.{◌≡◌, length, pos};
 ghost use Rattle.whole_rows.specs.ColumnMarks.{MarksCover, words_of};
+ghost use Rattle.whole_rows.specs.Listed.{AreZeros, ListsNonzeros};
 ghost use Rattle.whole_rows.specs.Numerators.{AreNumeratorsMade};
 ghost use Rattle.whole_rows.specs.Rows.{numerator_of};
 
@@ -13,6 +14,17 @@ pub(crate) fn clear_numbers(numbers: &mut [i64])
     ensures { AreNumeratorsMade (λ _. pos 0) (length numbers.old) numbers.old numbers.new }
 {
     for j in 0..numbers.len() {
+        numbers[j] = 0;
+    }
+}
+
+// Makes the numbers of the listed columns 0, which are those that aren't.
+pub(crate) fn clear_columns(numbers: &mut [i64], columns: &[u32])
+    requires { ListsNonzeros columns.now numbers.old }
+    ensures { AreZeros numbers.new }
+{
+    for k in 0..columns.len() {
+        let j = columns[k] as usize;
         numbers[j] = 0;
     }
 }

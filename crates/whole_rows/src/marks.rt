@@ -1,6 +1,6 @@
 //! Marks of columns, as bits of words: a row of many columns has few numbers other than 0, and a
 //! number without a mark isn't read.
-ghost use Rattle.std.specs.Prelude.{◌≡◌, ◌≢◌, ◌*◌, ◌/◌, ◌<◌, ◌≤◌, ◌^◌, ℕ, ◌*ℤ◌, length, map, pos, slice_index_or, take, unsigned_abs};
+ghost use Rattle.std.specs.Prelude.{◌≡◌, ◌≢◌, ◌*◌, ◌/◌, ◌<◌, ◌≤◌, ◌^◌, ℕ, ◌*ℤ◌, length, map, pos, slice_index, slice_index_or, take, unsigned_abs};
 ghost use Rattle.whole_rows.specs.ColumnMarks.{AreMarksJoined, AreScaled, IsColumnMarked, IsWordChanged, MarksCover, WordCovers, mark_of, words_of};
 ghost use Rattle.whole_rows.specs.Listed.{ListsNonzeros};
 
@@ -29,6 +29,7 @@ pub(crate) fn mark(marks: &mut [u64], j: usize)
 // Takes all marks away.
 pub(crate) fn clear_marks(marks: &mut [u64])
     ensures long { length marks.new ≡ length marks.old }
+    ensures words { (k : ℕ) → slice_index marks.new k ≡ 0 }
     ensures none { (j : ℕ) → mark_of marks.new j ≡ 0 }
 {
     marks.fill(0);

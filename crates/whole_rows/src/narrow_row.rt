@@ -4,9 +4,9 @@ ghost use Rattle.whole_rows.specs.ColumnMarks.{MarksCover, words_of};
 ghost use Rattle.whole_rows.specs.Numerators.{AreNumeratorsWithin};
 
 use crate::arithmetic::{common_divisor, exact, multiplied, next_bound, next_den, part};
-use crate::clearing::{clear_numbers, copy_marked};
+use crate::clearing::{clear_columns, clear_numbers, copy_marked};
 use crate::dividing::{divide_numbers, greater, measured, quotient, with_sign};
-use crate::listed::{less, lower_listed, note_columns};
+use crate::listed::{less, lower_listed, note_columns, take_columns};
 use crate::marks::{clear_marks, join_marks, mark, scale_numbers, word_count};
 use crate::plan::{Division, LongPlan, LoweringPlan};
 use crate::quotients::inverse_of;
@@ -39,7 +39,7 @@ pub struct NarrowRow {
 
 impl NarrowRow {
     ghost use Rattle.std.specs.Prelude.{◌≢◌, ℕ, IsTrue, false, is_some, map, pos, take, true, unsigned_abs, IfOk, IfSome};
-    ghost use Rattle.whole_rows.specs.Listed.{ListsNonzeros};
+    ghost use Rattle.whole_rows.specs.Listed.{AreZeros, ListsNonzeros};
     ghost use Rattle.whole_rows.specs.Shrinking.{IsLongPlan};
     ghost use Rattle.whole_rows.specs.Rows.{CanLower, IsDivision, IsLoweringPlan, IsNarrowDivided, IsNarrowLowered, IsNarrowReady, can_stay, lowered_by, number_of, numerator_of, stays_narrow, width_of};
 
@@ -312,6 +312,70 @@ impl NarrowRow {
         ensures lists { ListsNonzeros (take result columns.new) self.new.numbers.items }
     {
         note_columns(&self.numbers, &mut self.marks, columns)
+    }
+
+    // Takes the numerators of a row where there are zeros, its right side behind its columns. Notes
+    // the columns of those that aren't 0, and tells how many there are.
+    pub(crate) fn take_row(&mut self, row: &NarrowRow, columns: &mut [u32]) -> usize
+        requires zeros { AreZeros self.old.numbers.items }
+        requires long { width_of self.old ≤ length columns.old }
+        requires few { width_of self.old < 2 ^ 32 }
+        ensures width { width_of self.new ≡ width_of self.old }
+        ensures den { self.new.den ≡ row.now.den }
+        ensures numerators { (j : ℕ) → j ≤ width_of self.old
+            → numerator_of self.new j ≡ numerator_of row.now j }
+        ensures within { result ≤ length columns.new }
+        ensures lists { ListsNonzeros (take result columns.new) self.new.numbers.items }
+    {
+        if self.numbers.len() == row.numbers.len() {
+            return self.take_marked(row, columns);
+        }
+        self.copy(row);
+        self.note(columns)
+    }
+
+    // The same of a row of as many columns: only what it has marked is written.
+    fn take_marked(&mut self, row: &NarrowRow, columns: &mut [u32]) -> usize
+        requires width { width_of row.now ≡ width_of self.old }
+        requires zeros { AreZeros self.old.numbers.items }
+        requires long { width_of self.old ≤ length columns.old }
+        requires few { width_of self.old < 2 ^ 32 }
+        ensures width { width_of self.new ≡ width_of self.old }
+        ensures den { self.new.den ≡ row.now.den }
+        ensures numerators { (j : ℕ) → numerator_of self.new j ≡ numerator_of row.now j }
+        ensures within { result ≤ length columns.new }
+        ensures lists { ListsNonzeros (take result columns.new) self.new.numbers.items }
+    {
+        let used = take_columns(
+            &row.numbers,
+            &row.marks,
+            &mut self.numbers,
+            &mut self.marks,
+            columns,
+        );
+        self.side = row.side;
+        self.den = row.den;
+        self.bound = row.bound;
+        used
+    }
+
+    // Makes the numerators of the listed columns 0, which are those that aren't.
+    pub(crate) fn clear_listed(&mut self, columns: &[u32])
+        requires { ListsNonzeros columns.now self.old.numbers.items }
+        ensures width { width_of self.new ≡ width_of self.old }
+        ensures zeros { AreZeros self.new.numbers.items }
+    {
+        clear_columns(&mut self.numbers, columns);
+    }
+
+    // Makes the numerators 0 where they are marked, and takes the marks away.
+    pub(crate) fn clear_marked(&mut self)
+        ensures width { width_of self.new ≡ width_of self.old }
+        ensures zeros { AreZeros self.new.numbers.items }
+        ensures words { AreZeros (map pos self.new.marks.items) }
+    {
+        scale_numbers(&mut self.numbers, &self.marks, 0);
+        clear_marks(&mut self.marks);
     }
 
     // Divides the row by its number of column q, in lowest terms: what divides all its numerators

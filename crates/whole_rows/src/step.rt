@@ -5,6 +5,7 @@ ghost use Rattle.whole_rows.specs.Listed.{ListsNonzeros};
 use crate::marks::note_words;
 use crate::narrow_row::NarrowRow;
 use std::alloc::{AllocError, Global};
+use std::mem;
 
 /// A row of whole numbers, and the columns where it isn't 0.
 #[derive(Drop)]
@@ -61,9 +62,28 @@ impl NarrowStep {
         ensures divided { (j : ℕ) → j ≤ width_of self.old.row
             → number_of self.new.row j ≡ number_of row.now j /ℚ number_of row.now q }
     {
-        self.row.copy(row);
-        self.used = self.row.note(&mut self.columns);
+        self.row.clear_listed(&self.columns[..self.used]);
+        self.used = self.row.take_row(row, &mut self.columns);
         self.row.divide(&self.columns[..self.used], q);
         self.words_used = note_words(&self.row.marks, &mut self.words);
+    }
+
+    /// Gives its numbers to a row. What it has then means nothing: a row of as many columns is
+    /// exchanged for its own, and made 0, and a row of others gets a copy.
+    #[inline(never)]
+    pub fn give(&mut self, row: &mut NarrowRow)
+        ensures width { width_of row.new ≡ width_of row.old }
+        ensures own_width { width_of self.new.row ≡ width_of self.old.row }
+        ensures numbers { (j : ℕ) → j ≤ width_of row.old
+            → number_of row.new j ≡ number_of self.old.row j }
+    {
+        if self.row.numbers.len() != row.numbers.len() {
+            row.copy(&self.row);
+            return;
+        }
+        mem::swap(&mut self.row, row);
+        self.row.clear_marked();
+        self.used = 0;
+        self.words_used = 0;
     }
 }
