@@ -73,16 +73,23 @@ fn plan_node<R: Rewriter>(
     ensures turns { OnOk result (R.turns rewriter.new + length plan.old.nodes.items
         ≤ R.turns rewriter.old + length plan.new.nodes.items) }
 {
-    let image = rewriter.image(edge, &item)?;
+    let image = match rewriter.image(edge, &item) {
+        Ok(image) => image,
+        Err(fault) => {
+            // By name: freed here, an item would be taken apart by its variants.
+            drop(item);
+            return Err(fault);
+        }
+    };
     let place = plan.nodes.len();
     plan.nodes.push(KeptItem {
         edge: edge_of(edge),
         item,
     })?;
+    let others = further(image.rows, image.objective)?;
     let mut inner = Vec::new(alloc);
     plan_each(alloc, rewriter, plan, &mut inner, image.groups, levels - 1)?;
     let mut standing = Standing::of(alloc, inner)?;
-    let others = further(image.rows, image.objective)?;
     plan_in(alloc, rewriter, plan, &mut standing, others, levels - 1)?;
     let body = &plan.nodes[place].item.body;
     outer_entries(entries, body, image.exprs.as_slice(), &mut standing)
@@ -155,12 +162,22 @@ fn plan_native(plan: &mut Plan, entries: &mut Vec<Entry>, item: Item) -> Result<
     ensures nodes { plan.new.nodes ≡ plan.old.nodes }
     ensures entries { OnOk result (entries.new.items ≡ entries.old.items ++ own_entries item) }
 {
-    match &item.body {
-        Body::Group { vars, .. } | Body::Free { vars } => keep_each(entries, vars.as_slice())?,
-        _ => {}
-    }
+    let Ok(()) = keep_own(entries, &item) else {
+        drop(item);
+        return Err(Memory);
+    };
     plan.leaves.push(item)?;
     Ok(())
+}
+
+// Puts the components of a native group last, each kept.
+fn keep_own(entries: &mut Vec<Entry>, item: &Item) -> Result<(), Memory>
+    ensures { OnOk result (entries.new.items ≡ entries.old.items ++ own_entries item.now) }
+{
+    match &item.body {
+        Body::Group { vars, .. } | Body::Free { vars } => keep_each(entries, vars.as_slice()),
+        _ => Ok(()),
+    }
 }
 
 // Puts variables last, each kept.

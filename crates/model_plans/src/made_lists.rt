@@ -1,5 +1,6 @@
 //! Lists rebuilt for a plan.
 ghost use Rattle.std.specs.Prelude.{◌≡◌, ◌+◌, ◌<◌, ◌∷◌, [], ◌++◌, IfOk, length, take, drop};
+ghost use Rattle.std.specs.Option.{option_to_list};
 
 use aff_core::{Aff, VecAff};
 use lists::Duplicate;
@@ -13,6 +14,16 @@ pub(crate) fn only<X: Drop>(alloc: Global, item: X) -> Result<Vec<X>, Memory>
     let mut items = Vec::with_capacity(alloc, 1)?;
     items.push(item)?;
     Ok(items)
+}
+
+/// A list of what there is.
+pub(crate) fn only_some<X: Drop>(alloc: Global, item: Option<X>) -> Result<Vec<X>, Memory>
+    ensures { IfOk result (λ items. items.items ≡ option_to_list item) }
+{
+    match item {
+        Some(item) => only(alloc, item),
+        None => Ok(Vec::new(alloc)),
+    }
 }
 
 /// The components with another one at a place.

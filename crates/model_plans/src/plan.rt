@@ -6,7 +6,7 @@ ghost use Rattle.model_laws.specs.ItemChanges.{set_to};
 ghost use Rattle.model_refusals.specs.Accepted.{IsFound, edit_of};
 ghost use Rattle.model_plans.specs.Plans.{Accepts, HasParts, LeadsToTarget};
 
-use crate::made_lists::only;
+use crate::made_lists::{only, only_some};
 use crate::parts::Part;
 use crate::{deletion, groups, objective, rows};
 use model_catalog::{Catalog, Exchange, NameChange, NameChanges};
@@ -82,12 +82,21 @@ impl EditPlan {
         ensures { IfOk result (λ plan. HasParts plan [] (change ∷ []) None next []
             (option_to_list name)) }
     {
-        let mut plan = EditPlan::unchanged(alloc, next);
-        plan.exchange.rows = only(alloc, change)?;
-        if let Some(listed) = name {
-            plan.names.rows = only(alloc, listed)?;
-        }
-        Ok(plan)
+        let rows = only(alloc, change)?;
+        let listed = only_some(alloc, name)?;
+        Ok(EditPlan {
+            exchange: Exchange {
+                groups: Vec::new(alloc),
+                rows,
+                objective: None,
+                next,
+            },
+            names: NameChanges {
+                group: 0,
+                variables: Vec::new(alloc),
+                rows: listed,
+            },
+        })
     }
 
     /// A group is to stand at its number, and the names of its variables that are listed change.
@@ -118,11 +127,21 @@ impl EditPlan {
         ensures { IfOk result (λ plan. HasParts plan (change ∷ []) [] None next variables.items []
             × (plan.names.group ≡ change.number)) }
     {
-        let mut plan = EditPlan::unchanged(alloc, next);
-        plan.names.group = change.number;
-        plan.names.variables = variables;
-        plan.exchange.groups = only(alloc, change)?;
-        Ok(plan)
+        let group = change.number;
+        let groups = only(alloc, change)?;
+        Ok(EditPlan {
+            exchange: Exchange {
+                groups,
+                rows: Vec::new(alloc),
+                objective: None,
+                next,
+            },
+            names: NameChanges {
+                group,
+                variables,
+                rows: Vec::new(alloc),
+            },
+        })
     }
 }
 

@@ -41,8 +41,9 @@ pub(crate) fn add(
     let row = Row {
         id: next.row,
         name: name.copy()?,
-        func: located(alloc, model, func)?,
+        // before the function, which a way out would take apart by its variants
         set: set.copy(alloc)?,
+        func: located(alloc, model, func)?,
     };
     let after = NextNumbers {
         group: next.group,
@@ -142,8 +143,8 @@ pub(crate) fn set(
     let row = Row {
         id: row.id,
         name: row.name.copy()?,
-        func: row.func.copy(alloc)?,
         set: set.copy(alloc)?,
+        func: row.func.copy(alloc)?,
     };
     EditPlan::of_row(alloc, row, None, model.next())
 }
@@ -185,8 +186,8 @@ pub(crate) fn rename(
     let row = Row {
         id: row.id,
         name: new.copy()?,
-        func: row.func.copy(alloc)?,
         set: row.set.copy(alloc)?,
+        func: row.func.copy(alloc)?,
     };
     EditPlan::of_row(alloc, row, Some(listed), model.next())
 }

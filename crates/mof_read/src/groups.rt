@@ -56,10 +56,12 @@ fn are_distinct(alloc: Global, names: &[Name]) -> Result<bool, Memory>
     let mut seen = IndexSet::new(alloc);
     for name in names {
         if seen.contains(name) {
+            drop(seen);
             return Ok(false);
         }
         seen.insert(name.copy()?)?;
     }
+    drop(seen);
     Ok(true)
 }
 

@@ -33,6 +33,7 @@ pub fn sum_terms(alloc: Global, terms: Terms) -> Result<Option<NamedAff>, Memory
     let mut sum = AffSum::of_constant(alloc, Ratio::zero());
     for term in terms.into_vec() {
         if !add(&mut sum, term)? {
+            drop(sum);
             return Ok(None);
         }
     }

@@ -192,8 +192,8 @@ pub plan_node-plan_in-requires : goal.plan_node-plan_in-requires
 plan_node-plan_in-requires g t c =
     let first = g.R.Rewriter.means c.args.rewriter.now in
     let n = c.args.levels - 1 in
-    let image = c.in_ok-image.image in
-    let is = c.in_ok-image.ensures.answer.1 in
+    let image = c.in-Ok.image in
+    let is = c.in-Ok.ensures.answer.1 in
     let one_same = c.image.ensures.means in
     let two_same = c.plan_each.ensures.means ∙ one_same in
     let one : Plan = record { leaves = c.args.plan.now.leaves; nodes = c.push.new.self } in
@@ -210,8 +210,8 @@ pub plan_node-returns-in_err-plan_in-clause-answer : goal.plan_node-returns-in_e
 plan_node-returns-in_err-plan_in-clause-answer g t c =
     let first = g.R.Rewriter.means c.args.rewriter.now in
     let n = c.args.levels - 1 in
-    let image = c.in_ok-image.image in
-    let is = c.in_ok-image.ensures.answer.1 in
+    let image = c.in-Ok.image in
+    let is = c.in-Ok.ensures.answer.1 in
     let one_same = c.image.ensures.means in
     let two_means = g.R.Rewriter.means c.plan_each.new.rewriter in
     let two_same = c.plan_each.ensures.means ∙ one_same in
@@ -233,8 +233,8 @@ plan_node-returns-clause-answer g t c =
     let edge = c.args.edge in
     let item = c.args.item in
     let plan = c.args.plan.now in
-    let image = c.in_ok-image.image in
-    let is = c.in_ok-image.ensures.answer.1 in
+    let image = c.in-Ok.image in
+    let is = c.in-Ok.ensures.answer.1 in
     let one_means = g.R.Rewriter.means c.image.new.self in
     let one_same = c.image.ensures.means in
     let two_means = g.R.Rewriter.means c.plan_each.new.rewriter in
@@ -254,7 +254,7 @@ plan_node-returns-clause-answer g t c =
     c.in_ok-standing.ensures two_means two_same c.in_ok-others.others.items
     c.in_ok-others.ensures
     plan three c.args.entries.now.items c.outer_entries.new.entries.items
-    c.in_ok-image.ensures.answer.0 (λ i. plan.leaves.items) pushed further
+    c.in-Ok.ensures.answer.0 (λ i. plan.leaves.items) pushed further
     c.outer_entries.result c.plan_in.new.standing c.index.result.now.item.body c.as_slice.result.now
     c.plan_in.ensures.same (ap (λ (k : KeptItem). k.item.body) read) c.as_slice.ensures
     c.outer_entries.ensures.answer

@@ -16,8 +16,8 @@ returns c =
     c.requires.accepts.accepted).free in
     let listed_name = c.in_ok-copy.ensures in
     let name = c.in_ok-copy-2.ensures in
-    let func : c.in_ok-copy-3.field-0 ≡ c.args.row.now.row.now.func = c.in_ok-copy-3.ensures in
-    let set : c.in_ok-copy-4.field-0 ≡ c.args.row.now.row.now.set = c.in_ok-copy-4.ensures in
+    let func : c.in_ok-copy-4.field-0 ≡ c.args.row.now.row.now.func = c.in_ok-copy-4.ensures in
+    let set : c.in_ok-copy-3.field-0 ≡ c.args.row.now.row.now.set = c.in_ok-copy-3.ensures in
     IfOk-weaker c.of_row.result _ _ (λ plan p. renamed_leads model plan
     c.requires.accepts.consistent c.args.row.now.name.now c.args.row.now.row.now c.requires.row
     c.args.new.now free (parts_same p [] _ _ [] _ refl

@@ -28,8 +28,8 @@ returns c =
     (c.args.row.now.row.now.set ≢ c.args.set.now)) (sym c.eq.ensures ∙ c.if-eq.false)
     (same_sets c.args.row.now.row.now.set c.args.set.now) in
     let name = c.in_ok-copy.ensures in
-    let func : c.in_ok-copy-2.field-0 ≡ c.args.row.now.row.now.func = c.in_ok-copy-2.ensures in
-    let set : c.in_ok-copy-3.field-0 ≡ c.args.set.now = c.in_ok-copy-3.ensures in
+    let func : c.in_ok-copy-3.field-0 ≡ c.args.row.now.row.now.func = c.in_ok-copy-3.ensures in
+    let set : c.in_ok-copy-2.field-0 ≡ c.args.set.now = c.in_ok-copy-2.ensures in
     IfOk-weaker c.of_row.result _ _ (λ plan p. set_new model plan c.requires.consistent
     c.args.row.now.name.now c.args.row.now.row.now c.requires.row c.args.set.now other
     (parts_same p [] _ _ [] [] refl (λ i. record {
