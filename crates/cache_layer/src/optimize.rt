@@ -34,7 +34,9 @@ pub(crate) fn optimize<B: Bridge>(
     // what this ensures: native kinds alone are supported
     let _native = lazy.table();
     let answer = leaf_answer(alloc, lazy.solver(), lazy.map(), pivots)?;
-    certificate(alloc, lazy, model, &answer)
+    let carried = certificate(alloc, lazy, model, &answer);
+    drop(answer);
+    carried
 }
 
 // An answer for the leaves, carried back.

@@ -83,7 +83,9 @@ fn judge_edits<H: Shelf>(
         (asks_made certificate.now (after_edits empty_model edits))) }
 {
     let mut model = UserModel::new(alloc);
-    judge_on(alloc, shelf, &mut model, edits.into_vec(), certificate)
+    let answer = judge_on(alloc, shelf, &mut model, edits.into_vec(), certificate);
+    drop(model);
+    answer
 }
 
 // The same of edits on a model. It is lent, so that no way out frees it.
@@ -140,7 +142,11 @@ fn judge_text(alloc: Global, model: &UserModel, text: &[u8]) -> Result<Answer, M
     ensures no_fault { result ≢ Ok Answer.ReadFault }
 {
     match read(alloc, model.groups(), model.rows(), text)? {
-        Some(certificate) => judge(alloc, model, &certificate),
+        Some(certificate) => {
+            let judged = judge(alloc, model, &certificate);
+            drop(certificate);
+            judged
+        }
         None => yes_or_no(alloc, false),
     }
 }

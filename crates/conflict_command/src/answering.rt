@@ -59,5 +59,7 @@ fn answer_on<B: Bridge>(alloc: Global, model: UserModel, bridges: Vec<B>) -> Ans
         → SaysOfConflict (standard_by (prelude.map B.state bridges.items)) model.model result }
 {
     let mut cache = cache_of(alloc, model, bridges);
-    sought(alloc, &mut cache).unwrap_or(Answer::Memory)
+    let answer = sought(alloc, &mut cache);
+    drop(cache);
+    answer.unwrap_or(Answer::Memory)
 }

@@ -44,7 +44,11 @@ pub(crate) fn answer<H: Shelf, B: Bridge>(
         → AsksFor (H.asked shelf.old) (H.asked shelf.new) (command.now.file ∷ []) }
 {
     match model_of(alloc, shelf, &command.file) {
-        Ok(model) => answer_on(alloc, command.task, &model, bridges),
+        Ok(model) => {
+            let answer = answer_on(alloc, command.task, &model, bridges);
+            drop(model);
+            answer
+        }
         Err(answer) => answer,
     }
 }
@@ -78,7 +82,11 @@ fn answer_dual<B: Bridge>(
         (standard_by (prelude.map B.state bridges.items)) task) }
 {
     match task {
-        Task::Write => file_of(alloc, &dual),
+        Task::Write => {
+            let written = file_of(alloc, &dual);
+            drop(dual);
+            written
+        }
         Task::Solve => solved(alloc, model, dual, bridges),
     }
 }

@@ -44,7 +44,9 @@ pub(crate) fn solved<B: Bridge>(
         (standard_by (prelude.map B.state bridges.items)) Solve) }
 {
     let mut cache = cache_of(alloc, dual, bridges);
-    answered(alloc, model, &mut cache)
+    let answer = answered(alloc, model, &mut cache);
+    drop(cache);
+    answer
 }
 
 // What is answered by a cache of the dual, which is lent so that it is freed once.

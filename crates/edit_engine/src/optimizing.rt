@@ -35,7 +35,11 @@ fn tell(
     ensures { IfOk result (λ answer. answer ≡ optimize_answer model.now.model made) }
 {
     match made {
-        Ok(certificate) => printed(alloc, model, &certificate),
+        Ok(certificate) => {
+            let told = printed(alloc, model, &certificate);
+            drop(certificate);
+            told
+        }
         Err(fault) => tell_refusal(alloc, optimize_refusal(fault)),
     }
 }

@@ -43,7 +43,10 @@ pub fn model_by(alloc: Global, edits: Vec<Edit>) -> Result<UserModel, Answer>
     let mut model = UserModel::new(alloc);
     match make_all(alloc, &mut model, edits) {
         Ok(()) => Ok(model),
-        Err(answer) => Err(answer),
+        Err(answer) => {
+            drop(model);
+            Err(answer)
+        }
     }
 }
 

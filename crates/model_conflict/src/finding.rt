@@ -25,7 +25,9 @@ pub fn find<B: Bridge>(cache: Cache<B>, pivots: u64) -> Result<Found, ConflictFa
     ensures shows { IfOk result (ShowsFound (model_in cache)) }
 {
     let mut cache = cache;
-    find_in(&mut cache, pivots)
+    let found = find_in(&mut cache, pivots);
+    drop(cache);
+    found
 }
 
 /// A feasible point or a conflict, as by `find`, of a cache that the caller keeps. After a conflict its

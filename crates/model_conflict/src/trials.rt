@@ -105,14 +105,29 @@ fn try_first<B: Bridge>(
     let Ok(trial) = first_trial(alloc, cache) else {
         return Err(OptFault::Memory);
     };
-    make(cache, trial.delete)?;
-    let optimum = optimize(cache, pivots)?;
+    let Trial { name, delete, add } = trial;
+    // By name: freed where it falls, an edit is taken apart by its variants.
+    match make(cache, delete) {
+        Ok(()) => {}
+        Err(fault) => {
+            drop(add);
+            return Err(fault);
+        }
+    }
+    let optimum = match optimize(cache, pivots) {
+        Ok(optimum) => optimum,
+        Err(fault) => {
+            drop(add);
+            return Err(fault);
+        }
+    };
     match optimum {
         Optimum::Infeasible(duals) => {
+            drop(add);
             walked.duals = duals;
             Ok(())
         }
-        Optimum::Point(x) => add_again(cache, trial.add, walked, trial.name, x),
+        Optimum::Point(x) => add_again(cache, add, walked, name, x),
     }
 }
 
@@ -172,12 +187,13 @@ fn trial_of(alloc: Global, model: &UserModel, row: &Row) -> Result<Trial, Memory
     requires { IsValidRow model.now.model.groups row.now }
     ensures { IfOk result (IsTrialOf model.now.model row.now) }
 {
+    let name = row.name.copy()?;
+    let gone = row.name.copy()?;
+    let add = row_edit(alloc, model, row)?;
     Ok(Trial {
-        name: row.name.copy()?,
-        delete: Edit::DeleteRow {
-            row: row.name.copy()?,
-        },
-        add: row_edit(alloc, model, row)?,
+        name,
+        delete: Edit::DeleteRow { row: gone },
+        add,
     })
 }
 

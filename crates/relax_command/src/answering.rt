@@ -55,7 +55,10 @@ fn answer_on<B: Bridge>(alloc: Global, model: UserModel, bridges: Vec<B>) -> Ans
     let mut model = model;
     match relax(alloc, &mut model) {
         Ok(()) => solved(alloc, model, bridges).unwrap_or(Answer::Memory),
-        Err(answer) => answer,
+        Err(answer) => {
+            drop(model);
+            answer
+        }
     }
 }
 

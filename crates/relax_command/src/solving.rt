@@ -36,7 +36,9 @@ pub(crate) fn solved<B: Bridge>(
         (alone (standard_by (prelude.map B.state bridges.items)) relaxed.model)) }
 {
     let mut cache = cache_of(alloc, relaxed, bridges);
-    answered(alloc, &mut cache)
+    let answer = answered(alloc, &mut cache);
+    drop(cache);
+    answer
 }
 
 // What is answered by a cache of the relaxation, which is lent so that it is freed once.

@@ -132,9 +132,25 @@ fn run_by<H: Shelf, B: Bridge>(
     requires kept { All (λ s. s.kept ≡ finite.empty) (map B.state bridges.items) }
 {
     let mut session = Session::new(rt.alloc(), bridges);
+    let ran = run_with(rt, case, shelf, input, &mut session);
+    drop(session);
+    ran
+}
+
+// The session is lent, so that no way out frees it.
+fn run_with<H: Shelf, B: Bridge>(
+    rt: &HostRuntime,
+    case: &Case,
+    shelf: &mut H,
+    input: &mut MemSource,
+    session: &mut Session<B>,
+) -> Result<(), Stop>
+    requires piece { 1 ≤ case.now.piece }
+    requires detached { (state_of session.old).attached ≡ false }
+{
     match &case.last {
-        Some(last) => run_last(rt, &case.script, last.as_bytes(), shelf, &mut session),
-        None => run_session(rt, case, shelf, input, &mut session),
+        Some(last) => run_last(rt, &case.script, last.as_bytes(), shelf, session),
+        None => run_session(rt, case, shelf, input, session),
     }
 }
 

@@ -76,7 +76,10 @@ fn answer_on<H: Shelf, B: Bridge>(
 {
     match fetch_maps(alloc, shelf, maps) {
         Ok(file) => answer_maps(alloc, model, file, bridges).unwrap_or(Answer::Memory),
-        Err(fault) => tell_fetch(fault),
+        Err(fault) => {
+            drop(model);
+            tell_fetch(fault)
+        }
     }
 }
 
@@ -98,7 +101,10 @@ fn answer_maps<B: Bridge>(
     let mut model = model;
     match map_rows(alloc, &mut model, file) {
         Ok(rows) => solved(alloc, model, &rows, bridges),
-        Err(fault) => tell_mapping(alloc, fault),
+        Err(fault) => {
+            drop(model);
+            tell_mapping(alloc, fault)
+        }
     }
 }
 

@@ -42,7 +42,9 @@ pub(crate) fn solved<B: Bridge>(
         (alone (standard_by (prelude.map B.state bridges.items)) model.model)) }
 {
     let mut cache = cache_of(alloc, model, bridges);
-    answered(alloc, rows, &mut cache)
+    let answer = answered(alloc, rows, &mut cache);
+    drop(cache);
+    answer
 }
 
 // What is answered by a cache of the model, which is lent so that it is freed once.

@@ -13,14 +13,14 @@ returns-in-Ok-clause-answers g c = λ not.
     let setting = standard_by (prelude.map g.B.Bridge.state c.args.bridges.items) in
     let told = told_by (g.H.Shelf.files c.args.shelf.now) (g.H.Shelf.sure c.args.shelf.now) in
     answered_with (SaysOfDual setting c.args.command.now.task) told c.args.command.now.file c.in-Ok.model
-    c.answer_on.result c.in-Ok.ensures.loads (c.answer_on.ensures not)
+    c.answer_on-answer.result c.in-Ok.ensures.loads (c.answer_on-answer.ensures not)
 
 pub returns-in-Ok-clause-cause : goal.returns-in-Ok-clause-cause
 returns-in-Ok-clause-cause g c = λ e.
     let setting = standard_by (prelude.map g.B.Bridge.state c.args.bridges.items) in
     absurd (no_failure (SaysOfDual setting c.args.command.now.task)
-    (says_plain setting c.args.command.now.task) c.in-Ok.model.model c.answer_on.result
-    c.answer_on.ensures e)
+    (says_plain setting c.args.command.now.task) c.in-Ok.model.model c.answer_on-answer.result
+    c.answer_on-answer.ensures e)
 
 pub returns-in-Err-clause-answers : goal.returns-in-Err-clause-answers
 returns-in-Err-clause-answers g c = λ not.

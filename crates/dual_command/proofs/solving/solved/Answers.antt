@@ -6,12 +6,12 @@ use Rattle.dual_command.proofs.Told.{says_alone}
 use Rattle.dual_command.proofs.solving.solved.Goals as goal
 use Rattle.model_command.specs.Alone.{standard_by}
 
-pub answered-requires : goal.answered-requires
-answered-requires g c =
+pub answered-answer-requires : goal.answered-answer-requires
+answered-answer-requires g c =
     ap (λ (s : CacheState). s.model) c.cache_of-cache.ensures ∙ c.requires.dual
 
 pub returns : goal.returns
 returns g c =
-    says_alone c.args.model.now.model c.answered.result (state_of c.cache_of-cache.result)
+    says_alone c.args.model.now.model c.answered-answer.result (state_of c.cache_of-cache.result)
     (standard_by (prelude.map g.B.Bridge.state c.args.bridges.items)) c.args.dual.model
-    c.cache_of-cache.ensures c.requires.dual c.answered.ensures
+    c.cache_of-cache.ensures c.requires.dual c.answered-answer.ensures

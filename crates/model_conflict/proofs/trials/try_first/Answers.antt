@@ -1,6 +1,6 @@
-use Rattle.std.proofs.Common.{◌≡◌, refl, subst, Ok}
+use Rattle.std.proofs.Common.{◌≡◌, refl, subst, sym, Ok, Err}
 use Rattle.cache_layer.specs.Cached.{state_of}
-use Rattle.model_conflict.proofs.Tried.{again_tried, fault_tried, handed_on, memory_on, on_ok, out_tried, still_attached, still_bare}
+use Rattle.model_conflict.proofs.Tried.{again_tried, fault_tried, on_ok, out_tried, still_attached, still_bare}
 use Rattle.model_conflict.proofs.Trying.{IsReady, adds, deletes, stands_again, stands_without, state_again, state_without}
 use Rattle.model_conflict.proofs.trials.try_first.Goals as goal
 use Rattle.model_conflict.specs.Optima.{TellsOptimum}
@@ -31,13 +31,10 @@ make-requires g c =
       bridged = stands_without s row rest c.in-Ok.trial ready;
     }
 
-pub returns-in_err-make : goal.returns-in_err-make
-returns-in_err-make g c = λ row rest first.
-    memory_on
-    (λ r. Tries (state_of c.args.cache.now) c.args.pivots row rest c.args.walked.now r
-    (state_of c.make.new.cache) c.args.walked.now)
-    c.from_residual.result c.in_err-make.field-0.0 c.in_err-make.ensures.err
-    c.from_residual.ensures.1 tt
+pub returns-in-Err : goal.returns-in-Err
+returns-in-Err g c = λ row rest first.
+    subst (λ w. Tries (state_of c.args.cache.now) c.args.pivots row rest c.args.walked.now (Err w)
+    (state_of c.make.new.cache) c.args.walked.now) (sym c.in-Err.ensures.err) tt
 
 pub optimize-requires : goal.optimize-requires
 optimize-requires g c =
@@ -54,13 +51,13 @@ optimize-requires g c =
     } in
     let now = state_of c.make.new.cache in
     let is_now : now ≡ with_rows s rest =
-    state_without s row rest trial ready now c.in_ok-make.ensures.ok in record {
+    state_without s row rest trial ready now c.in-Ok-make.ensures.ok in record {
       attached = still_attached s row rest now is_now c.requires.can.attached;
       bare = still_bare s row rest now is_now c.requires.can.bare;
     }
 
-pub returns-in_err-optimum : goal.returns-in_err-optimum
-returns-in_err-optimum g c = λ row rest first.
+pub returns-in-Err-optimize : goal.returns-in-Err-optimize
+returns-in-Err-optimize g c = λ row rest first.
     let s = state_of c.args.cache.now in
     let trial = c.in-Ok.trial in
     let ready : IsReady s row rest trial = record {
@@ -71,12 +68,9 @@ returns-in_err-optimum g c = λ row rest first.
       is = c.in-Ok.ensures.trial row rest first;
     } in
     let now = state_of c.make.new.cache in
-    let why = c.in_err-optimum.field-0.0 in
-    handed_on (λ r. Tries s c.args.pivots row rest c.args.walked.now r now c.args.walked.now)
-    c.from_residual-in_err-optimum.result why c.from_residual-in_err-optimum.ensures.1
-    (fault_tried s row rest now
-    (state_without s row rest trial ready now c.in_ok-make.ensures.ok) c.args.pivots
-    c.args.walked.now why now c.args.walked.now c.in_err-optimum.ensures)
+    fault_tried s row rest now
+    (state_without s row rest trial ready now c.in-Ok-make.ensures.ok) c.args.pivots
+    c.args.walked.now c.in-Err-optimize.fault now c.args.walked.now c.in-Err-optimize.ensures
 
 pub returns-in-Infeasible : goal.returns-in-Infeasible
 returns-in-Infeasible g c = λ row rest first.
@@ -90,9 +84,9 @@ returns-in-Infeasible g c = λ row rest first.
       is = c.in-Ok.ensures.trial row rest first;
     } in
     let now = state_of c.make.new.cache in
-    out_tried s row rest now (state_without s row rest trial ready now c.in_ok-make.ensures.ok)
+    out_tried s row rest now (state_without s row rest trial ready now c.in-Ok-make.ensures.ok)
     c.args.pivots c.args.walked.now c.in-Infeasible.duals _
-    (subst (λ o. TellsOptimum now c.args.pivots (Ok o)) c.in-Infeasible.is c.in_ok-optimum.ensures) refl
+    (subst (λ o. TellsOptimum now c.args.pivots (Ok o)) c.in-Infeasible.is c.in-Ok-optimize.ensures) refl
 
 pub add_again-requires : goal.add_again-requires
 add_again-requires g c =
@@ -109,7 +103,7 @@ add_again-requires g c =
     } in
     let now = state_of c.make.new.cache in
     let is_now : now ≡ with_rows s rest =
-    state_without s row rest trial ready now c.in_ok-make.ensures.ok in record {
+    state_without s row rest trial ready now c.in-Ok-make.ensures.ok in record {
       attached = still_attached s row rest now is_now c.requires.can.attached;
       accepted = adds s row rest trial ready now is_now;
       bridged = stands_again s row rest trial ready now is_now;
@@ -130,10 +124,10 @@ returns-in-Point g c = λ row rest first.
     let now = state_of c.make.new.cache in
     let new = state_of c.add_again.new.cache in
     let is_now : now ≡ with_rows s rest =
-    state_without s row rest trial ready now c.in_ok-make.ensures.ok in
+    state_without s row rest trial ready now c.in-Ok-make.ensures.ok in
     again_tried s row rest now is_now c.args.pivots c.args.walked.now c.in-Point.x trial.name
     c.add_again.result new c.add_again.new.walked
-    (subst (λ o. TellsOptimum now c.args.pivots (Ok o)) c.in-Point.is c.in_ok-optimum.ensures) is.name
+    (subst (λ o. TellsOptimum now c.args.pivots (Ok o)) c.in-Point.is c.in-Ok-optimize.ensures) is.name
     (on_ok c.add_again.result (λ e. state_again s row rest trial ready now is_now new e)
     c.add_again.ensures.state)
     c.add_again.ensures.noted c.add_again.ensures.err

@@ -8,18 +8,18 @@ use Rattle.model_command.specs.Solved.{SaysSolved}
 use Rattle.setmap_command.proofs.solving.solved.Goals as goal
 use Rattle.setmap_command.specs.Says.{SaysMappedCertificate, StandsForMapped}
 
-pub answered-requires : goal.answered-requires
-answered-requires g c =
+pub answered-answer-requires : goal.answered-answer-requires
+answered-answer-requires g c =
     subst (StandsForMapped c.args.rows.now) (sym (ap (λ (s : CacheState). s.model) c.cache_of-cache.ensures))
     c.requires.stands
 
 pub returns : goal.returns
 returns g c = λ old stands.
     let is = ap (λ (s : CacheState). s.model) c.cache_of-cache.ensures in
-    subst (λ s. IfOk c.answered.result (SaysSolved (SaysMappedCertificate old c.args.rows.now
+    subst (λ s. IfOk c.answered-answer.result (SaysSolved (SaysMappedCertificate old c.args.rows.now
     c.args.model.model) s))
     c.cache_of-cache.ensures
-    (subst (λ m. IfOk c.answered.result (SaysSolved (SaysMappedCertificate old c.args.rows.now m)
+    (subst (λ m. IfOk c.answered-answer.result (SaysSolved (SaysMappedCertificate old c.args.rows.now m)
     (state_of c.cache_of-cache.result))) is
-    (c.answered.ensures old
+    (c.answered-answer.ensures old
     (subst (StandsFor old (uses_in old c.args.rows.now)) (sym is) stands)))
