@@ -148,7 +148,8 @@ impl NarrowRow {
     #[inline(always)]
     pub fn ready(&mut self, step: &NarrowStep, plan: LoweringPlan)
         requires { (q : ℕ) × IsLoweringPlan q step.now.row self.old plan }
-        ensures { (q : ℕ) → IsLoweringPlan q step.now.row self.old plan
+        ensures width { width_of self.new ≡ width_of self.old }
+        ensures ready { (q : ℕ) → IsLoweringPlan q step.now.row self.old plan
             → IsNarrowReady q step.now.row self.old self.new plan.by }
     {
         self.bring_over(&step.row, &step.words[..step.words_used], plan);
@@ -194,7 +195,8 @@ impl NarrowRow {
     fn bring_over(&mut self, step: &NarrowRow, words: &[u32], plan: LoweringPlan)
         requires planned { (q : ℕ) × IsLoweringPlan q step.now self.old plan }
         requires words { ListsNonzeros words.now (map pos step.now.marks.items) }
-        ensures { (q : ℕ) → IsLoweringPlan q step.now self.old plan
+        ensures width { width_of self.new ≡ width_of self.old }
+        ensures ready { (q : ℕ) → IsLoweringPlan q step.now self.old plan
             → IsNarrowReady q step.now self.old self.new plan.by }
     {
         scale_numbers(&mut self.numbers, &self.marks, plan.over);

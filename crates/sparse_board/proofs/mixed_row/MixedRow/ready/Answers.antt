@@ -12,7 +12,7 @@ ready-requires c = (
 pub returns-in-Some-clause-left : goal.returns-in-Some-clause-left
 returns-in-Some-clause-left c = λ n. (
   c.requires.narrow,
-  (c.ready.ensures c.args.q (planned_by c.args.q c.args.step.now.row c.args.self.now c.args.plan
+  (c.ready.ensures.ready c.args.q (planned_by c.args.q c.args.step.now.row c.args.self.now c.args.plan
       c.in-Some.plan c.args.room.now c.in-Some.is c.requires.planned)).left,
 )
 
@@ -20,7 +20,7 @@ pub returns-in-Some-clause-numbers : goal.returns-in-Some-clause-numbers
 returns-in-Some-clause-numbers c = λ j b.
     ready_numbers c.args.q c.args.step.now.row c.args.self.now _ c.in-Some.plan.by
     c.requires.narrow c.requires.narrow
-    (c.ready.ensures c.args.q (planned_by c.args.q c.args.step.now.row c.args.self.now c.args.plan
+    (c.ready.ensures.ready c.args.q (planned_by c.args.q c.args.step.now.row c.args.self.now c.args.plan
     c.in-Some.plan c.args.room.now c.in-Some.is c.requires.planned)) j b
 
 pub lower-requires-clause-room : goal.lower-requires-clause-room

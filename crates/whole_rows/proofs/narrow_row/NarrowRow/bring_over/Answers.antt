@@ -84,8 +84,8 @@ invariant_of-self-clause-marks_long c =
     (c.scale_numbers.auto.numbers ∙ c.deref_mut.ensures.len))
     ∙ c.scale_numbers.auto.numbers ∙ ap length c.deref_mut.ensures.value)
 
-pub returns : goal.returns
-returns c = λ q planned.
+pub returns-clause-ready : goal.returns-clause-ready
+returns-clause-ready c = λ q planned.
     let row = c.args.self.now in
     let side_fits : FitsSigned w64 row.side = search rules in
     let result_fits : FitsSigned w64 c.multiplied-self.result = search rules in

@@ -12,7 +12,7 @@ lower_by-requires c =
     let by_fits : FitsSigned w64 c.in-Some.plan.by = search rules in
     subst (CanLower c.args.step.now.row c.ready.new.self)
     (sym (to_z-of_z w64 c.in-Some.plan.by by_fits))
-    (c.ready.ensures c.args.q c.in-Some.ensures.plan).left
+    (c.ready.ensures.ready c.args.q c.in-Some.ensures.plan).left
 
 pub returns-clause-lowered : goal.returns-clause-lowered
 returns-clause-lowered c t =
@@ -21,5 +21,5 @@ returns-clause-lowered c t =
     c.lower_by.new.self _
     (subst (IsNarrowReady c.args.q c.args.step.now.row c.args.self.now c.ready.new.self)
     (sym (to_z-of_z w64 c.in-Some.plan.by by_fits))
-    (c.ready.ensures c.args.q c.in-Some.ensures.plan))
+    (c.ready.ensures.ready c.args.q c.in-Some.ensures.plan))
     c.lower_by.ensures.width c.lower_by.ensures.numbers
