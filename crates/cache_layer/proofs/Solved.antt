@@ -1,9 +1,10 @@
 -- What the form's calls tell of the leaf model.
-use Rattle.std.specs.Prelude.{◌≡◌, ℕ, IsErrAnd, Result, Ok, Err}
+use Rattle.std.specs.Prelude.{◌≡◌, ℕ, IfOk, IsErrAnd, Result, Ok, Err}
 use Rattle.std.proofs.Common.{subst, sym}
 use Rattle.ratio_core.specs.declared.fault.NumberFault.{NumberFault}
 use Rattle.ratio_core.specs.declared.fault.NumberFault.TheVariants as number
 use Rattle.address_map.specs.AddressMap.{AddressMap}
+use Rattle.aff_core.specs.Address.{Address}
 use Rattle.cache_layer.specs.Faults.{form_fault, read_fault, solve_fault}
 use Rattle.cache_layer.specs.Optimizing.{TellsLeaf}
 use Rattle.cache_layer.specs.Outcome.{IsFormMade, IsFormSolved, Stops, at_a_pivot, at_a_right_side, at_reading_back, form_in, out_of_pivots, too_large}
@@ -11,14 +12,18 @@ use Rattle.cache_layer.specs.declared.fault.OptFault.{OptFault}
 use Rattle.cache_layer.specs.declared.fault.OptFault.TheVariants.{Limit, TooLarge}
 use Rattle.equality_form.specs.Right.{IsRight}
 use Rattle.leaf_model.specs.LeafModel.{LeafModel}
-use Rattle.simplex_core.specs.Answer.{SaysOutcome}
+use Rattle.leaf_model.specs.ReadThrough.{read_through}
+use Rattle.simplex_core.specs.Answer.{IsRightAnswer, SaysOutcome}
 use Rattle.simplex_core.specs.StdForm.{equality_form}
 use Rattle.simplex_core.specs.declared.answer.SolverAnswer.{SolverAnswer}
 use Rattle.simplex_core.specs.declared.fault.SolveFault.{SolveFault}
 use Rattle.simplex_core.specs.declared.fault.SolveFault.TheVariants as solve
 use Rattle.simplex_core.specs.declared.form.StdForm.{StdForm}
+use Rattle.solver_store.specs.SolverModel.{Leaves}
 use Rattle.solver_store.specs.declared.answer.LeafAnswer.{LeafAnswer}
 use Rattle.std_form.specs.Answers.{answer_of}
+use Rattle.std_form.specs.ListedLeaves.{ListedLeaves, listed}
+use Rattle.std_form.specs.Readable.{IsReadable}
 use Rattle.std_form.specs.Told.{TellsAnswer, TellsForm}
 use Rattle.std_form.specs.declared.fault.FormFault.{FormFault}
 use Rattle.std_form.specs.declared.fault.FormFault.TheVariants as form
@@ -28,6 +33,36 @@ pub handed_on : {A : Type 0} (Q : Result A OptFault → Type 0) (r : Result A Op
     (fault : OptFault) → IsErrAnd r (λ e. e ≡ fault) → Q (Err fault) → Q r
 handed_on Q (Ok a) fault h told = absurd h
 handed_on Q (Err e) fault h told = subst (λ f. Q (Err f)) (sym h) told
+
+-- what holds of a listing holds of the model and the map that were listed
+module _ (listing : ListedLeaves) (map : AddressMap) (stored : Leaves) (is : listing ≡ listed map stored)
+  where
+    pub form_listed : (r : Result StdForm FormFault)
+        → ((at : Address) → IsReadable listing.map listing.leaves
+        → TellsForm (read_through listing.map listing.leaves at) r)
+        → (at : Address) → IsReadable map stored → TellsForm (read_through map stored at) r
+    form_listed r told =
+        subst (λ (l : ListedLeaves). (at : Address) → IsReadable l.map l.leaves
+        → TellsForm (read_through l.map l.leaves at) r) is told
+
+    pub answer_listed : (answer : SolverAnswer) (r : Result LeafAnswer NumberFault)
+        → ((at : Address)
+        → TellsAnswer listing.map (read_through listing.map listing.leaves at) answer r)
+        → (at : Address) → TellsAnswer map (read_through map stored at) answer r
+    answer_listed answer r told =
+        subst (λ (l : ListedLeaves). (at : Address)
+        → TellsAnswer l.map (read_through l.map l.leaves at) answer r) is told
+
+    pub right_listed : (form : StdForm) (answer : SolverAnswer) (r : Result LeafAnswer NumberFault)
+        → ((at : Address) → IsReadable listing.map listing.leaves
+        → IsRightAnswer (equality_form form) answer → IfOk r (λ leaf.
+        IsRight (read_through listing.map listing.leaves at) (answer_of listing.map leaf)))
+        → (at : Address) → IsReadable map stored → IsRightAnswer (equality_form form) answer
+        → IfOk r (λ leaf. IsRight (read_through map stored at) (answer_of map leaf))
+    right_listed form answer r told =
+        subst (λ (l : ListedLeaves). (at : Address) → IsReadable l.map l.leaves
+        → IsRightAnswer (equality_form form) answer → IfOk r (λ leaf.
+        IsRight (read_through l.map l.leaves at) (answer_of l.map leaf))) is told
 
 module _ (map : AddressMap) (leaves : LeafModel) (pivots : ℕ) where
   pub unmade : (fault : FormFault) → TellsForm leaves (Err fault)

@@ -34,9 +34,7 @@ pub(crate) fn optimize<B: Bridge>(
     // what this ensures: native kinds alone are supported
     let _native = lazy.table();
     let answer = leaf_answer(alloc, lazy.solver(), lazy.map(), pivots)?;
-    let carried = certificate(alloc, lazy, model, &answer);
-    drop(answer);
-    carried
+    certificate(alloc, lazy, model, &answer)
 }
 
 // An answer for the leaves, carried back.

@@ -51,7 +51,11 @@ fn told<B: Bridge>(alloc: Global, cache: &mut Cache<B>) -> Result<Answer, Memory
     ensures { IfOk result (SaysSought (state_of cache.old)) }
 {
     match find_in(cache, PIVOTS) {
-        Ok(found) => tell_found(alloc, cache.model(), &found),
+        Ok(found) => {
+            let answer = tell_found(alloc, cache.model(), &found);
+            drop(found);
+            answer
+        }
         Err(fault) => tell_optimize(alloc, fault),
     }
 }

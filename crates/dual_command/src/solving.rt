@@ -61,7 +61,11 @@ fn answered<B: Bridge>(
     // what this ensures: the dual is valid
     let _valid = cache.model().rows();
     match solve(alloc, cache)? {
-        Solution::Certified(certificate) => told(alloc, model, &certificate),
+        Solution::Certified(certificate) => {
+            let answer = told(alloc, model, &certificate);
+            drop(certificate);
+            answer
+        }
         Solution::Refused(refused) => Ok(refused),
     }
 }

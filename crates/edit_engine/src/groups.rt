@@ -133,11 +133,7 @@ fn hold(alloc: Global, edits: &mut Edits, edit: Edit) -> Result<Answer, Memory>
 {
     match edits.push(edit) {
         Ok(()) => held(alloc),
-        Err(refused) => {
-            // By name: freed here, an edit would be taken apart by its variants.
-            drop(refused);
-            Err(Memory)
-        }
+        Err(_) => Err(Memory),
     }
 }
 

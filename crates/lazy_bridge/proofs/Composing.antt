@@ -6,14 +6,16 @@ use Rattle.aff_core.specs.Address.{Address}
 use Rattle.bridge_set.specs.Bridges.{Bridges, families_of, means_of, occur_once, setting_of}
 use Rattle.bridge_set.specs.Turns.{turns_of}
 use Rattle.bridge_plan.specs.Means.{AreSound, Means}
+use Rattle.bridge_plan.specs.declared.plan.Plan.{Plan}
 use Rattle.push_laws.specs.DifferingLaws.{chooses_itself, differing_touched, separated}
+use Rattle.fresh_bridging.specs.Entries.{Entry}
 use Rattle.fresh_bridging.specs.TheRules.{Setting}
 use Rattle.lazy_bridge.specs.Few.{CanPush, ChangesFew, IsPushedByFew}
 use Rattle.lazy_bridge.specs.Native.{supports_native}
 use Rattle.lazy_bridge.specs.NativeLaws.{supported}
 use Rattle.lazy_bridge.specs.Owned.{IsBridgingOf, Owned, setting_in}
 use Rattle.lazy_bridge.specs.Pushed.{IsBridgedBy}
-use Rattle.lazy_bridge.specs.Steps.{IsEditOf, IsHeldBy, IsPushedTo, IsPutTo, IsRefusedBy, IsStart, IsTurned, Parts, parts_of}
+use Rattle.lazy_bridge.specs.Steps.{IsChangedOf, IsEditOf, IsHeldBy, IsPlannedOf, IsPushedTo, IsRefusedBy, IsStart, IsTurned, Parts, parts_of}
 use Rattle.leaf_update.specs.Named.{NamesEach}
 use Rattle.local_laws.specs.Unlisted.{entries_of}
 use Rattle.model_bridging.specs.Planned.{Planned}
@@ -27,32 +29,29 @@ use Rattle.user_model.specs.Model.{ModelValue}
 use Rattle.user_model.specs.declared.undo.Undo.{Undo}
 
 -- a fault that is handed on
-pub handed_on : (e : AttachedEdit) (old : Parts) (r : Result ℕ PushFault) (f : PushFault) (new : Parts)
-    → IsErrAnd r (λ x. x ≡ f) → IsPutTo e old (Err f) new → IsPutTo e old r new
-handed_on e old (Ok n) f new is h = absurd is
-handed_on e old (Err g) f new is h = subst (λ x. IsPutTo e old (Err x) new) (sym is) h
-
-pub refused : (e : AttachedEdit) (old new : Parts) (f : PushFault) → IsTurned old new
-    → IsRefusedBy e f → IsPutTo e old (Err f) new
-refused e old new (Unsupported kind) turned h = (h, turned)
-refused e old new (Overflow at) turned h = (h, turned)
-refused e old new Memory turned h = ap (λ (m : Means). m.setting) turned.means
-
--- the edit is of the bridges that planned it, too
-pub held_later : (e : AttachedEdit) (bridges later : Bridges) (solver : StoredLeaves)
-    (places : AddressMap) (objective_at : Address) (d : Differing) → means_of later ≡ means_of bridges
-    → IsHeldBy e bridges solver places objective_at d → IsHeldBy e later solver places objective_at d
-held_later e bridges later solver places objective_at d same held = record {
-  means = same ∙ held.means;
-  leaves = held.leaves;
-  mapped = held.mapped;
-  objective = held.objective;
-  differing = held.differing;
-}
+pub handed_on : (old : Parts) (model : ModelValue) (undos : List Undo) (after : ModelValue)
+    (start : IsStart old.bridges old.solver old.places old.objective_at model undos after)
+    (r : Result ℕ PushFault) (f : PushFault) (new : Parts) → IsErrAnd r (λ x. x ≡ f)
+    → IsPushedTo old model undos after start (Err f) new
+    → IsPushedTo old model undos after start r new
+handed_on old model undos after start (Ok n) f new is h = absurd is
+handed_on old model undos after start (Err g) f new is h =
+    subst (λ x. IsPushedTo old model undos after start (Err x) new) (sym is) h
 
 module _ (bridges : Bridges) (solver : StoredLeaves) (places : AddressMap) (objective_at : Address)
     (model : ModelValue) (undos : List Undo) (after : ModelValue)
     (start : IsStart bridges solver places objective_at model undos after) where
+  -- where nothing but turns was changed
+  module _ (reads : ℕ) (later : Bridges) (reads_later : ℕ) (same : means_of later ≡ means_of bridges)
+    where
+      abbrev told : PushFault → Type 0
+      told f =
+          IsPushedTo (parts_of bridges solver places objective_at reads) model undos after start (Err f)
+          (parts_of later solver places objective_at reads_later)
+
+      pub memory : told Memory
+      memory = ap (λ (m : Means). m.setting) same
+
   module _ (d : Differing) (differs : HasDifferences model after d) where
     abbrev pub edit : AttachedEdit
     edit = record {
@@ -86,64 +85,71 @@ module _ (bridges : Bridges) (solver : StoredLeaves) (places : AddressMap) (obje
       differing = refl;
     }
 
-    pub held_by : IsHeldBy edit bridges solver places objective_at d
-    held_by = record {
-      means = refl;
+    pub held_by : (later : Bridges) → means_of later ≡ means_of bridges
+        → IsHeldBy edit later solver places objective_at d
+    held_by later same = record {
+      means = same;
       leaves = refl;
       mapped = refl;
       objective = refl;
       differing = refl;
     }
 
-    pub pushed : (reads reads_listed : ℕ) (r : Result ℕ PushFault) (last : Bridges)
-        (solver_last : StoredLeaves) (places_last : AddressMap) (objective_last : Address)
-        (reads_last : ℕ) → reads_listed ≤ reads + entries_of undos
-        → IsPutTo edit (parts_of bridges solver places objective_at reads_listed) r
-        (parts_of last solver_last places_last objective_last reads_last)
-        → IsPushedTo (parts_of bridges solver places objective_at reads) model undos after start r
-        (parts_of last solver_last places_last objective_last reads_last)
-    pushed reads reads_listed (Ok n) last solver_last places_last objective_last reads_last listed h =
-        let done = h.put.done (turns_of bridges.states)
-        (subst (λ ns. turns_of h.planning.states ≤ turns_of bridges.states + length ns)
-        (sym h.made.nodes) h.turns) in
+    pub refused : (reads : ℕ) (later : Bridges) (reads_later : ℕ) (f : PushFault)
+        → means_of later ≡ means_of bridges → IsRefusedBy edit f
+        → IsPushedTo (parts_of bridges solver places objective_at reads) model undos after start
+        (Err f) (parts_of later solver places objective_at reads_later)
+    refused reads later reads_later (Unsupported kind) same h = (
+      h,
+      record {
+        means = same;
+        solver = refl;
+        places = refl;
+        objective_at = refl;
+      },
+    )
+    refused reads later reads_later (Overflow at) same h = (
+      h,
+      record {
+        means = same;
+        solver = refl;
+        places = refl;
+        objective_at = refl;
+      },
+    )
+    refused reads later reads_later Memory same h = ap (λ (m : Means). m.setting) same
+
+    pub pushed : (standing : List Entry) (found : List Address) (plan : Plan)
+        (made : IsPlannedOf edit standing found plan) (later last : Bridges) (solver_last : StoredLeaves)
+        (places_last : AddressMap) (objective_last : Address) (n : ℕ)
+        (reads reads_listed reads_last : ℕ)
+        → means_of later ≡ means_of bridges → setting_of last ≡ setting_of later
+        → turns_of later.states ≤ turns_of bridges.states + length plan.nodes.items
+        → reads_listed ≤ reads + entries_of undos → reads_last ≤ reads_listed + length found
+        → IsChangedOf edit made.step later solver places objective_at n last solver_last
+        places_last objective_last
+        → IsPushedTo (parts_of bridges solver places objective_at reads) model undos after start
+        (Ok n) (parts_of last solver_last places_last objective_last reads_last)
+    pushed standing found plan made later last solver_last places_last objective_last n reads
+        reads_listed reads_last same setting turns listed searched changed =
+        let done = changed.done (turns_of bridges.states)
+        (subst (λ ns. turns_of later.states ≤ turns_of bridges.states + length ns) (sym made.nodes)
+        turns) in
         record {
           holds = done.holds;
-          setting = h.setting ∙ ap (λ (m : Means). m.setting) h.means;
-          touched = length h.made.step.addresses;
+          setting = setting ∙ ap (λ (m : Means). m.setting) same;
+          touched = length made.step.addresses;
           touched_are = done.touched;
           inner = done.inner;
           reads =
-              let searched : reads_last ≤ reads_listed + length h.found = h.reads in
-              let all : length h.made.step.addresses ≡ length h.found = ap length h.made.addresses in
+              let all : length made.step.addresses ≡ length found = ap length made.addresses in
               omega (arith, listed, searched, all);
-          counted = h.put.counted;
-          rises = h.put.rises;
-          calls = h.put.calls;
-          variables = h.put.variables;
-          rows = h.put.rows;
+          counted = changed.counted;
+          rises = changed.rises;
+          calls = changed.calls;
+          variables = changed.variables;
+          rows = changed.rows;
         }
-    pushed reads reads_listed (Err (Unsupported kind)) last solver_last places_last objective_last
-        reads_last listed h = (
-          h.0,
-          record {
-            means = h.1.means;
-            solver = h.1.solver;
-            places = h.1.places;
-            objective_at = h.1.objective_at;
-          },
-        )
-    pushed reads reads_listed (Err (Overflow at)) last solver_last places_last objective_last reads_last
-        listed h = (
-          h.0,
-          record {
-            means = h.1.means;
-            solver = h.1.solver;
-            places = h.1.places;
-            objective_at = h.1.objective_at;
-          },
-        )
-    pushed reads reads_listed (Err Memory) last solver_last places_last objective_last reads_last listed
-        h = h
 
 -- ---- of a lazy bridging
 

@@ -1,21 +1,23 @@
 -- Another table for a bridged model, by its steps.
-use Rattle.std.specs.Prelude.{◌≡◌, ◌<◌, ◌≤◌, ◌+◌, ◌-◌, ◌^◌, ℕ, Bool, true, false, List, Result, Ok, Err, length, min, refl, slice_index_or}
+use Rattle.std.specs.Prelude.{◌≡◌, ◌<◌, ◌≤◌, ◌+◌, ◌-◌, ◌^◌, ℕ, Bool, true, false, List, Result, Ok, Err, IsErrAnd, length, min, refl, slice_index_or}
 use Rattle.std.proofs.Common.{arith, ap, sym, subst, ◌∙◌}
 use Rattle.address_map.specs.AddressMap.{AddressMap}
 use Rattle.aff_core.specs.Address.{Address}
 use Rattle.bridge_graph.specs.declared.Choice.{Choice}
 use Rattle.bridge_face.specs.BridgeState.{BridgeState}
 use Rattle.bridge_plan.specs.Means.{AreSound, Means}
+use Rattle.bridge_plan.specs.declared.plan.Plan.{Plan}
 use Rattle.bridge_set.specs.Bridges.{Bridges, choice_in, families_of, means_of, occur_once, setting_by, setting_of}
 use Rattle.bridge_set.specs.Turns.{turns_of}
 use Rattle.push_laws.specs.Edits.{AttachedEdit}
 use Rattle.found_plan.specs.Read.{is_marked}
+use Rattle.fresh_bridging.specs.Entries.{Entry}
 use Rattle.item_core.specs.Kind.{kind_count, kind_number}
 use Rattle.item_core.specs.declared.kind.Kind.{Kind}
 use Rattle.item_core.specs.declared.table.Table.{Table}
 use Rattle.table_change.specs.ChangedKindLaws.{changed_alike}
 use Rattle.table_change.specs.ChangedKinds.{is_changed}
-use Rattle.lazy_bridge.specs.Steps.{IsEditOf, IsHeldBy, IsPutTo, parts_of}
+use Rattle.lazy_bridge.specs.Steps.{IsChangedOf, IsEditOf, IsHeldBy, IsPlannedOf, IsRefusedBy}
 use Rattle.lazy_bridge.specs.Few.{ChangesFew, IsRetabledByFew}
 use Rattle.lazy_bridge.specs.Native.{supports_native}
 use Rattle.lazy_bridge.specs.NativeLaws.{supported}
@@ -41,6 +43,10 @@ module _ (bridges : Bridges) (table : Table) (choices : List Choice) (solver : S
   abbrev told : Result ℕ PushFault → Bridges → StoredLeaves → AddressMap → Address → Type 0
   told r b s p o =
       IsRetabledTo bridges table choices solver places objective_at model start r b s p o
+
+  pub memory : (later : Bridges) → means_of later ≡ means_of bridges
+      → told (Err Memory) later solver places objective_at
+  memory later same = ap (λ (m : Means). m.setting) same
 
   module _ (now : List Choice)
       (are : (kind : Kind)
@@ -74,53 +80,74 @@ module _ (bridges : Bridges) (table : Table) (choices : List Choice) (solver : S
       differing = refl;
     }
 
-    pub held_by : IsHeldBy edit bridges solver places objective_at d
-    held_by = record {
-      means = refl;
+    pub held_by : (later : Bridges) → means_of later ≡ means_of bridges
+        → IsHeldBy edit later solver places objective_at d
+    held_by later same = record {
+      means = same;
       leaves = refl;
       mapped = refl;
       objective = refl;
       differing = refl;
     }
 
-    pub retabled : (reads : ℕ) (r : Result ℕ PushFault) (last : Bridges) (solver_last : StoredLeaves)
-        (places_last : AddressMap) (objective_last : Address) (reads_last : ℕ)
-        → IsPutTo edit (parts_of bridges solver places objective_at reads) r
-        (parts_of last solver_last places_last objective_last reads_last)
-        → told r last solver_last places_last objective_last
-    retabled reads (Ok n) last solver_last places_last objective_last reads_last h =
-        let done = h.put.done (turns_of bridges.states)
-        (subst (λ ns. turns_of h.planning.states ≤ turns_of bridges.states + length ns)
-        (sym h.made.nodes) h.turns) in
+    pub refused : (later : Bridges) (f : PushFault) → means_of later ≡ means_of bridges
+        → IsRefusedBy edit f → told (Err f) later solver places objective_at
+    refused later (Unsupported kind) same h = (
+      h,
+      record {
+        means = same;
+        solver_is = refl;
+        places_are = refl;
+        objective_is = refl;
+      },
+    )
+    refused later (Overflow at) same h = (
+      h,
+      record {
+        means = same;
+        solver_is = refl;
+        places_are = refl;
+        objective_is = refl;
+      },
+    )
+    refused later Memory same h = ap (λ (m : Means). m.setting) same
+
+    pub retabled : (standing : List Entry) (found : List Address) (plan : Plan)
+        (made : IsPlannedOf edit standing found plan) (later last : Bridges) (solver_last : StoredLeaves)
+        (places_last : AddressMap) (objective_last : Address) (n : ℕ)
+        → means_of later ≡ means_of bridges → setting_of last ≡ setting_of later
+        → turns_of later.states ≤ turns_of bridges.states + length plan.nodes.items
+        → IsChangedOf edit made.step later solver places objective_at n last solver_last
+        places_last objective_last
+        → told (Ok n) last solver_last places_last objective_last
+    retabled standing found plan made later last solver_last places_last objective_last n same
+        setting turns changed_of =
+        let done = changed_of.done (turns_of bridges.states)
+        (subst (λ ns. turns_of later.states ≤ turns_of bridges.states + length ns) (sym made.nodes)
+        turns) in
         record {
           holds = done.holds;
-          setting = h.setting ∙ ap (λ (m : Means). m.setting) h.means;
+          setting = setting ∙ ap (λ (m : Means). m.setting) same;
           inner = done.inner;
-          counted = h.put.counted;
-          rises = h.put.rises;
-          calls = h.put.calls;
-          variables = h.put.variables;
-          rows = h.put.rows;
+          counted = changed_of.counted;
+          rises = changed_of.rises;
+          calls = changed_of.calls;
+          variables = changed_of.variables;
+          rows = changed_of.rows;
         }
-    retabled reads (Err (Unsupported kind)) last solver_last places_last objective_last reads_last h = (
-      h.0,
-      record {
-        means = h.1.means;
-        solver_is = h.1.solver;
-        places_are = h.1.places;
-        objective_is = h.1.objective_at;
-      },
-    )
-    retabled reads (Err (Overflow at)) last solver_last places_last objective_last reads_last h = (
-      h.0,
-      record {
-        means = h.1.means;
-        solver_is = h.1.solver;
-        places_are = h.1.places;
-        objective_is = h.1.objective_at;
-      },
-    )
-    retabled reads (Err Memory) last solver_last places_last objective_last reads_last h = h
+
+-- a fault that is handed on
+pub handed_by : (bridges : Bridges) (table : Table) (choices : List Choice) (solver : StoredLeaves)
+    (places : AddressMap) (objective_at : Address) (model : ModelValue)
+    (start : IsTableStart bridges table choices solver places objective_at model)
+    (r : Result ℕ PushFault) (f : PushFault) (b : Bridges) (s : StoredLeaves) (p : AddressMap) (o : Address)
+    → IsErrAnd r (λ x. x ≡ f)
+    → IsRetabledTo bridges table choices solver places objective_at model start (Err f) b s p o
+    → IsRetabledTo bridges table choices solver places objective_at model start r b s p o
+handed_by bridges table choices solver places objective_at model start (Ok n) f b s p o is h = absurd is
+handed_by bridges table choices solver places objective_at model start (Err g) f b s p o is h =
+    subst (λ x. IsRetabledTo bridges table choices solver places objective_at model start (Err x) b s p
+    o) (sym is) h
 
 -- ---- of a lazy bridging
 

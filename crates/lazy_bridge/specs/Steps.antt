@@ -5,7 +5,6 @@
 --     AreGroupsOf       the groups that differ are planned
 --     IsPlannedOf       all that it touches is
 --     IsChangedOf       what is planned stands in the place of what was held
---     IsPutTo           what an edit answers and leaves, once its differences are found
 --     IsPushedTo        what a whole edit answers and leaves
 use Rattle.std.specs.Prelude.{◌≡◌, ◌≤◌, ◌+◌, ◌*◌, ℕ, true, List, None, Some, Result, Ok, Err, filter, length, map, not}
 use Rattle.address_map.specs.AddressMap.{AddressMap}
@@ -193,28 +192,3 @@ parts_of bridges solver places objective_at reads = record {
   objective_at = objective_at;
   reads = reads;
 }
-
--- ---- once the differences are found
-
--- what the edit touches was planned by these bridges, with few turns and reads, and stands in the place
--- of what was held
-pub record IsPutOf (e : AttachedEdit) (old : Parts) (changed : ℕ) (new : Parts) : Type 0 where
-  pub standing : List Entry
-  pub found : List Address
-  pub plan : Plan
-  pub made : IsPlannedOf e standing found plan
-  pub planning : Bridges
-  pub means : means_of planning ≡ means_of old.bridges
-  pub turns : turns_of planning.states ≤ turns_of old.bridges.states + length plan.nodes.items
-  pub reads : new.reads ≤ old.reads + length found
-  pub setting : setting_of new.bridges ≡ setting_of planning
-  pub put :
-      IsChangedOf e made.step planning old.solver old.places old.objective_at changed new.bridges
-      new.solver new.places new.objective_at
-
-abbrev pub IsPutTo : AttachedEdit → Parts → Result ℕ PushFault → Parts → Type 0
-IsPutTo e old (Ok n) new = IsPutOf e old n new
-IsPutTo e old (Err (Unsupported kind)) new =
-    IsRefusedBy e (Unsupported kind) × IsTurned old new
-IsPutTo e old (Err (Overflow at)) new = IsRefusedBy e (Overflow at) × IsTurned old new
-IsPutTo e old (Err Memory) new = setting_of new.bridges ≡ setting_of old.bridges

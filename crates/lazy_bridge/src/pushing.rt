@@ -6,11 +6,8 @@ ghost use Rattle.address_map.specs.Noted.{noted_items};
 ghost use Rattle.bridge_set.specs.Bridges.{means_of, setting_of};
 ghost use Rattle.bridge_set.specs.Turns.{turns_of};
 ghost use Rattle.found_plan.specs.Read.{named_by, own_entries, read_entries};
-ghost use Rattle.found_plan.specs.Stood.{old_leaves};
 ghost use Rattle.fresh_bridging.specs.Entries.{expression_in};
-ghost use Rattle.lazy_bridge.specs.Steps.{AreGroupsOf, IsChangedOf, IsEditOf, IsEditPlanned, IsFoundBy, IsHeldBy, IsPassedBy, IsPlannedOf, IsPushedTo, IsPutTo, IsStart, changing_variables, parts_of};
-ghost use Rattle.leaf_update.specs.Others.{others_among};
-ghost use Rattle.leaf_update.specs.Splice.{gone_in};
+ghost use Rattle.lazy_bridge.specs.Steps.{AreGroupsOf, IsChangedOf, IsEditOf, IsEditPlanned, IsFoundBy, IsHeldBy, IsPassedBy, IsPlannedOf, IsPushedTo, IsStart, changing_variables, parts_of};
 ghost use Rattle.local_laws.specs.Unlisted.{LeadBackTo, entries_of};
 ghost use Rattle.push_laws.specs.Edits.{AttachedEdit, IsMappedAnew, missing_groups};
 ghost use Rattle.touched_items.specs.DifferenceLaws.{HasDifferences};
@@ -28,13 +25,12 @@ use bridge_face::Bridge;
 use bridge_plan::{Plan, Standing};
 use bridge_set::BridgeSet;
 use found_plan::{check_found, old_leaves, standing_for};
-use leaf_update::{GoneLeaves, change_leaves, gone_among};
+use leaf_update::{change_leaves, gone_among};
 use lists::Memory;
 use model_bridging::{PushFault, check_found_groups, plan_found_groups, plan_found_others};
 use model_store::{CountedView, Undo};
 use solver_store::SolverModel;
 use std::alloc::Global;
-use std::mem;
 use touched_items::{
     Differing, FoundItems, changed_variables, compare_listed, find_items, list_undos, own_variables,
 };
@@ -77,9 +73,17 @@ pub(crate) fn push_touched<'a, B: Bridge>(
     ensures model { after.new.model ≡ after.old.model }
 {
     let differing = find_differing(alloc, after, undos)?;
-    let changed = bridge_touched(alloc, bridges, solver, map, objective_at, after, &differing);
-    drop(differing);
-    changed
+    let planned = plan_touched(alloc, bridges, map, after, &differing)?;
+    let changed = change_touched(
+        alloc,
+        bridges,
+        solver,
+        map,
+        objective_at,
+        &differing,
+        planned,
+    )?;
+    Ok(changed)
 }
 
 // The items that differ from what they were before undos, which are read once each.
@@ -99,41 +103,8 @@ fn find_differing<'a>(
     compare_listed(alloc, reading, &listed)
 }
 
-// Plans what an edit touches, and puts it in the place of what was held. The answer is the number of
-// addresses at which the leaves differ. After `Memory` some of this may be done.
-pub(crate) fn bridge_touched<'a, B: Bridge>(
-    alloc: Global,
-    bridges: &mut BridgeSet<B>,
-    solver: &mut SolverModel,
-    map: &mut AddressMap,
-    objective_at: &mut Address,
-    reading: &mut CountedView<'a>,
-    differing: &Differing<'a>,
-) -> Result<u128, PushFault>
-    requires { (e : AttachedEdit) × IsEditOf e bridges.old map.old reading.old.model differing.now
-        × IsHeldBy e bridges.old solver.old map.old objective_at.old differing.now }
-    ensures put { (e : AttachedEdit)
-        → IsEditOf e bridges.old map.old reading.old.model differing.now
-        → IsHeldBy e bridges.old solver.old map.old objective_at.old differing.now
-        → IsPutTo e (parts_of bridges.old solver.old map.old objective_at.old reading.old.reads)
-        result (parts_of bridges.new solver.new map.new objective_at.new reading.new.reads) }
-    ensures model { reading.new.model ≡ reading.old.model }
-{
-    let planned = plan_touched(alloc, bridges, map, reading, differing)?;
-    let changed = change_touched(
-        alloc,
-        bridges,
-        solver,
-        map,
-        objective_at,
-        differing,
-        planned,
-    )?;
-    Ok(changed)
-}
-
 // Plans what an edit touches, and changes nothing but the bridges' turns.
-fn plan_touched<'a, B: Bridge>(
+pub(crate) fn plan_touched<'a, B: Bridge>(
     alloc: Global,
     bridges: &mut BridgeSet<B>,
     map: &AddressMap,
@@ -287,7 +258,7 @@ fn check_all<'a, B: Bridge>(
 
 // Puts what is planned in the place of what was held. The answer is the number of addresses at which
 // the leaves differ. After `Memory` some of this may be done.
-fn change_touched<B: Bridge>(
+pub(crate) fn change_touched<B: Bridge>(
     alloc: Global,
     bridges: &mut BridgeSet<B>,
     solver: &mut SolverModel,
@@ -306,80 +277,26 @@ fn change_touched<B: Bridge>(
         bridges.new solver.new map.new objective_at.new) }
     ensures setting { setting_of bridges.new ≡ setting_of bridges.old }
 {
-    let mut planned = planned;
-    let changed = put_planned(
-        alloc,
-        bridges,
-        solver,
-        map,
-        objective_at,
-        differing,
-        &mut planned,
-    );
-    drop(planned);
-    changed
-}
-
-// The same of a plan that is lent, so that no way out frees it. Its nodes are taken out.
-fn put_planned<B: Bridge>(
-    alloc: Global,
-    bridges: &mut BridgeSet<B>,
-    solver: &mut SolverModel,
-    map: &mut AddressMap,
-    objective_at: &mut Address,
-    differing: &Differing<'_>,
-    planned: &mut Planned,
-) -> Result<u128, Memory>
-    requires { (e : AttachedEdit)
-        × IsHeldBy e bridges.old solver.old map.old objective_at.old differing.now
-        × IsPlannedOf e planned.old.standing planned.old.found.items planned.old.plan }
-    ensures changed { IfOk result (λ n. (e : AttachedEdit)
-        → IsHeldBy e bridges.old solver.old map.old objective_at.old differing.now
-        → (made : IsPlannedOf e planned.old.standing planned.old.found.items planned.old.plan)
-        → IsChangedOf e made.step bridges.old solver.old map.old objective_at.old n
-        bridges.new solver.new map.new objective_at.new) }
-    ensures setting { setting_of bridges.new ≡ setting_of bridges.old }
-{
-    let gone = gone_leaves(alloc, solver, map, objective_at, differing, planned)?;
-    bridges.let_found_go(&planned.found);
-    let changed = change_leaves(
-        alloc,
-        solver,
-        map,
-        objective_at,
-        &gone,
-        &planned.plan.leaves,
-    )?;
-    drop(gone);
-    let nodes = mem::replace(&mut planned.plan.nodes, Vec::new(alloc));
-    bridges.keep_each(nodes)?;
-    change_entries(map, differing, &planned.standing)?;
-    Ok(changed)
-}
-
-// The addresses of the leaves that were held and at which none is planned.
-fn gone_leaves(
-    alloc: Global,
-    solver: &SolverModel,
-    map: &AddressMap,
-    objective_at: &Address,
-    differing: &Differing<'_>,
-    planned: &Planned,
-) -> Result<GoneLeaves, Memory>
-    ensures { IfOk result (λ gone. gone_in gone
-        ≡ others_among (old_leaves map.now solver.now.leaves objective_at.now
-        (groups_in differing.now.before) planned.now.found.items) planned.now.plan.leaves.items) }
-{
+    let Planned {
+        found,
+        plan,
+        standing,
+    } = planned;
+    let Plan { leaves, nodes } = plan;
     let old_leaves = old_leaves(
         alloc,
         map,
         solver,
         objective_at,
         &differing.before.groups,
-        &planned.found,
+        &found,
     )?;
-    let gone = gone_among(alloc, &old_leaves, &planned.plan.leaves)?;
-    Ok(gone)
+    let gone = gone_among(alloc, &old_leaves, &leaves)?;
+    bridges.let_found_go(&found);
+    let changed = change_leaves(alloc, solver, map, objective_at, &gone, &leaves)?;
+    bridges.keep_each(nodes)?;
+    change_entries(map, differing, &standing)?;
+    Ok(changed)
 }
 
 // Sets anew what the map has of the items that differ: the expressions of their variables, and what

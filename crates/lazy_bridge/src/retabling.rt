@@ -3,7 +3,7 @@
 ghost use Rattle.item_core.specs.declared.table.Table.{Table};
 ghost use Rattle.lazy_bridge.specs.Tables.{IsRetabledTo, IsTableStart};
 
-use crate::pushing::bridge_touched;
+use crate::pushing::{change_touched, plan_touched};
 use address_map::AddressMap;
 use aff_core::Address;
 use bridge_face::Bridge;
@@ -37,15 +37,15 @@ pub(crate) fn retable<B: Bridge>(
     let kinds = changed_kinds(before, &now);
     let differing = find_changed(alloc, map, model, &kinds)?;
     let mut reading = CountedView::new(model);
-    let changed = bridge_touched(
+    let planned = plan_touched(alloc, bridges, map, &mut reading, &differing)?;
+    let changed = change_touched(
         alloc,
         bridges,
         solver,
         map,
         objective_at,
-        &mut reading,
         &differing,
-    );
-    drop(differing);
-    changed
+        planned,
+    )?;
+    Ok(changed)
 }

@@ -61,6 +61,8 @@ fn told(alloc: Global, relaxed: &UserModel, certificate: Certificate) -> Result<
         → IfOk result (SaysRelaxedCertificate model certificate) }
 {
     let relaxation = relaxation_of(alloc, relaxed, certificate)?;
-    let text = relaxation_text(alloc, relaxed, &relaxation)?;
+    let written = relaxation_text(alloc, relaxed, &relaxation);
+    drop(relaxation);
+    let text = written?;
     Ok(Answer::Printed(text))
 }

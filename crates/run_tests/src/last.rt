@@ -29,13 +29,29 @@ pub fn run_last<H: Shelf, B: Bridge>(
     for line in script.split(|byte| *byte == b'\n') {
         drop(session.line(line, shelf));
     }
-    let (calls, turns) = (calls_in(session), turns_in(session));
     let before = indices_in(rt.alloc(), session)?;
-    tell_answer(rt, &session.line(last, shelf))?;
+    let told = make_last(rt, last, shelf, session, &before);
+    drop(before);
+    told
+}
+
+// Makes the last line. The indices before it are lent, so that no way out frees them.
+fn make_last<H: Shelf, B: Bridge>(
+    rt: &HostRuntime,
+    last: &[u8],
+    shelf: &mut H,
+    session: &mut Session<B>,
+    before: &Indices,
+) -> Result<(), Stop> {
+    let (calls, turns) = (calls_in(session), turns_in(session));
+    let answer = session.line(last, shelf);
+    let told = tell_answer(rt, &answer);
+    drop(answer);
+    told?;
     let all = calls_in(session);
     rt.println(format_args!("calls {} of {all}", all.saturating_sub(calls)))?;
     rt.println(format_args!("turns {}", turns_in(session).saturating_sub(turns)))?;
-    tell_kept(rt, &before, session)
+    tell_kept(rt, before, session)
 }
 
 fn tell_answer(rt: &HostRuntime, answer: &Answer) -> Result<(), Stop> {

@@ -33,7 +33,9 @@ use test_support::Stop;
 
 fn main(rt: HostRuntime) -> io::Result<()> {
     let mut case = Case::new(rt.alloc());
-    match run(&rt, &mut case) {
+    let ran = run(&rt, &mut case);
+    drop(case);
+    match ran {
         Ok(()) => Ok(()),
         Err(Stop) => println!(rt; "stopped"),
     }

@@ -77,7 +77,11 @@ fn told(
         → IfOk result (SaysMappedCertificate old rows.now model.now.model certificate) }
 {
     match rows.take_back(certificate) {
-        Ok(certificate) => printed(alloc, model, &certificate),
+        Ok(certificate) => {
+            let text = printed(alloc, model, &certificate);
+            drop(certificate);
+            text
+        }
         Err(fault) => tell_mapping(alloc, fault),
     }
 }

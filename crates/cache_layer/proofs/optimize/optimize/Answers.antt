@@ -20,8 +20,8 @@ returns-in_err-answer-clause-outcome g c =
     (readable_here lazy model c.table-native.ensures.sound c.table-native.ensures.native
     c.requires) c.in_err-answer.ensures))
 
-pub certificate-carried-requires-clause-right : goal.certificate-carried-requires-clause-right
-certificate-carried-requires-clause-right g c =
+pub certificate-requires-clause-right : goal.certificate-requires-clause-right
+certificate-requires-clause-right g c =
     let lazy = c.args.lazy.now in
     let model = c.args.model.now.model in
     (told_here lazy c.map.result.now c.solver.result.now c.args.pivots
@@ -38,4 +38,4 @@ returns-clause-outcome g c =
     (Ok c.in_ok-answer.answer) c.map.ensures.map c.solver.ensures
     (readable_here lazy model c.table-native.ensures.sound c.table-native.ensures.native
     c.requires) c.in_ok-answer.ensures).0
-    c.certificate-carried.result (c.certificate-carried.ensures.told c.requires)
+    c.certificate.result (c.certificate.ensures.told c.requires)

@@ -9,9 +9,9 @@ take_back-requires c =
 
 pub returns-in-Ok : goal.returns-in-Ok
 returns-in-Ok c = λ old stands.
-    says_printed old c.args.rows.now c.args.model.now.model c.printed.result c.args.certificate
-    c.in-Ok.certificate stands c.printed.ensures.valid c.requires.good c.in-Ok.ensures
-    c.printed.ensures.text
+    says_printed old c.args.rows.now c.args.model.now.model c.printed-text.result c.args.certificate
+    c.in-Ok.certificate stands c.printed-text.ensures.valid c.requires.good c.in-Ok.ensures
+    c.printed-text.ensures.text
 
 pub returns-in-Err : goal.returns-in-Err
 returns-in-Err c = λ old stands.
