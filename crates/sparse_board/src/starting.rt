@@ -73,6 +73,8 @@ pub(crate) fn put_numbers(row: &mut NarrowRow, numbers: &[Ratio]) -> bool
     ensures width { width_of row.new ≡ width_of row.old }
     ensures numbers { IsTrue result → (j : ℕ) → j < length numbers.now
         → number_of row.new j ≡ cell numbers.now j }
+    ensures others { IsTrue result → (j : ℕ) → length numbers.now ≤ j → j ≤ width_of row.old
+        → number_of row.new j ≡ zero_ℚ }
 {
     for j in 0..numbers.len() {
         if !put_any(row, j, &numbers[j]) {
@@ -116,7 +118,7 @@ fn put_whole(row: &mut NarrowRow, j: usize, value: &Ratio) -> bool
 
 // The number where it is a whole one of 64 bits.
 #[inline]
-fn whole(value: &Ratio) -> Option<i64>
+pub(crate) fn whole(value: &Ratio) -> Option<i64>
     ensures { IfSome result (λ n. (reduce n 1 ≡ value.now) × (unsigned_abs n < 2 ^ 63)) }
 {
     if value.den() != 1 {

@@ -8,6 +8,12 @@ use Rattle.tableau_core.specs.Start.{form_of}
 use Rattle.sparse_board.specs.Rows.{now_of, numbers, width_at}
 use Rattle.sparse_board.proofs.start.start_rows.Goals as goal
 
+next_lem : (i c : ℕ) → i * c + c ≡ (i + 1) * c
+next_lem i c = omega arith
+
+low_lem : (i c : ℕ) → i * c ≤ i * c + c
+low_lem i c = omega arith
+
 pub loop-i-preserved : goal.loop-i-preserved
 loop-i-preserved c =
     let i = c.loop-i.i in
@@ -16,6 +22,11 @@ loop-i-preserved c =
     let next = c.push.new.self.items in
     let new = c.in_ok-start_row.field-0 in
     record {
+      few = c.row_end-end.ensures.within;
+      split = subst (λ k. AreTermsSplit k c.row_end-end.result c.terms.result.now)
+          (next_lem i c.args.c)
+          (c.row_end-end.ensures.split (length c.args.matrix.now) (i * c.args.c)
+          c.terms.ensures.terms (low_lem i c.args.c) c.loop-i.invariant.split);
       room = c.in_ok-start_row.ensures.room;
       count = pushed_long i rows next new count c.in_ok-push.ensures.items;
       wide = each_pushed (λ k o. width_at (now_of o) ≡ c.args.c + c.args.m + 1) i rows next new
@@ -24,7 +35,8 @@ loop-i-preserved c =
           let F : Form = form_of c.args.m c.args.c c.args.matrix.now right costs in
           each_pushed (λ k o. (j : ℕ) → j < c.args.c + c.args.m → numbers (now_of o) j ≡ entry F
           (start F) j k) i rows next new count (c.loop-i.invariant.entries right costs)
-          (c.in_ok-start_row.ensures.entries right costs) c.in_ok-push.ensures.items;
+          (c.in_ok-start_row.ensures.entries c.args.matrix.now (numbers_lem c) right costs)
+          c.in_ok-push.ensures.items;
       sides = each_pushed (λ k o. numbers (now_of o) (c.args.c + c.args.m) ≡ cell c.args.right.now
           k) i rows next new count c.loop-i.invariant.sides (c.in_ok-start_row.ensures.side
           ∙ item_is c.args.right.now i c.index-right-i.result c.loop-i-test.true c.index-right-i.is)
