@@ -10,7 +10,6 @@ pub mod BoardSteps
 pub mod StartSteps
 pub mod WholeStartSteps
 pub mod PlaceSteps
-pub mod SummingSteps
 pub mod ScanSteps
 pub mod WordSteps
 pub mod MarkSteps

@@ -1,5 +1,5 @@
 -- The rows of a board at its start.
-use Rattle.std.specs.Prelude.{◌≡◌, ℕ, true, ◌+◌, ◌-◌, ◌*◌, ◌<◌, ◌≤◌, ◌^◌, List, [], ◌∷◌, drop, length, slice_index_or, ◌⊎◌, refl}
+use Rattle.std.specs.Prelude.{◌≡◌, ℕ, ◌+◌, ◌-◌, ◌<◌, ◌≤◌, ◌^◌, List, [], ◌∷◌, drop, length, slice_index_or, ◌⊎◌, refl}
 use Rattle.std.proofs.Common.{inl, inr, sym, ◌∙◌, ap, arith, subst}
 use Rattle.std.proofs.Math.ListN.{drop_of_length-le}
 use Rattle.std.proofs.lemmas.Bool.{cases_lt}
@@ -8,15 +8,13 @@ use Rattle.ratio_core.specs.Rational.{Rational, one_ℚ, zero_ℚ}
 use Rattle.simplex_laws.specs.BoundedSumLaws.{same_or_other}
 use Rattle.sparse_ratios.specs.Terms.{AreTerms, number_at}
 use Rattle.simplex_form.specs.Basis.{start}
-use Rattle.simplex_form.specs.Board.{entry, price}
-use Rattle.simplex_form.specs.Fit.{first_sum_fits, start_fits}
-use Rattle.simplex_form.specs.Form.{Form, first_cost, second_cost}
-use Rattle.simplex_laws.specs.SearchLaws.{all_below_all}
+use Rattle.simplex_form.specs.Board.{entry}
+use Rattle.simplex_form.specs.Form.{Form, second_cost}
 use Rattle.simplex_laws.specs.TurnLaws.{second_cost_artificial, second_cost_real}
 use Rattle.tableau_core.specs.Row.{cell}
 use Rattle.tableau_core.specs.Start.{IsListOf, form_of}
 use Rattle.tableau_core.specs.TermSteps.{AreTermsLeft, all_left, column_past, column_within, left_after, number_there, place_past, zero_at_end, zero_before}
-use Rattle.tableau_core.specs.StartLaws.{first-artificial, first-real, real-entry, unit-entry, zero-entry}
+use Rattle.tableau_core.specs.StartLaws.{real-entry, unit-entry, zero-entry}
 use Rattle.sparse_board.specs.declared.board.Board.TheInside.{Inside}
 use Rattle.sparse_board.specs.declared.mixed_row.MixedRow.{MixedRow}
 use Rattle.sparse_board.specs.declared.sparse_row.SparseRow.{SparseRow}
@@ -26,15 +24,13 @@ use Rattle.sparse_board.specs.Sparse.{AreColumnsBelow, columns_in}
 use Rattle.sparse_board.specs.Rows.{AreSparseRowsWide}
 use Rattle.sparse_board.specs.Marking.{AreNumbersMarked}
 use Rattle.sparse_board.specs.Kept.{IsSparseBoardKept, columns_of}
-use Rattle.sparse_board.specs.Starting.{IsNegatedSum}
 use Rattle.sparse_board.proofs.HeldLemmas.{below_less, held_next, held_past, held_same}
 
 -- a cost row has the numbers that it is made of
-pub costs_are : (n : ℕ) (f : ℕ → Rational) (numbers given : List Rational) (row : MixedRow)
+pub listed_are : (n : ℕ) (f : ℕ → Rational) (numbers given : List Rational) (row : ℕ → Rational)
     → numbers ≡ given → IsListOf n f given
-    → ((j : ℕ) → j < length numbers → mixed.number_of row j ≡ cell numbers j)
-    → (j : ℕ) → j < n → mixed.number_of row j ≡ f j
-costs_are n f numbers given row e h held j b =
+    → ((j : ℕ) → j < length numbers → row j ≡ cell numbers j) → (j : ℕ) → j < n → row j ≡ f j
+listed_are n f numbers given row e h held j b =
     held j (subst (λ k. j < k) (sym (ap length e ∙ h.long)) b) ∙ ap (λ l. cell l j) e
     ∙ h.cells j b
 
@@ -52,27 +48,6 @@ second_costs_are m costs matrix right numbers reals zeros j b = by_kind (cases_l
     by_kind : (j < length costs) ⊎ (length costs ≤ j) → numbers j ≡ second_cost F j
     by_kind (inl d) = reals j d ∙ sym (second_cost_real F j d)
     by_kind (inr d) = zeros j d b ∙ sym (second_cost_artificial F j d)
-
--- the first has the negated sums of the columns, and zeros behind them
-module _ (m c : ℕ) (matrix right costs : List Rational) where
-  abbrev first_form : Form
-  first_form = form_of m c matrix right costs
-
-  pub first_costs_are : (numbers : ℕ → Rational)
-      → ((j : ℕ) → j < c → IsNegatedSum m (λ i. cell matrix (i * c + j)) (numbers j))
-      → ((j : ℕ) → c ≤ j → j < c + m → numbers j ≡ zero_ℚ) → (j : ℕ) → j < c + m
-      → numbers j ≡ price first_form (start first_form) (first_cost first_form) j
-  first_costs_are numbers sums zeros j b = by_kind (cases_lt j c)
-    where
-      by_kind : (j < c) ⊎ (c ≤ j)
-          → numbers j ≡ price first_form (start first_form) (first_cost first_form) j
-      by_kind (inl d) = first-real first_form j (numbers j) d (sums j d).value
-      by_kind (inr d) = zeros j d b ∙ sym (first-artificial first_form j d b)
-
-  pub sums_fit : (numbers : ℕ → Rational)
-      → ((j : ℕ) → j < c → IsNegatedSum m (λ i. cell matrix (i * c + j)) (numbers j))
-      → start_fits first_form ≡ true
-  sums_fit numbers sums = all_below_all c (first_sum_fits first_form) (λ j b. (sums j b).fit)
 
 module _ (F : Form) (i : ℕ) (row : i < F.rows) where
   abbrev entries : ℕ → Rational

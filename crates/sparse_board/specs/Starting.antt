@@ -1,9 +1,7 @@
 -- Whole numbers that a row starts with.
-use Rattle.std.specs.Prelude.{◌≡◌, ℕ, ◌<◌, ◌≤◌, true, List}
-use Rattle.ratio_core.specs.Rational.{Rational, neg_ℚ, sum_fits}
+use Rattle.std.specs.Prelude.{◌≡◌, ℕ, ◌<◌, ◌≤◌, List}
+use Rattle.ratio_core.specs.Rational.{Rational}
 use Rattle.sparse_ratios.specs.Terms.{AreTerms, number_at}
-use Rattle.simplex_form.specs.BoundedSums.{sum_to}
-use Rattle.simplex_form.specs.Search.{all_below}
 use Rattle.whole_rows.specs.declared.narrow_row.NarrowRow.{NarrowRow}
 use Rattle.whole_rows.specs.Rows.{number_of, width_of}
 
@@ -17,8 +15,3 @@ pub record IsNumberPut (column : ℕ) (value : Rational) (old new : NarrowRow) :
 pub record AreTermsOf (low high : ℕ) (all some : List (ℕ × Rational)) : Type 0 where
   pub terms : AreTerms low high some
   pub numbers : (k : ℕ) → low ≤ k → k < high → number_at some k ≡ number_at all k
-
--- the negated sum of the first n numbers f, which are added one after the other: each sum fits
-pub record IsNegatedSum (n : ℕ) (f : ℕ → Rational) (x : Rational) : Type 0 where
-  pub value : x ≡ neg_ℚ (sum_to n f)
-  pub fit : all_below n (λ i. sum_fits (sum_to i f) (f i)) ≡ true

@@ -22,7 +22,6 @@ mod start;
 mod start_costs;
 mod starting;
 mod step;
-mod summing;
 mod terms;
 mod words;
 

@@ -12,15 +12,13 @@ ghost use Rattle.whole_rows.specs.Rows as whole;
 use crate::row::Row;
 use crate::sparse_row::SparseRow;
 use crate::starting::put_numbers;
-use crate::summing::put_sums;
 use ratio_core::{NumberFault, Ratio};
 use sparse_ratios::SparseRatios;
 use std::alloc::{AllocError, Global};
 use tableau_core::{first_prices, second_prices};
 use whole_rows::NarrowRow;
 
-// The first: the negated sums of the real columns, and 0 in each artificial one. Where all is of whole
-// numbers of 64 bits, no sum can overflow, and none is made as a fraction.
+// The first: the negated sums of the real columns, and 0 in each artificial one.
 pub(crate) fn first_row(
     alloc: Global,
     m: usize,
@@ -36,11 +34,11 @@ pub(crate) fn first_row(
     ensures overflow { IsErrOf result NumberFault.Overflow
         → AtEachStart m c matrix.now (λ F _. start_fits F ≡ false) }
 {
+    let prices = first_prices(alloc, m, c, matrix)?;
     let mut narrow = NarrowRow::zeros(alloc, c + m)?;
-    if put_sums(&mut narrow, m, c, matrix) {
+    if put_numbers(&mut narrow, &prices) {
         return Ok(Row::of_whole(alloc, narrow, c + m));
     }
-    let prices = first_prices(alloc, m, c, matrix)?;
     Ok(row_of(alloc, narrow, &prices)?)
 }
 

@@ -118,7 +118,7 @@ fn put_whole(row: &mut NarrowRow, j: usize, value: &Ratio) -> bool
 
 // The number where it is a whole one of 64 bits.
 #[inline]
-pub(crate) fn whole(value: &Ratio) -> Option<i64>
+fn whole(value: &Ratio) -> Option<i64>
     ensures { IfSome result (λ n. (reduce n 1 ≡ value.now) × (unsigned_abs n < 2 ^ 63)) }
 {
     if value.den() != 1 {

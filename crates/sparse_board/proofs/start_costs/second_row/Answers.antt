@@ -3,7 +3,7 @@ use Rattle.std.proofs.lemmas.Bool.{cases_lt}
 use Rattle.simplex_form.specs.Form.{Form, second_cost}
 use Rattle.simplex_laws.specs.TurnLaws.{second_cost_artificial, second_cost_real}
 use Rattle.tableau_core.specs.Start.{form_of}
-use Rattle.sparse_board.proofs.StartSteps.{costs_are, second_costs_are}
+use Rattle.sparse_board.proofs.StartSteps.{listed_are, second_costs_are}
 use Rattle.sparse_board.proofs.start_costs.second_row.Goals as goal
 
 pub returns-then-put_numbers-clause-prices : goal.returns-then-put_numbers-clause-prices
@@ -16,7 +16,7 @@ returns-then-put_numbers-clause-prices c matrix right j b =
 
 pub returns-clause-prices : goal.returns-clause-prices
 returns-clause-prices c matrix right =
-    costs_are (length c.args.costs.now + c.args.m)
+    listed_are (length c.args.costs.now + c.args.m)
     (second_cost (form_of c.args.m (length c.args.costs.now) matrix right c.args.costs.now))
     c.deref.result.now c.in_ok-prices.prices.items c.row_of.result.now c.deref.ensures.value
     (c.in_ok-prices.ensures.prices matrix right) c.row_of.ensures.numbers
