@@ -16,7 +16,6 @@ use Rattle.tableau_core.specs.Start.{IsListOf, form_of}
 use Rattle.tableau_core.specs.TermSteps.{AreTermsLeft, all_left, column_past, column_within, left_after, number_there, place_past, zero_at_end, zero_before}
 use Rattle.tableau_core.specs.StartLaws.{real-entry, unit-entry, zero-entry}
 use Rattle.sparse_board.specs.declared.board.Board.TheInside.{Inside}
-use Rattle.sparse_board.specs.declared.mixed_row.MixedRow.{MixedRow}
 use Rattle.sparse_board.specs.declared.sparse_row.SparseRow.{SparseRow}
 use Rattle.sparse_board.specs.Mixed as mixed
 use Rattle.sparse_board.specs.Numbers.{AppendsNumber, HoldsBelow, number_of, row_columns}
