@@ -31,7 +31,8 @@ pub fn form(alloc: Global, seed: u32, size: &Size) -> Result<StdForm, BenchFault
     let (m, c) = (usize::from(size.rows), usize::from(size.columns));
     let point = numbers(alloc, &mut draw, c, 4)?;
     let costs = drawn_costs(alloc, &mut draw, c)?;
-    let mut matrix = SparseRatios::new(alloc);
+    let cells = m.checked_mul(c).ok_or(BenchFault::Number)?;
+    let mut matrix = SparseRatios::with_capacity(alloc, cells)?;
     let mut right = Vec::with_capacity(alloc, m)?;
     put_rows(alloc, &mut draw, size, &point, &mut matrix, &mut right)?;
     checked(alloc, m, c, matrix, right, costs)

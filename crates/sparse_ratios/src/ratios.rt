@@ -40,6 +40,14 @@ impl SparseRatios {
         }
     }
 
+    /// No numbers, with room for `count` that aren't 0.
+    pub fn with_capacity(alloc: Global, count: usize) -> Result<SparseRatios, Memory>
+        ensures { IfOk result (λ list. list ≡ []) }
+    {
+        let terms = Vec::with_capacity(alloc, count)?;
+        Ok(SparseRatios { len: 0, terms })
+    }
+
     /// These numbers.
     pub fn from_slice(alloc: Global, numbers: &[Ratio]) -> Result<SparseRatios, Memory>
         ensures { IfOk result (λ list. list ≡ numbers.now) }
