@@ -8,7 +8,7 @@ use crate::pivoting::{prepare_pivot, settle_pivot};
 use crate::row::Row;
 use crate::scan::{first_negative, first_nonzero};
 use crate::start::start_rows;
-use crate::start_costs::{first_row, second_row};
+use crate::start_costs::start_costs;
 use crate::step::Step;
 use ratio_core::{NumberFault, Ratio};
 use sparse_ratios::SparseRatios;
@@ -59,21 +59,16 @@ impl Tableau for Board {
         if c + m >= u32::MAX as usize {
             return Err(NumberFault::Memory);
         }
-        let first = first_row(alloc, m, c, matrix)?;
-        let second = second_row(alloc, m, costs)?;
-        let rows = start_rows(alloc, m, c, matrix, right)?;
-        let step = Step::zeros(alloc, c + m)?;
-        let marks = marks_of(alloc, &rows, c + m + 1)?;
-        let changes = Changes::none(alloc, m)?;
         let basis = start_basis(alloc, m, c)?;
+        let changes = Changes::none(alloc, m)?;
+        let rows = start_rows(alloc, m, c, matrix, right)?;
+        let marks = marks_of(alloc, &rows, c + m + 1)?;
+        let step = Step::zeros(alloc, c + m)?;
+        let cost_rows = start_costs(alloc, m, c, matrix, costs)?;
         Ok(Board {
             reals: c,
             rows,
-            costs: CostRows {
-                in_first: true,
-                first,
-                second,
-            },
+            costs: cost_rows,
             step,
             marks,
             changes,

@@ -9,6 +9,7 @@ ghost use Rattle.tableau_core.specs.Start.{AtEachStart, form_of};
 ghost use Rattle.sparse_board.specs.Mixed.{number_of, width_of};
 ghost use Rattle.whole_rows.specs.Rows as whole;
 
+use crate::cost_rows::CostRows;
 use crate::row::Row;
 use crate::sparse_row::SparseRow;
 use crate::starting::put_numbers;
@@ -18,8 +19,40 @@ use std::alloc::{AllocError, Global};
 use tableau_core::{first_prices, second_prices};
 use whole_rows::NarrowRow;
 
+// Both, of which the first is in use.
+pub(crate) fn start_costs(
+    alloc: Global,
+    m: usize,
+    c: usize,
+    matrix: &SparseRatios,
+    costs: &[Ratio],
+) -> Result<CostRows, NumberFault>
+    requires long { length matrix.now ≡ m * c }
+    requires costs { length costs.now ≡ c }
+    requires few { c + m + 1 < 2 ^ 32 }
+    ensures in_first { IfOk result (λ rows. rows.in_first ≡ true) }
+    ensures first_wide { IfOk result (λ rows. width_of rows.first.now ≡ c + m) }
+    ensures second_wide { IfOk result (λ rows. width_of rows.second.now ≡ c + m) }
+    ensures first { IfOk result (λ rows. AtEachStart m c matrix.now (λ F s.
+        (j : ℕ) → j < c + m → number_of rows.first.now j ≡ price F s (first_cost F) j)) }
+    ensures second { IfOk result (λ rows. (right : List Rational) →
+        let F = form_of m c matrix.now right costs.now in
+        (j : ℕ) → j < c + m → number_of rows.second.now j ≡ second_cost F j) }
+    ensures fits { OnOk result (AtEachStart m c matrix.now (λ F _. start_fits F ≡ true)) }
+    ensures overflow { IsErrOf result NumberFault.Overflow
+        → AtEachStart m c matrix.now (λ F _. start_fits F ≡ false) }
+{
+    let first = first_row(alloc, m, c, matrix)?;
+    let second = second_row(alloc, m, costs)?;
+    Ok(CostRows {
+        in_first: true,
+        first,
+        second,
+    })
+}
+
 // The first: the negated sums of the real columns, and 0 in each artificial one.
-pub(crate) fn first_row(
+fn first_row(
     alloc: Global,
     m: usize,
     c: usize,
@@ -43,7 +76,7 @@ pub(crate) fn first_row(
 }
 
 // The second: the costs, and 0 in each artificial column.
-pub(crate) fn second_row(alloc: Global, m: usize, costs: &[Ratio]) -> Result<Row, AllocError>
+fn second_row(alloc: Global, m: usize, costs: &[Ratio]) -> Result<Row, AllocError>
     requires few { length costs.now + m + 1 < 2 ^ 32 }
     ensures wide { IfOk result (λ row. width_of row.now ≡ length costs.now + m) }
     ensures prices { IfOk result (λ row. (matrix right : List Rational) →
