@@ -1,11 +1,11 @@
 -- Terms split at a place.
-use Rattle.std.specs.Prelude.{◌≡◌, ℕ, ◌+◌, ◌-◌, ◌<◌, ◌≤◌, ◌⊎◌, List, drop, length, take, slice_index_or, refl}
+use Rattle.std.specs.Prelude.{◌≡◌, ℕ, ◌+◌, ◌-◌, ◌<◌, ◌≤◌, ◌⊎◌, List, drop, length, take, slice_index_or}
 use Rattle.std.proofs.Common.{inl, inr, sym, ◌∙◌, ap, arith, subst}
 use Rattle.std.proofs.lemmas.Bool.{cases_lt}
 use Rattle.std.proofs.lemmas.List.{get_or-drop, get_or_default, length-drop}
 use Rattle.ratio_core.specs.Rational.{Rational}
 use Rattle.simplex_laws.specs.BoundedSumLaws.{same_or_other}
-use Rattle.sparse_ratios.specs.Terms.{AreTerms, AreTermsSplit, number_at}
+use Rattle.sparse_ratios.specs.Terms.{AreTerms, AreTermsSplit}
 use Rattle.sparse_ratios.specs.TermLaws.{number_dropped, number_taken, terms_dropped, terms_rise, terms_taken}
 use Rattle.sparse_board.specs.Starting.{AreTermsOf}
 
@@ -18,12 +18,12 @@ pub passed_none : (to from : ℕ) (ts : List (ℕ × Rational)) → ArePassed to
 passed_none to from ts j d b e = absurd (omega (arith, b, e))
 
 pub passed_more : (to from k : ℕ) (ts : List (ℕ × Rational)) (t : ℕ × Rational)
-    → ArePassed to from k ts → k < length ts → t ≡ slice_index_or ts k t → t.0 < to
+    → ArePassed to from k ts → k < length ts → (slice_index_or ts k t).0 < to
     → ArePassed to from (k + 1) ts
-passed_more to from k ts t h b is e j d f g =
+passed_more to from k ts t h b e j d f g =
     same_or_other ((slice_index_or ts j d).0 < to) j k
     (λ s. subst (λ n. (slice_index_or ts n d).0 < to) (sym s)
-    (subst (λ x. x.0 < to) (is ∙ get_or_default ts k t d b) e))
+    (subst (λ x. x.0 < to) (get_or_default ts k t d b) e))
     (λ n. h j d f (low_lem j k g n))
   where
     low_lem : (j k : ℕ) → j < k + 1 → ¬ (j ≡ k) → j < k
@@ -41,12 +41,12 @@ module _ (n low to from : ℕ) (ts : List (ℕ × Rational)) (h : AreTerms 0 n t
 
   -- the k-th term isn't at a place below `to`
   pub split_at : (k : ℕ) (t : ℕ × Rational) → ArePassed to from k ts → k < length ts
-      → t ≡ slice_index_or ts k t → to ≤ t.0 → AreTermsSplit to k ts
-  split_at k t passed b is past = record {
+      → to ≤ (slice_index_or ts k t).0 → AreTermsSplit to k ts
+  split_at k t passed b past = record {
     before = below_to k passed;
     after = λ j d e f. omega (
       arith,
-      subst (λ x. to ≤ x.0) (is ∙ get_or_default ts k t d b) past,
+      subst (λ x. to ≤ x.0) (get_or_default ts k t d b) past,
       terms_rise 0 n ts k j d h e f,
     );
   }
@@ -82,10 +82,3 @@ between_splits n low high from end ts h first last b = record {
       sym (ap (λ t. t.0) (get_or-drop from ts j d)) ∙ x,
       last.after (from + j) d (omega (arith, g, b)) (omega (arith, i, length-drop from ts)),
     )
-
--- no term is at a place below 0
-pub split_none : (ts : List (ℕ × Rational)) → AreTermsSplit 0 0 ts
-split_none ts = record {
-  before = λ k d b. absurd (omega (arith, b));
-  after = λ k d b e. omega arith;
-}

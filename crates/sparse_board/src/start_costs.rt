@@ -52,12 +52,7 @@ pub(crate) fn start_costs(
 }
 
 // The first: the negated sums of the real columns, and 0 in each artificial one.
-fn first_row(
-    alloc: Global,
-    m: usize,
-    c: usize,
-    matrix: &SparseRatios,
-) -> Result<Row, NumberFault>
+fn first_row(alloc: Global, m: usize, c: usize, matrix: &SparseRatios) -> Result<Row, NumberFault>
     requires long { length matrix.now ≡ m * c }
     requires few { c + m + 1 < 2 ^ 32 }
     ensures wide { IfOk result (λ row. width_of row.now ≡ c + m) }

@@ -2,14 +2,14 @@ use Rattle.std.proofs.Common.{◌≡◌, ◌+◌, ◌*◌, ◌<◌, ◌≤◌, �
 use Rattle.simplex_form.specs.Basis.{start}
 use Rattle.simplex_form.specs.Board.{entry}
 use Rattle.simplex_form.specs.Form.{Form}
-use Rattle.sparse_ratios.specs.Terms.{AreTerms, AreTermsSplit, number_at}
+use Rattle.sparse_ratios.specs.Terms.{AreTermsSplit, number_at}
 use Rattle.tableau_core.specs.Row.{cell}
 use Rattle.tableau_core.specs.ItemLaws.{each_pushed, item_is, pushed_long}
 use Rattle.tableau_core.specs.Start.{form_of}
 use Rattle.sparse_board.specs.Rows.{now_of, numbers, width_at}
 use Rattle.sparse_board.specs.Starting.{AreTermsOf}
-use Rattle.sparse_board.proofs.PlaceSteps.{split_none}
 use Rattle.sparse_board.proofs.start.start_rows.Goals as goal
+use Rattle.sparse_board.proofs.start.start_rows.Goals.{After-terms_between-entries}
 
 next_lem : (i c : ℕ) → i * c + c ≡ (i + 1) * c
 next_lem i c = omega arith
@@ -17,16 +17,25 @@ next_lem i c = omega arith
 low_lem : (i c : ℕ) → i * c ≤ i * c + c
 low_lem i c = omega arith
 
--- the terms of row i
-some_lem : (c : goal.After-terms_between-entries) → AreTermsOf (c.loop-i.i * c.args.c) (c.loop-i.i * c.args.c + c.args.c) c.terms-terms.result.now c.terms_between-entries.result.now
-some_lem c =
+-- the terms after row i
+ends_at : (c : After-terms_between-entries)
+    → AreTermsSplit (c.loop-i.i * c.args.c + c.args.c) c.row_end-end.result c.terms-terms.result.now
+ends_at c =
+    c.row_end-end.ensures.split (length c.args.matrix.now) (c.loop-i.i * c.args.c)
+    c.terms-terms.ensures.terms (low_lem c.loop-i.i c.args.c) c.loop-i.invariant.split
+
+-- those of row i
+terms_of : (c : After-terms_between-entries)
+    → AreTermsOf (c.loop-i.i * c.args.c) (c.loop-i.i * c.args.c + c.args.c)
+    c.terms-terms.result.now c.terms_between-entries.result.now
+terms_of c =
     c.terms_between-entries.ensures (length c.args.matrix.now) (c.loop-i.i * c.args.c)
     (c.loop-i.i * c.args.c + c.args.c) c.terms-terms.ensures.terms c.loop-i.invariant.split
-    (c.row_end-end.ensures.split (length c.args.matrix.now) (c.loop-i.i * c.args.c)
-    c.terms-terms.ensures.terms (low_lem c.loop-i.i c.args.c) c.loop-i.invariant.split)
+    (ends_at c)
 
 pub start_row-requires-clause-terms : goal.start_row-requires-clause-terms
-start_row-requires-clause-terms c = (some_lem (goal.at.start_row-requires-clause-terms c).After-terms_between-entries).terms
+start_row-requires-clause-terms c =
+    (terms_of (goal.at.start_row-requires-clause-terms c).After-terms_between-entries).terms
 
 pub loop-i-preserved : goal.loop-i-preserved
 loop-i-preserved c =
@@ -37,13 +46,10 @@ loop-i-preserved c =
     let new = c.in_ok-start_row.field-0 in
     let terms = c.terms-terms.result.now in
     let entries = c.terms_between-entries.result.now in
-    let rise : AreTerms 0 (length c.args.matrix.now) terms = c.terms-terms.ensures.terms in
     let split : AreTermsSplit (i * c.args.c + c.args.c) c.row_end-end.result terms =
-    c.row_end-end.ensures.split (length c.args.matrix.now) (i * c.args.c) rise
-    (low_lem i c.args.c) c.loop-i.invariant.split in
+    ends_at (goal.at.loop-i-preserved c).After-terms_between-entries in
     let some : AreTermsOf (i * c.args.c) (i * c.args.c + c.args.c) terms entries =
-    c.terms_between-entries.ensures (length c.args.matrix.now) (i * c.args.c)
-    (i * c.args.c + c.args.c) rise c.loop-i.invariant.split split in
+    terms_of (goal.at.loop-i-preserved c).After-terms_between-entries in
     let same : (j : ℕ) → j < c.args.c
     → number_at entries (i * c.args.c + j) ≡ cell c.args.matrix.now (i * c.args.c + j) =
     λ j b. some.numbers (i * c.args.c + j) (omega arith) (omega (arith, b))

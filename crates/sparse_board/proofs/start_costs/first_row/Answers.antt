@@ -1,4 +1,4 @@
-use Rattle.std.proofs.Common.{◌≡◌, ◌+◌, ◌<◌, ◌∙◌, [], ap, arith, length, ℕ}
+use Rattle.std.proofs.Common.{◌+◌, ◌∙◌, [], ap, arith, length}
 use Rattle.simplex_form.specs.Basis.{start}
 use Rattle.simplex_form.specs.Board.{price}
 use Rattle.simplex_form.specs.Form.{Form, first_cost}
@@ -10,18 +10,31 @@ use Rattle.sparse_board.proofs.start_costs.first_row.Goals as goal
 
 pub put_numbers-requires-clause-long : goal.put_numbers-requires-clause-long
 put_numbers-requires-clause-long c =
-    omega (arith, ap length c.deref.ensures.value, (c.in_ok-prices.ensures.prices [] []).long,
-    c.in_ok-narrow.ensures.width)
+    omega (
+      arith,
+      ap length c.deref.ensures.value,
+      (c.in_ok-prices.ensures.prices [] []).long,
+      c.in_ok-narrow.ensures.width,
+    )
 
 pub row_of-requires-clause-columns : goal.row_of-requires-clause-columns
 row_of-requires-clause-columns c =
-    omega (arith, ap length c.deref-2.ensures.value, (c.in_ok-prices.ensures.prices [] []).long,
-    c.put_numbers.ensures.width, c.in_ok-narrow.ensures.width)
+    omega (
+      arith,
+      ap length c.deref-2.ensures.value,
+      (c.in_ok-prices.ensures.prices [] []).long,
+      c.put_numbers.ensures.width,
+      c.in_ok-narrow.ensures.width,
+    )
 
 pub row_of-requires-clause-few : goal.row_of-requires-clause-few
 row_of-requires-clause-few c =
-    omega (arith, ap length c.deref-2.ensures.value, (c.in_ok-prices.ensures.prices [] []).long,
-    c.requires.few)
+    omega (
+      arith,
+      ap length c.deref-2.ensures.value,
+      (c.in_ok-prices.ensures.prices [] []).long,
+      c.requires.few,
+    )
 
 pub returns-clause-wide : goal.returns-clause-wide
 returns-clause-wide c =

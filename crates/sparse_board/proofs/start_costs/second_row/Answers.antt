@@ -8,13 +8,22 @@ use Rattle.sparse_board.proofs.start_costs.second_row.Goals as goal
 
 pub row_of-requires-clause-columns : goal.row_of-requires-clause-columns
 row_of-requires-clause-columns c =
-    omega (arith, ap length c.deref.ensures.value, (c.in_ok-prices.ensures.prices [] []).long,
-    c.put_numbers.ensures.width, c.in_ok-narrow.ensures.width)
+    omega (
+      arith,
+      ap length c.deref.ensures.value,
+      (c.in_ok-prices.ensures.prices [] []).long,
+      c.put_numbers.ensures.width,
+      c.in_ok-narrow.ensures.width,
+    )
 
 pub row_of-requires-clause-few : goal.row_of-requires-clause-few
 row_of-requires-clause-few c =
-    omega (arith, ap length c.deref.ensures.value, (c.in_ok-prices.ensures.prices [] []).long,
-    c.requires)
+    omega (
+      arith,
+      ap length c.deref.ensures.value,
+      (c.in_ok-prices.ensures.prices [] []).long,
+      c.requires,
+    )
 
 pub returns-clause-wide : goal.returns-clause-wide
 returns-clause-wide c =

@@ -5,8 +5,9 @@ use Rattle.sparse_board.specs.Mixed.{number_of}
 use Rattle.sparse_board.proofs.start_costs.start_costs.Goals as goal
 
 pub second_row-requires : goal.second_row-requires
-second_row-requires c =
-    subst (λ n. n + c.args.m + 1 < 4294967296) (sym c.requires.costs) c.requires.few
+second_row-requires c = record {
+  few = subst (λ n. n + c.args.m + 1 < 4294967296) (sym c.requires.costs) c.requires.few;
+}
 
 pub returns-clause-second_wide : goal.returns-clause-second_wide
 returns-clause-second_wide c =

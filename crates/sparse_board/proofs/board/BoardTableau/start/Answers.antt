@@ -1,4 +1,4 @@
-use Rattle.std.proofs.Common.{◌+◌, ◌∙◌, ap, arith, length, subst, true}
+use Rattle.std.proofs.Common.{◌+◌, ◌∙◌, ap, arith, length, subst}
 use Rattle.std.proofs.lemmas.List.FromFn.{length-range_with_len}
 use Rattle.simplex_form.specs.Form.{Form}
 use Rattle.tableau_core.specs.KeptLaws.{started_read}
@@ -39,7 +39,7 @@ invariant_of-result c =
 pub returns-clause-board : goal.returns-clause-board
 returns-clause-board c =
     started_read (form c) c.in_ok-basis.basis.items (numbers_of (made c)) (contents_of (made c))
-    (value_agrees true (made c))
+    (value_agrees c.in_ok-cost_rows.cost_rows.in_first (made c))
     c.in_ok-rows.ensures.count c.in_ok-basis.ensures (c.in_ok-rows.ensures.entries c.args.right.now
     c.args.costs.now) c.in_ok-rows.ensures.sides
     (c.in_ok-cost_rows.ensures.first c.args.right.now c.args.costs.now)
