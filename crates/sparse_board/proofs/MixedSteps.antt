@@ -190,13 +190,15 @@ left_none step row by e j = by_kind row.is_wide
     by_kind true = refl
     by_kind false = lowered_none step row.narrow by e j
 
-pub ready_numbers : (q : ℕ) (step : NarrowRow) (row next : MixedRow) (by : ℤ)
-    → row.is_wide ≡ false → next.is_wide ≡ false
-    → whole.IsNarrowReady q step row.narrow next.narrow by
-    → (j : ℕ) → j < width_of row → number_left step next by j
+-- the row that is brought over is given by its parts
+pub ready_numbers : (q : ℕ) (step : NarrowRow) (row : MixedRow) (is_wide : Bool) (wide : SparseRow)
+    (narrow : NarrowRow) (by : ℤ) → row.is_wide ≡ false → is_wide ≡ false
+    → whole.IsNarrowReady q step row.narrow narrow by → (j : ℕ) → j < width_of row
+    → (if is_wide then sparse.number_of wide j else whole.lowered_by step narrow by j)
     ≡ number_of row j -ℚ number_of row q *ℚ whole.number_of step j
-ready_numbers q step row next by e f ready j b =
-    left_narrow step next by f j ∙ ready.numbers j (room_lem j _ _ b row.room)
+ready_numbers q step row is_wide wide narrow by e f ready j b =
+    (λ i. if f i then sparse.number_of wide j else whole.lowered_by step narrow by j)
+    ∙ ready.numbers j (room_lem j _ _ b row.room)
     ∙ (λ i. sym (number_narrow row e j) i -ℚ sym (number_narrow row e q) i
     *ℚ whole.number_of step j)
   where
