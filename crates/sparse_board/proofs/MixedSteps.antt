@@ -1,5 +1,5 @@
 -- Rows of whole numbers or of fractions: what of them fits, and what is lowered.
-use Rattle.std.specs.Prelude.{◌≡◌, ℕ, ◌+◌, ◌^◌, ◌<◌, ◌≤◌, Bool, true, false, ◌&&◌, not, MatchBool, if◌then◌else◌, ℤ, pos, refl}
+use Rattle.std.specs.Prelude.{◌≡◌, ℕ, ◌+◌, ◌^◌, ◌<◌, ◌≤◌, Bool, true, false, ◌&&◌, not, MatchBool, Option, Some, None, if◌then◌else◌, ℤ, pos, refl}
 use Rattle.std.proofs.Common.{sym, ◌∙◌, ap, arith, subst, true≢false}
 use Rattle.ratio_core.specs.Rational.{Fits, Rational, fits, zero_ℚ, ◌*ℚ◌, ◌-ℚ◌, ◌/ℚ◌}
 use Rattle.simplex_form.specs.Fit.{lowered_fits}
@@ -9,15 +9,17 @@ use Rattle.tableau_core.specs.BoardNumbers.{differences_fit, quotients_fit}
 use Rattle.whole_rows.proofs.DivisionSteps.{numerator_small}
 use Rattle.whole_rows.proofs.OnceSteps.{lowered_none}
 use Rattle.whole_rows.specs.declared.narrow_row.NarrowRow.{NarrowRow}
+use Rattle.whole_rows.specs.declared.plan.LoweringPlan.{LoweringPlan}
 use Rattle.whole_rows.specs.FitLaws.{Fits_over}
 use Rattle.whole_rows.specs.NarrowFit.{narrow_quotients_fit}
 use Rattle.whole_rows.specs.RowLaws.{row_fits, row_narrow}
 use Rattle.whole_rows.specs.Rows as whole
 use Rattle.sparse_board.specs.declared.mixed_row.MixedRow.{MixedRow}
 use Rattle.sparse_board.specs.declared.row.Row.{Row}
+use Rattle.sparse_board.specs.declared.sparse_row.SparseRow.{SparseRow}
 use Rattle.sparse_board.specs.declared.step.Step.{Step}
-use Rattle.sparse_board.specs.Lowering.{HasRoomForFractions, IsFinished, IsMixedLoweredBeside, IsMixedPrepared, IsMixedReady}
-use Rattle.sparse_board.specs.Mixed.{IsLeft, IsMixedLowered, number_left, number_of, units_of, width_of}
+use Rattle.sparse_board.specs.Lowering.{IsFinished, IsMixedLoweredBeside, IsMixedPrepared, IsMixedReady, IsRowPlanned}
+use Rattle.sparse_board.specs.Mixed.{IsLeft, IsMixedLowered, IsPlanned, number_left, number_of, units_of, width_of}
 use Rattle.sparse_board.specs.Numbers as sparse
 use Rattle.sparse_board.proofs.NumberLemmas.{number_fits}
 
@@ -112,16 +114,16 @@ place_fits q row step e within =
 -- ---- a row that is worked out
 
 pub prepared_in_place : (q : ℕ) (step : Step) (row : Row) → in_place row.now step ≡ true
-    → HasRoomForFractions q step row → IsMixedPrepared q step row
+    → IsRowPlanned q step row → IsMixedPrepared q step row
 prepared_in_place q step row e h =
-    subst (λ b. MatchBool b (HasRoomForFractions q step row) (MatchBool row.changes
+    subst (λ b. MatchBool b (IsRowPlanned q step row) (MatchBool row.changes
     (IsMixedLoweredBeside (number_of row.now q) (units_of step) row.now row.next)
     (number_of row.now q ≡ zero_ℚ))) (sym e) h
 
 pub in_place_prepared : (q : ℕ) (step : Step) (row : Row) → in_place row.now step ≡ true
-    → IsMixedPrepared q step row → HasRoomForFractions q step row
+    → IsMixedPrepared q step row → IsRowPlanned q step row
 in_place_prepared q step row e h =
-    subst (λ b. MatchBool b (HasRoomForFractions q step row) (MatchBool row.changes
+    subst (λ b. MatchBool b (IsRowPlanned q step row) (MatchBool row.changes
     (IsMixedLoweredBeside (number_of row.now q) (units_of step) row.now row.next)
     (number_of row.now q ≡ zero_ℚ))) e h
 
@@ -131,7 +133,7 @@ pub prepared_beside : (q : ℕ) (step : Step) (row : Row) → in_place row.now s
     (number_of row.now q ≡ zero_ℚ)
     → IsMixedPrepared q step row
 prepared_beside q step row e h =
-    subst (λ b. MatchBool b (HasRoomForFractions q step row) (MatchBool row.changes
+    subst (λ b. MatchBool b (IsRowPlanned q step row) (MatchBool row.changes
     (IsMixedLoweredBeside (number_of row.now q) (units_of step) row.now row.next)
     (number_of row.now q ≡ zero_ℚ))) (sym e) h
 
@@ -141,7 +143,7 @@ pub beside_prepared : (q : ℕ) (step : Step) (row : Row) → in_place row.now s
     (IsMixedLoweredBeside (number_of row.now q) (units_of step) row.now row.next)
     (number_of row.now q ≡ zero_ℚ)
 beside_prepared q step row e h =
-    subst (λ b. MatchBool b (HasRoomForFractions q step row) (MatchBool row.changes
+    subst (λ b. MatchBool b (IsRowPlanned q step row) (MatchBool row.changes
     (IsMixedLoweredBeside (number_of row.now q) (units_of step) row.now row.next)
     (number_of row.now q ≡ zero_ℚ))) e h
 
@@ -188,18 +190,32 @@ left_none step row by e j = by_kind row.is_wide
     by_kind true = refl
     by_kind false = lowered_none step row.narrow by e j
 
-pub ready_numbers : (q : ℕ) (step : NarrowRow) (row next : MixedRow) (by : ℤ)
-    → row.is_wide ≡ false → next.is_wide ≡ false
-    → whole.IsNarrowReady q step row.narrow next.narrow by
-    → (j : ℕ) → j < width_of row → number_left step next by j
+-- the row that is brought over is given by its parts
+pub ready_numbers : (q : ℕ) (step : NarrowRow) (row : MixedRow) (is_wide : Bool) (wide : SparseRow)
+    (narrow : NarrowRow) (by : ℤ) → row.is_wide ≡ false → is_wide ≡ false
+    → whole.IsNarrowReady q step row.narrow narrow by → (j : ℕ) → j < width_of row
+    → (if is_wide then sparse.number_of wide j else whole.lowered_by step narrow by j)
     ≡ number_of row j -ℚ number_of row q *ℚ whole.number_of step j
-ready_numbers q step row next by e f ready j b =
-    left_narrow step next by f j ∙ ready.numbers j (room_lem j _ _ b row.room)
+ready_numbers q step row is_wide wide narrow by e f ready j b =
+    (λ i. if f i then sparse.number_of wide j else whole.lowered_by step narrow by j)
+    ∙ ready.numbers j (room_lem j _ _ b row.room)
     ∙ (λ i. sym (number_narrow row e j) i -ℚ sym (number_narrow row e q) i
     *ℚ whole.number_of step j)
   where
     room_lem : (j w n : ℕ) → j < w → w ≤ n + 1 → j < n + 1
     room_lem j w n b h = omega (arith, b, h)
+
+-- by the plan that there is
+pub planned_by : (q : ℕ) (step : NarrowRow) (row : MixedRow) (o : Option LoweringPlan)
+    (plan : LoweringPlan) (room : SparseRow) → o ≡ Some plan → IsPlanned q step row o room
+    → whole.IsLoweringPlan q step row.narrow plan
+planned_by q step row o plan room is h = subst (λ p. IsPlanned q step row p room) is h
+
+-- or in the room that there is
+pub planned_beside : (q : ℕ) (step : NarrowRow) (row : MixedRow) (o : Option LoweringPlan)
+    (room : SparseRow) → o ≡ None → IsPlanned q step row o room
+    → sparse.width_of room ≡ width_of row
+planned_beside q step row o room is h = subst (λ p. IsPlanned q step row p room) is h
 
 pub ready_in_place : (q : ℕ) (step : Step) (row next : Row) → in_place row.now step ≡ true
     → width_of next.now ≡ width_of row.now → IsLeft step.narrow.row next.now next.left

@@ -1,5 +1,5 @@
 -- What a pivot makes of a row.
-use Rattle.std.specs.Prelude.{◌≡◌, ℕ, ◌<◌, ◌&&◌, false, not, MatchBool}
+use Rattle.std.specs.Prelude.{◌≡◌, ℕ, ◌<◌, ◌&&◌, not, MatchBool}
 use Rattle.ratio_core.specs.Rational.{Rational, zero_ℚ, ◌*ℚ◌, ◌-ℚ◌, ◌/ℚ◌}
 use Rattle.sparse_board.specs.declared.row.Row.{Row}
 use Rattle.sparse_board.specs.declared.mixed_row.MixedRow.{MixedRow}
@@ -7,7 +7,6 @@ use Rattle.sparse_board.specs.declared.sparse_row.SparseRow.{SparseRow}
 use Rattle.sparse_board.specs.declared.step.Step.{Step}
 use Rattle.sparse_board.specs.Numbers.{number_of, width_of}
 use Rattle.sparse_board.specs.Mixed as mixed
-use Rattle.whole_rows.specs.Rows.{can_stay}
 
 -- each number is divided
 pub record IsSparseDivided (by : Rational) (row next : SparseRow) : Type 0 where
@@ -26,17 +25,16 @@ pub record IsMixedLoweredBeside (by : Rational) (units : ℕ → Rational) (row 
   pub numbers : (j : ℕ) → j < mixed.width_of row →
       number_of next j ≡ mixed.number_of row j -ℚ by *ℚ units j
 
--- there is room for the fractions of a row of whole numbers that may not stay one
-abbrev pub HasRoomForFractions : ℕ → Step → Row → Type 0
-HasRoomForFractions q step row =
-    can_stay q step.narrow.row row.now.narrow ≡ false → width_of row.next ≡ mixed.width_of row.now
+-- a row of whole numbers is planned for such a step
+abbrev pub IsRowPlanned : ℕ → Step → Row → Type 0
+IsRowPlanned q step row = mixed.IsPlanned q step.narrow.row row.now row.plan row.next
 
 -- the next row is worked out, or the row's entry of column q is 0, so that it stays; a row of whole
 -- numbers is lowered in place where the step is one
 abbrev pub IsMixedPrepared : ℕ → Step → Row → Type 0
 IsMixedPrepared q step row =
     MatchBool (not row.now.is_wide && step.is_narrow)
-    (HasRoomForFractions q step row)
+    (IsRowPlanned q step row)
     (MatchBool row.changes
     (IsMixedLoweredBeside (mixed.number_of row.now q) (mixed.units_of step) row.now row.next)
     (mixed.number_of row.now q ≡ zero_ℚ))

@@ -1,11 +1,13 @@
 -- What a row of whole numbers or of fractions stands for.
-use Rattle.std.specs.Prelude.{◌≡◌, ℕ, ◌^◌, ◌<◌, true, false, List, if◌then◌else◌, ℤ, pos}
+use Rattle.std.specs.Prelude.{◌≡◌, ℕ, ◌^◌, ◌<◌, true, false, List, MatchOption, Option, if◌then◌else◌, ℤ, pos}
 use Rattle.std.specs.Int.{◌∣◌}
 use Rattle.ratio_core.specs.Rational.{Rational, ◌*ℚ◌, ◌-ℚ◌}
 use Rattle.tableau_core.specs.Row.{cell}
 use Rattle.whole_rows.specs.Rows as whole
 use Rattle.whole_rows.specs.declared.narrow_row.NarrowRow.{NarrowRow}
+use Rattle.whole_rows.specs.declared.plan.LoweringPlan.{LoweringPlan}
 use Rattle.sparse_board.specs.declared.mixed_row.MixedRow.{MixedRow}
+use Rattle.sparse_board.specs.declared.sparse_row.SparseRow.{SparseRow}
 use Rattle.sparse_board.specs.declared.step.Step.{Step}
 use Rattle.sparse_board.specs.Numbers as sparse
 
@@ -37,6 +39,12 @@ number_left step row by j =
 abbrev pub IsLeft : NarrowRow → MixedRow → ℤ → Type 0
 IsLeft step row by =
     ¬ (by ≡ pos 0) → (row.is_wide ≡ false) × whole.CanLower step row.narrow by
+
+-- there is a plan by which a row of whole numbers is lowered and stays one, or there is room for its
+-- fractions
+abbrev pub IsPlanned : ℕ → NarrowRow → MixedRow → Option LoweringPlan → SparseRow → Type 0
+IsPlanned q step row plan room =
+    MatchOption plan (sparse.width_of room ≡ width_of row) (whole.IsLoweringPlan q step row.narrow)
 
 -- the numbers of a step
 abbrev pub units_of : Step → ℕ → Rational

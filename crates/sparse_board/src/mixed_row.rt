@@ -10,7 +10,7 @@ use crate::step::Step;
 use ratio_core::Ratio;
 use std::alloc::{AllocError, Global};
 use std::mem;
-use whole_rows::{NarrowRow, NarrowStep, number};
+use whole_rows::{LoweringPlan, NarrowRow, NarrowStep, number};
 
 // There is room for the fractions where the row is wide. The whole numbers of a wide row mean
 // nothing, nor do the fractions of a narrow one.
@@ -30,7 +30,7 @@ impl MixedRow {
     ghost use Rattle.std.specs.Prelude.{ℕ, false, IfOk};
     ghost use Rattle.ratio_core.specs.Rational.{◌*ℚ◌, ◌-ℚ◌};
     ghost use Rattle.whole_rows.specs.Rows.{CanLower, can_stay, lowered_by};
-    ghost use Rattle.sparse_board.specs.Mixed.{IsLeft, IsSame, number_left, number_of, units_of, width_of};
+    ghost use Rattle.sparse_board.specs.Mixed.{IsLeft, IsPlanned, IsSame, number_left, number_of, units_of, width_of};
 
     // A row of the fractions in `room`: of whole numbers, with room for them in `narrow`, where 64 bits
     // are enough. Else it keeps the fractions' room.
@@ -120,13 +120,18 @@ impl MixedRow {
 
     // Brings a row of whole numbers over the denominator of the one that it is lowered to by its
     // number of column q times the step, and tells by what multiple of the step it is to be lowered
-    // then. Where it doesn't stay narrow so, it is lowered at once, and nothing is left.
+    // then. Where there is no plan for that it is lowered at once, and nothing is left.
     #[inline(always)]
-    pub(crate) fn ready(&mut self, step: &NarrowStep, q: usize, room: &mut SparseRow) -> i64
+    pub(crate) fn ready(
+        &mut self,
+        step: &NarrowStep,
+        q: usize,
+        plan: Option<LoweringPlan>,
+        room: &mut SparseRow,
+    ) -> i64
         requires narrow { self.old.is_wide ≡ false }
         requires most { sparse.width_of room.old ≤ width_of self.old }
-        requires room { can_stay q step.now.row self.old.narrow ≡ false
-            → sparse.width_of room.old ≡ width_of self.old }
+        requires planned { IsPlanned q step.now.row self.old plan room.old }
         ensures width { width_of self.new ≡ width_of self.old }
         ensures most { sparse.width_of room.new ≤ width_of self.old }
         ensures left { IsLeft step.now.row self.new result }
@@ -134,8 +139,9 @@ impl MixedRow {
             → number_left step.now.row self.new result j
             ≡ number_of self.old j -ℚ number_of self.old q *ℚ whole.number_of step.now.row j }
     {
-        if let Some(by) = self.narrow.ready(step, q) {
-            return by;
+        if let Some(plan) = plan {
+            self.narrow.ready(step, plan);
+            return plan.by;
         }
         self.lower(step, q, room);
         0

@@ -10,15 +10,17 @@ use crate::sparse_row::SparseRow;
 use crate::step::Step;
 use ratio_core::NumberFault;
 use std::alloc::{AllocError, Global};
-use whole_rows::NarrowRow;
+use whole_rows::{LoweringPlan, NarrowRow};
 
-// Room for the next row's fractions is taken before the first pivot that may ask for it.
+// Room for the next row's fractions is taken before the first pivot that asks for it.
 #[derive(Drop)]
 pub(crate) struct Row {
     pub(crate) now: MixedRow,
     pub(crate) next: SparseRow,
     // whether a pivot that was worked out changes it
     changes: bool,
+    // how a pivot that was worked out lowers it, where it stays a row of whole numbers
+    plan: Option<LoweringPlan>,
     // by what multiple of the pivot's new row it is still to be lowered
     left: i64,
     ghost most: { sparse.width_of next ≤ width_of now },
@@ -27,7 +29,7 @@ pub(crate) struct Row {
 impl Row {
     ghost use Rattle.tableau_core.specs.BoardNumbers.{differences_fit};
     ghost use Rattle.sparse_board.specs.Mixed.{IsLeft, IsMixedLowered};
-    ghost use Rattle.sparse_board.specs.Lowering.{HasRoomForFractions, IsFinished, IsMixedPrepared, IsMixedReady};
+    ghost use Rattle.sparse_board.specs.Lowering.{IsFinished, IsMixedPrepared, IsMixedReady, IsRowPlanned};
     ghost use Rattle.sparse_board.specs.Testing.{IsTest};
 
     // A row of the fractions in `room`, with room for whole numbers.
@@ -44,6 +46,7 @@ impl Row {
             now: MixedRow::new(alloc, narrow, room, width),
             next: SparseRow::closed(alloc),
             changes: false,
+            plan: None,
             left: 0,
         }
     }
@@ -64,6 +67,7 @@ impl Row {
             },
             next: SparseRow::closed(alloc),
             changes: false,
+            plan: None,
             left: 0,
         }
     }
@@ -81,7 +85,7 @@ impl Row {
         ensures ok { OnOk result (IsMixedPrepared q step.now self.new) }
     {
         if is_in_place(&self.now, step) {
-            return Ok(self.make_room(q, step)?);
+            return Ok(self.make_plan(q, step)?);
         }
         self.prepare_beside(q, step)
     }
@@ -108,15 +112,18 @@ impl Row {
         Ok(lower_mixed(&self.now, &by, step, &mut self.next)?)
     }
 
-    // Takes room for the fractions of a row of whole numbers that may not stay one.
+    // Plans how a row of whole numbers is lowered, or takes room for the fractions of one that can't
+    // stay so.
     #[inline(always)]
-    fn make_room(&mut self, q: u32, step: &Step) -> Result<(), AllocError>
+    fn make_plan(&mut self, q: u32, step: &Step) -> Result<(), AllocError>
         ensures stays { self.new.now ≡ self.old.now }
-        ensures room { OnOk result (HasRoomForFractions q step.now self.new) }
+        ensures planned { OnOk result (IsRowPlanned q step.now self.new) }
     {
-        if !self.now.narrow.may_pass(&step.narrow, q as usize) {
+        if let Some(plan) = self.now.narrow.plan_for(&step.narrow, q as usize) {
+            self.plan = Some(plan);
             return Ok(());
         }
+        self.plan = None;
         self.next.open(self.now.width)
     }
 
@@ -136,7 +143,9 @@ impl Row {
         ensures { IsMixedReady q step.now self.old self.new }
     {
         if is_in_place(&self.now, step) {
-            self.left = self.now.ready(&step.narrow, q as usize, &mut self.next);
+            self.left = self
+                .now
+                .ready(&step.narrow, q as usize, self.plan, &mut self.next);
             return;
         }
         self.left = 0;

@@ -1,17 +1,16 @@
 -- Rows whose marks are those of their numbers, after a step. The lists are given as the code has
 -- them, with equations that say what they are.
-use Rattle.std.specs.Prelude.{◌≡◌, ℕ, ◌+◌, ◌*◌, ◌/◌, ◌^◌, ◌<◌, ◌≤◌, ◌⊎◌, ◌&&◌, true, is_some, List, length, MatchOption, Option, Some, None, slice_index_or, slice_set, ℤ, pos, unsigned_abs}
-use Rattle.std.proofs.Common.{inl, inr, sym, ◌∙◌, ap, ap₂, arith, div-le_self, mul-le-mul_left, mul-le-mul_right, subst, subst₂, true≢false}
-use Rattle.std.proofs.lemmas.Bool.{cases_lt, eq-eqb, lt-ltb}
+use Rattle.std.specs.Prelude.{◌≡◌, ℕ, ◌<◌, ◌≤◌, ◌⊎◌, List, length, slice_index_or, slice_set, ℤ, pos, unsigned_abs}
+use Rattle.std.proofs.Common.{inl, inr, sym, ◌∙◌, ap, arith, subst, subst₂}
+use Rattle.std.proofs.lemmas.Bool.{cases_lt}
 use Rattle.std.proofs.lemmas.List.{get_or-set_other, get_or-set_same, get_or_default, get_or_past, length-set}
-use Rattle.ratio_core.specs.Gcd.{gcd}
 use Rattle.ratio_core.specs.Rational.{reduce, zero_ℚ}
 use Rattle.rational_laws.specs.Over.{over-zero_ℚ}
 use Rattle.simplex_laws.specs.BoundedSumLaws.{same_or_other}
 use Rattle.whole_rows.specs.ColumnMarks.{AreMarksJoined, AreScaled, MarksCover, words_of}
 use Rattle.whole_rows.specs.declared.narrow_row.NarrowRow.{NarrowRow}
 use Rattle.whole_rows.specs.Numerators.{AreDivided, AreNumeratorsMade, AreNumeratorsWithin, numerator}
-use Rattle.whole_rows.specs.Rows.{can_stay, number_of, numerator_of, width_of}
+use Rattle.whole_rows.specs.Rows.{number_of, numerator_of, width_of}
 use Rattle.whole_rows.proofs.DivisionSteps.{at_item, from_item, side_of}
 use Rattle.whole_rows.proofs.MarkSteps.{covers_divided, covers_scaled, joined_covers, joined_covers_step}
 
@@ -125,35 +124,3 @@ copied_numerators row old N items side is made side_is j b = by_end (cases_lt j 
     by_end (inr h) =
         get_or_past items j side (subst (λ n. n ≤ j) (sym long_lem) h) ∙ side_is
         ∙ ap (numerator_of row) (end_lem j (length old) b h)
-
--- ---- a row that stays narrow
-
-part_bound : (b o s t g h : ℕ) → b * o + s * t < 2 ^ 63 → b * (o / g) + (s / h) * t < 2 ^ 63
-part_bound b o s t g h x =
-    let left : b * (o / g) ≤ b * o = mul-le-mul_left b (div-le_self o g) in
-    let right : (s / h) * t ≤ s * t = mul-le-mul_right t (div-le_self s h) in
-    omega (arith, left, right, x)
-
-part_den : (d o g : ℕ) → d * o < 2 ^ 63 → d * (o / g) < 2 ^ 63
-part_den d o g x =
-    let left : d * (o / g) ≤ d * o = mul-le-mul_left d (div-le_self o g) in
-    omega (arith, left, x)
-
--- what isn't reduced is larger still
-pub stays_by : (q : ℕ) (step row : NarrowRow) → q < width_of row → width_of step ≡ width_of row
-    → row.den * step.den < 2 ^ 63
-    → row.bound * step.den + unsigned_abs (numerator_of row q) * step.bound < 2 ^ 63
-    → can_stay q step row ≡ true
-stays_by q step row column width den bound =
-    ap₂ ◌&&◌ (ap₂ ◌&&◌ (lt-ltb q (width_of row) column) (eq-eqb (width_of step) (width_of row) width))
-    (ap₂ ◌&&◌
-    (lt-ltb _ (2 ^ 63) (part_bound row.bound step.den (unsigned_abs (numerator_of row q)) step.bound
-    (gcd (unsigned_abs (numerator_of row q)) step.den)
-    (gcd (unsigned_abs (numerator_of row q)) step.den) bound))
-    (lt-ltb _ (2 ^ 63) (part_den row.den step.den (gcd (unsigned_abs (numerator_of row q)) step.den)
-    den)))
-
-pub some_fits : (o : Option ℕ) (x : ℕ)
-    → MatchOption o (2 ^ 63 ≤ x) (λ n. (n ≡ x) × (n < 2 ^ 63)) → is_some o ≡ true → x < 2 ^ 63
-some_fits None x h e = absurd (true≢false (sym e))
-some_fits (Some n) x h e = subst (λ m. m < 2 ^ 63) h.0 h.1

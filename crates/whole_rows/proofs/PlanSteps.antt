@@ -1,7 +1,7 @@
 -- What a plan gives: the row that is brought over its denominator, and what is left to be done. The
 -- numbers and lists are given as the code has them, with equations that say what they are.
-use Rattle.std.specs.Prelude.{◌≡◌, ℕ, ◌+◌, ◌*◌, ◌^◌, ◌<◌, ◌≤◌, ◌⊎◌, List, length, slice_index_or, ℤ, pos, ◌*ℤ◌, unsigned_abs, refl}
-use Rattle.std.proofs.Common.{inl, inr, sym, ◌∙◌, ap, ap₂, arith, mul-le-mul_right, mul-pos, subst}
+use Rattle.std.specs.Prelude.{◌≡◌, ℕ, ◌+◌, ◌*◌, ◌/◌, ◌^◌, ◌<◌, ◌≤◌, ◌⊎◌, List, length, slice_index_or, ℤ, pos, ◌*ℤ◌, unsigned_abs, refl}
+use Rattle.std.proofs.Common.{inl, inr, sym, ◌∙◌, ap, ap₂, arith, div-le_self, mul-le-mul_right, mul-pos, subst}
 use Rattle.std.proofs.lemmas.Bool.{cases_lt}
 use Rattle.std.proofs.lemmas.Int.{unsigned_abs-mul}
 use Rattle.std.proofs.lemmas.List.{get_or_default, get_or_past}
@@ -30,8 +30,8 @@ at_most_lem y x s o w m i h e =
 sum_lem : (y p w r m n : ℕ) → y ≡ p → p + w ≤ r → r ≡ m → n ≡ m → y + w ≤ n
 sum_lem y p w r m n e h f g = omega (arith, e, h, f, g)
 
-module _ (q : ℕ) (step row : NarrowRow) (plan : LoweringPlan) (planned : IsLoweringPlan q step row plan)
-    (long : width_of step ≡ width_of row) where
+module _ (q : ℕ) (step row : NarrowRow) (plan : LoweringPlan)
+    (planned : IsLoweringPlan q step row plan) where
   room_is : (by : ℤ) → by ≡ plan.by
       → row.bound * plan.over + unsigned_abs by * step.bound ≡ plan.bound
   room_is by by_is =
@@ -43,6 +43,15 @@ module _ (q : ℕ) (step row : NarrowRow) (plan : LoweringPlan) (planned : IsLow
   planned_above =
       subst (λ x. 0 < x) (sym planned.den)
       (mul-pos row.above (part_pos (unsigned_abs (numerator_of row q)) step.den step.above))
+
+  pub planned_over : plan.over < 2 ^ 63
+  planned_over =
+      subst (λ x. x < 2 ^ 63) (sym planned.over)
+      (part_lem step.den (gcd (unsigned_abs (numerator_of row q)) step.den)
+      (div-le_self step.den (gcd (unsigned_abs (numerator_of row q)) step.den)) step.small_den)
+    where
+      part_lem : (p g : ℕ) → p / g ≤ p → p < 2 ^ 63 → p / g < 2 ^ 63
+      part_lem p g h k = omega (arith, h, k)
 
   over_small : (x : ℕ) → x ≤ row.bound → x * plan.over < 2 ^ 63
   over_small x h =
@@ -109,7 +118,7 @@ module _ (q : ℕ) (step row : NarrowRow) (plan : LoweringPlan) (planned : IsLow
     planned_ready next by next_items next_side next_den next_bound covers by_is = record {
       width = width_lem;
       left = record {
-        width = long ∙ sym width_lem;
+        width = planned.width ∙ sym width_lem;
         within = λ j. sum_lem (unsigned_abs (numerator_of next j))
             (unsigned_abs (numerator_of row j) * plan.over)
             (unsigned_abs by * unsigned_abs (numerator_of step j))

@@ -56,7 +56,7 @@ pub record AreWordsPut (n : ℕ) (marks : List ℕ) (numbers : List ℤ) : Type 
   pub words : (k : ℕ) → k < n → WordCovers (slice_index marks k) (k * 64) numbers
 
 pub put_none : (marks : List ℕ) (numbers : List ℤ) → AreWordsPut 0 marks numbers
-put_none marks numbers = record { words = λ k b. absurd (omega (arith, b)); }
+put_none marks numbers = record { words = λ k b. absurd (omega (arith, b)) }
 
 pub put_word : (marks : List ℕ) (numbers : List ℤ) (n word : ℕ) → AreWordsPut n marks numbers
     → WordCovers word (n * 64) numbers → n < length marks

@@ -69,8 +69,10 @@ abbrev pub can_stay : ℕ → NarrowRow → NarrowRow → Bool
 can_stay q step row =
     nat_lt q (width_of row) && nat_eq (width_of step) (width_of row) && stays_narrow q step row
 
--- the plan by which the row is lowered and stays narrow
+-- by the plan the row is lowered by its number of column q times the step, and stays narrow
 pub record IsLoweringPlan (q : ℕ) (step row : NarrowRow) (plan : LoweringPlan) : Type 0 where
+  pub column : q < width_of row
+  pub width : width_of step ≡ width_of row
   pub over : plan.over ≡ over_left (numerator_of row q) step.den
   pub by : plan.by ≡ int_div (numerator_of row q)
       (pos (gcd (unsigned_abs (numerator_of row q)) step.den))

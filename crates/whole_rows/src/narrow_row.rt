@@ -129,21 +129,30 @@ impl NarrowRow {
         self.lower_long(&step.row, &step.words[..step.words_used], q)
     }
 
-    /// Brings the row over the denominator of the one that it is lowered to by its number of column
-    /// q times the step, and tells by what multiple of the step's numerators it is to be lowered
-    /// then. Nothing changes where the bound and the denominator don't stay below 2^63, or the two
-    /// have other columns.
+    /// How the row is lowered by its number of column q times the step, where its bound and its
+    /// denominator stay below 2^63, and the two have the same columns.
     #[inline(always)]
-    pub fn ready(&mut self, step: &NarrowStep, q: usize) -> Option<i64>
-        ensures ready { IfSome result (IsNarrowReady q step.now.row self.old self.new) }
-        ensures kept { is_some result ≡ false → self.new ≡ self.old }
-        ensures tight { is_some result ≡ false → can_stay q step.now.row self.old ≡ false }
+    pub fn plan_for(&self, step: &NarrowStep, q: usize) -> Option<LoweringPlan>
+        ensures planned { IfSome result (IsLoweringPlan q step.now.row self.now) }
+        ensures exact { is_some result ≡ can_stay q step.now.row self.now }
     {
         let width = self.numbers.len();
         if q >= width || step.row.numbers.len() != width {
             return None;
         }
-        self.bring_over(&step.row, &step.words[..step.words_used], q)
+        self.plan(&step.row, q)
+    }
+
+    /// Brings the row over the denominator of the one that it is lowered to by a plan. What is left
+    /// is to lower it by the plan's multiple of the step's numerators.
+    #[inline(always)]
+    pub fn ready(&mut self, step: &NarrowStep, plan: LoweringPlan)
+        requires { (q : ℕ) × IsLoweringPlan q step.now.row self.old plan }
+        ensures width { width_of self.new ≡ width_of self.old }
+        ensures ready { (q : ℕ) → IsLoweringPlan q step.now.row self.old plan
+            → IsNarrowReady q step.now.row self.old self.new plan.by }
+    {
+        self.bring_over(&step.row, &step.words[..step.words_used], plan);
     }
 
     /// Lowers the row by a multiple of the step's numerators.
@@ -162,28 +171,6 @@ impl NarrowRow {
         self.side = less(self.side, by, step.row.side);
     }
 
-    /// Whether the row may not stay narrow when it is lowered by its number of column q times the
-    /// step: without a division, so it may say so of a row that does.
-    #[inline(always)]
-    pub fn may_pass(&self, step: &NarrowStep, q: usize) -> bool
-        ensures { result ≡ false → can_stay q step.now.row self.now ≡ true }
-    {
-        let width = self.numbers.len();
-        if q >= width || step.row.numbers.len() != width {
-            return true;
-        }
-        let entry = self.numbers[q];
-        let size = entry.unsigned_abs();
-        let over = step.row.den;
-        let Some(_den) = next_den(self.den, over) else {
-            return true;
-        };
-        let Some(_bound) = next_bound(self.bound, over, size, step.row.bound) else {
-            return true;
-        };
-        false
-    }
-
     // Lowers the row by its number of column q times the step, where the bound and the denominator
     // stay below 2^63. Else nothing changes.
     #[inline(always)]
@@ -194,33 +181,29 @@ impl NarrowRow {
         ensures lowered { IsTrue result → IsNarrowLowered q step.now.row self.old self.new }
         ensures kept { result ≡ false → self.new ≡ self.old }
     {
-        let Some(by) = self.bring_over(&step.row, &step.words[..step.words_used], q) else {
+        let Some(plan) = self.plan(&step.row, q) else {
             return false;
         };
-        self.lower_by(by, step);
+        self.ready(step, plan);
+        self.lower_by(plan.by, step);
         true
     }
 
-    // Brings the row over the denominator of the one that it is lowered to, and marks where it may
-    // differ from 0 then. Tells by what multiple of the step's numerators it is to be lowered.
+    // The same as `ready`: where the row may differ from 0 then it is marked, by the words of the
+    // step that have a mark.
     #[inline(always)]
-    fn bring_over(&mut self, step: &NarrowRow, words: &[u32], q: usize) -> Option<i64>
-        requires column { q < width_of self.old }
-        requires width { width_of step.now ≡ width_of self.old }
+    fn bring_over(&mut self, step: &NarrowRow, words: &[u32], plan: LoweringPlan)
+        requires planned { (q : ℕ) × IsLoweringPlan q step.now self.old plan }
         requires words { ListsNonzeros words.now (map pos step.now.marks.items) }
-        ensures narrow { is_some result ≡ stays_narrow q step.now self.old }
-        ensures ready { IfSome result (IsNarrowReady q step.now self.old self.new) }
-        ensures kept { is_some result ≡ false → self.new ≡ self.old }
+        ensures width { width_of self.new ≡ width_of self.old }
+        ensures ready { (q : ℕ) → IsLoweringPlan q step.now self.old plan
+            → IsNarrowReady q step.now self.old self.new plan.by }
     {
-        let Some(plan) = self.plan(step, q) else {
-            return None;
-        };
         scale_numbers(&mut self.numbers, &self.marks, plan.over);
         join_marks(&mut self.marks, &step.marks, words);
         self.side = multiplied(self.side, plan.over);
         self.den = plan.den;
         self.bound = plan.bound;
-        Some(plan.by)
     }
 
     // The same in 128 bits, where the row stays narrow once it is divided by what divides it.
@@ -279,12 +262,13 @@ impl NarrowRow {
         })
     }
 
-    // What the row is to be multiplied and lowered by, where it stays narrow.
+    // The same as `plan_for`, of rows of the same columns.
     #[inline(always)]
     fn plan(&self, step: &NarrowRow, q: usize) -> Option<LoweringPlan>
         requires column { q < width_of self.now }
+        requires width { width_of step.now ≡ width_of self.now }
         ensures room { is_some result ≡ stays_narrow q step.now self.now }
-        ensures plan { IfSome result (λ plan. IsLoweringPlan q step.now self.now plan) }
+        ensures plan { IfSome result (IsLoweringPlan q step.now self.now) }
     {
         let entry = self.numbers[q];
         let common = common_divisor(entry.unsigned_abs(), step.den);

@@ -1,4 +1,4 @@
-use Rattle.std.proofs.Common.{◌≡◌, ◌+◌, ◌<◌, ◌∙◌, ap, arith, nat_lt, slice_index_or, subst, sym, IfSome}
+use Rattle.std.proofs.Common.{◌+◌, ◌∙◌, nat_lt, slice_index_or, subst, sym, IfSome}
 use Rattle.ratio_core.specs.Rational.{zero_ℚ, ◌/ℚ◌, ◌‹ℚ◌}
 use Rattle.tableau_core.specs.Leaving.{comes_before}
 use Rattle.sparse_board.specs.Leaving.{IsSparseCandidate, leaves_before, may_leave}

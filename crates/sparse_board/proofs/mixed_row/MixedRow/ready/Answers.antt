@@ -1,15 +1,43 @@
-use Rattle.std.proofs.Common.{◌≡◌, ◌∙◌, if◌then◌else◌, pos, refl, rules}
-use Rattle.ratio_core.specs.Rational.{◌*ℚ◌, ◌-ℚ◌}
-use Rattle.sparse_board.specs.Numbers as sparse
-use Rattle.whole_rows.specs.Rows as whole
-use Rattle.sparse_board.proofs.MixedSteps.{left_none}
+use Rattle.std.proofs.Common.{◌≡◌, None, FitsSigned, pos, refl, rules, subst, sym, w64, ◌∙◌}
+use Rattle.std.proofs.lemmas.Int.{to_z-of_z}
+use Rattle.whole_rows.specs.Rows.{CanLower, IsNarrowReady}
+use Rattle.sparse_board.proofs.MixedSteps.{left_none, planned_beside, planned_by, ready_numbers}
 use Rattle.sparse_board.proofs.mixed_row.MixedRow.ready.Goals as goal
+
+pub ready-requires : goal.ready-requires
+ready-requires c = (
+  c.args.q,
+  planned_by c.args.q c.args.step.now.row c.args.self.now c.args.plan c.in-Some.plan
+      c.args.room.now c.in-Some.is c.requires.planned,
+)
+
+pub returns-in-Some-clause-left : goal.returns-in-Some-clause-left
+returns-in-Some-clause-left c = λ _. (
+  c.requires.narrow,
+  let by_fits : FitsSigned w64 c.in-Some.plan.by = search rules in
+      subst (CanLower c.args.step.now.row c.ready.new.self)
+      (sym (to_z-of_z w64 c.in-Some.plan.by by_fits))
+      (c.ready.ensures.ready c.args.q (planned_by c.args.q c.args.step.now.row c.args.self.now
+      c.args.plan c.in-Some.plan c.args.room.now c.in-Some.is c.requires.planned)).left,
+)
+
+pub returns-in-Some-clause-numbers : goal.returns-in-Some-clause-numbers
+returns-in-Some-clause-numbers c = λ j b.
+    let row = c.args.self.now in
+    let by_fits : FitsSigned w64 c.in-Some.plan.by = search rules in
+    ready_numbers c.args.q c.args.step.now.row row row.is_wide row.wide c.ready.new.self _
+    c.requires.narrow c.requires.narrow
+    (subst (IsNarrowReady c.args.q c.args.step.now.row row.narrow c.ready.new.self)
+    (sym (to_z-of_z w64 c.in-Some.plan.by by_fits))
+    (c.ready.ensures.ready c.args.q (planned_by c.args.q c.args.step.now.row row c.args.plan
+    c.in-Some.plan c.args.room.now c.in-Some.is c.requires.planned))) j b
+
+pub lower-requires-clause-room : goal.lower-requires-clause-room
+lower-requires-clause-room c = λ _.
+    let is : c.args.plan ≡ None = search rules in
+    planned_beside c.args.q c.args.step.now.row c.args.self.now c.args.plan c.args.room.now is
+    c.requires.planned
 
 pub returns-clause-numbers : goal.returns-clause-numbers
 returns-clause-numbers c = λ j b.
-    let row = c.args.self.now in
-    let same : c.ready.new.self ≡ row.narrow = search rules in
     left_none c.args.step.now.row c.lower.new.self (pos 0) refl j ∙ c.lower.ensures.numbers j b
-    ∙ (λ i. (if row.is_wide then sparse.number_of row.wide j else whole.number_of (same i) j)
-    -ℚ (if row.is_wide then sparse.number_of row.wide c.args.q else whole.number_of (same i) c.args.q)
-    *ℚ whole.number_of c.args.step.now.row j)

@@ -4,8 +4,8 @@ use Rattle.sparse_board.specs.Mixed.{IsLeft, number_left}
 use Rattle.sparse_board.proofs.MixedSteps.{in_place_prepared, ready_beside, ready_in_place, settled_beside, settled_still}
 use Rattle.sparse_board.proofs.row.Row.ready.Goals as goal
 
-pub ready-self-requires-clause-room : goal.ready-self-requires-clause-room
-ready-self-requires-clause-room c =
+pub ready-self-requires-clause-planned : goal.ready-self-requires-clause-planned
+ready-self-requires-clause-planned c =
     in_place_prepared c.args.q c.args.step.now c.args.self.now
     (sym c.is_in_place.ensures ∙ c.if-is_in_place.true) c.requires
 

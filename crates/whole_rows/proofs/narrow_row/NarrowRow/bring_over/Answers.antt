@@ -3,32 +3,48 @@ use Rattle.std.proofs.lemmas.Int.{to_z-of_z}
 use Rattle.std.proofs.lemmas.List.{with_items_is}
 use Rattle.whole_rows.specs.Listed.{ListsNonzeros}
 use Rattle.whole_rows.proofs.CoverSteps.{joined_long, joined_step, long_kept, scaled_covers}
-use Rattle.whole_rows.proofs.PlanSteps.{planned_above, planned_ready, planned_side, planned_small, scaled_within}
+use Rattle.whole_rows.proofs.PlanSteps.{planned_above, planned_over, planned_ready, planned_side, planned_small, scaled_within}
 use Rattle.whole_rows.proofs.narrow_row.NarrowRow.bring_over.Goals as goal
 
 pub scale_numbers-requires-clause-fits : goal.scale_numbers-requires-clause-fits
 scale_numbers-requires-clause-fits c =
-    planned_small c.args.q c.args.step.now c.args.self.now c.in-Some.plan c.in-Some.ensures.plan
-    c.requires.width _ c.deref_mut.ensures.value
+    planned_small c.requires.planned.0 c.args.step.now c.args.self.now c.args.plan
+    c.requires.planned.1 _ c.deref_mut.ensures.value
+
+pub scale_numbers-requires-clause-over : goal.scale_numbers-requires-clause-over
+scale_numbers-requires-clause-over c =
+    planned_over c.requires.planned.0 c.args.step.now c.args.self.now c.args.plan
+    c.requires.planned.1
+
+pub multiplied-self-requires-clause-over : goal.multiplied-self-requires-clause-over
+multiplied-self-requires-clause-over c =
+    planned_over c.requires.planned.0 c.args.step.now c.args.self.now c.args.plan
+    c.requires.planned.1
 
 pub multiplied-self-requires-clause-fits : goal.multiplied-self-requires-clause-fits
 multiplied-self-requires-clause-fits c =
     let side_fits : FitsSigned w64 c.args.self.now.side = search rules in
-    planned_side c.args.q c.args.step.now c.args.self.now c.in-Some.plan c.in-Some.ensures.plan
-    c.requires.width _ (to_z-of_z w64 c.args.self.now.side side_fits)
+    planned_side c.requires.planned.0 c.args.step.now c.args.self.now c.args.plan
+    c.requires.planned.1 _ (to_z-of_z w64 c.args.self.now.side side_fits)
 
 pub invariant_of-self-clause-above : goal.invariant_of-self-clause-above
 invariant_of-self-clause-above c =
-    planned_above c.args.q c.args.step.now c.args.self.now c.in-Some.plan c.in-Some.ensures.plan
-    c.requires.width
+    planned_above c.requires.planned.0 c.args.step.now c.args.self.now c.args.plan
+    c.requires.planned.1
+
+pub invariant_of-self-clause-small_den : goal.invariant_of-self-clause-small_den
+invariant_of-self-clause-small_den c = c.requires.planned.1.small_den
+
+pub invariant_of-self-clause-small_bound : goal.invariant_of-self-clause-small_bound
+invariant_of-self-clause-small_bound c = c.requires.planned.1.small_bound
 
 pub invariant_of-self-clause-within : goal.invariant_of-self-clause-within
 invariant_of-self-clause-within c =
     let row = c.args.self.now in
     let side_fits : FitsSigned w64 row.side = search rules in
     let result_fits : FitsSigned w64 c.multiplied-self.result = search rules in
-    scaled_within c.args.q c.args.step.now row c.in-Some.plan c.in-Some.ensures.plan
-    c.requires.width c.deref_mut.result.now c.scale_numbers.new.numbers _ _ _
+    scaled_within c.requires.planned.0 c.args.step.now row c.args.plan c.requires.planned.1
+    c.deref_mut.result.now c.scale_numbers.new.numbers _ _ _
     c.deref_mut.ensures.value (to_z-of_z w64 row.side side_fits) c.scale_numbers.ensures
     (with_items_is row.numbers c.scale_numbers.new.numbers
     (c.scale_numbers.auto.numbers ∙ c.deref_mut.ensures.len))
@@ -37,7 +53,7 @@ invariant_of-self-clause-within c =
 pub join_marks-requires-clause-long : goal.join_marks-requires-clause-long
 join_marks-requires-clause-long c =
     ap length c.deref-2.ensures.value
-    ∙ joined_long c.args.self.now c.args.step.now c.requires.width
+    ∙ joined_long c.args.self.now c.args.step.now c.requires.planned.1.width
     ∙ sym (ap length c.deref_mut-2.ensures.value)
 
 pub join_marks-requires-clause-lists : goal.join_marks-requires-clause-lists
@@ -51,8 +67,8 @@ invariant_of-self-clause-covers c =
     scaled_covers row c.args.step.now c.deref-2.result.now c.deref_mut-2.result.now
     c.join_marks.new.marks _ c.deref-2.ensures.value c.deref_mut-2.ensures.value
     (with_items_is row.marks c.join_marks.new.marks
-    (c.join_marks.auto.marks ∙ c.deref_mut-2.ensures.len)) c.requires.width c.join_marks.ensures
-    (pos c.in-Some.plan.over) c.deref_mut.result.now c.scale_numbers.new.numbers _
+    (c.join_marks.auto.marks ∙ c.deref_mut-2.ensures.len)) c.requires.planned.1.width c.join_marks.ensures
+    (pos c.args.plan.over) c.deref_mut.result.now c.scale_numbers.new.numbers _
     c.deref_mut.ensures.value
     (with_items_is row.numbers c.scale_numbers.new.numbers
     (c.scale_numbers.auto.numbers ∙ c.deref_mut.ensures.len))
@@ -69,14 +85,13 @@ invariant_of-self-clause-marks_long c =
     ∙ c.scale_numbers.auto.numbers ∙ ap length c.deref_mut.ensures.value)
 
 pub returns-clause-ready : goal.returns-clause-ready
-returns-clause-ready c =
+returns-clause-ready c = λ q planned.
     let row = c.args.self.now in
-    let by_fits : FitsSigned w64 c.in-Some.plan.by = search rules in
     let side_fits : FitsSigned w64 row.side = search rules in
     let result_fits : FitsSigned w64 c.multiplied-self.result = search rules in
-    planned_ready c.args.q c.args.step.now row c.in-Some.plan c.in-Some.ensures.plan
-    c.requires.width c.deref_mut.result.now c.scale_numbers.new.numbers _ _ _
-    c.deref_mut.ensures.value (to_z-of_z w64 row.side side_fits) c.scale_numbers.ensures
+    planned_ready q c.args.step.now row c.args.plan planned c.deref_mut.result.now
+    c.scale_numbers.new.numbers _ _ _ c.deref_mut.ensures.value
+    (to_z-of_z w64 row.side side_fits) c.scale_numbers.ensures
     (with_items_is row.numbers c.scale_numbers.new.numbers
     (c.scale_numbers.auto.numbers ∙ c.deref_mut.ensures.len))
     (to_z-of_z w64 c.multiplied-self.result result_fits ∙ c.multiplied-self.ensures) _ _ refl refl
@@ -84,5 +99,5 @@ returns-clause-ready c =
     (joined_step row c.args.step.now c.deref-2.result.now c.deref_mut-2.result.now
     c.join_marks.new.marks _ c.deref-2.ensures.value c.deref_mut-2.ensures.value
     (with_items_is row.marks c.join_marks.new.marks
-    (c.join_marks.auto.marks ∙ c.deref_mut-2.ensures.len)) c.requires.width c.join_marks.ensures)
-    (to_z-of_z w64 c.in-Some.plan.by by_fits)
+    (c.join_marks.auto.marks ∙ c.deref_mut-2.ensures.len)) planned.width c.join_marks.ensures)
+    refl

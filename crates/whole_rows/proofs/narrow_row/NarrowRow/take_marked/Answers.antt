@@ -1,4 +1,4 @@
-use Rattle.std.proofs.Common.{◌≡◌, ◌∙◌, ap, ap₂, length, slice_index_or, subst, subst₂, sym, take}
+use Rattle.std.proofs.Common.{◌∙◌, ap, ap₂, length, slice_index_or, subst, subst₂, sym, take}
 use Rattle.std.proofs.lemmas.List.{with_items_is}
 use Rattle.whole_rows.specs.ColumnMarks.{MarksCover, words_of}
 use Rattle.whole_rows.specs.Listed.{AreZeros, ListsNonzeros}
