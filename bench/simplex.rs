@@ -192,16 +192,18 @@ fn form(seed: u64, m: usize, c: usize, sparse: u64, greatest: u64) -> Form {
     let costs = (0..c).map(|_| whole(draw.below(9) as i64)).collect();
     let mut matrix = Vec::with_capacity(m * c);
     let mut right = Vec::with_capacity(m);
+    let mut row = Vec::with_capacity(c);
     for _ in 0..m {
         let mut entry = |_| {
             let stands = draw.below(sparse) == 0;
             let number = draw.below(2 * greatest + 1) as i64 - greatest as i64;
             if stands { number } else { 0 }
         };
-        let row: Vec<i64> = (0..c).map(&mut entry).collect();
+        row.clear();
+        row.extend((0..c).map(&mut entry));
         let side: i64 = row.iter().zip(&point).map(|(entry, x)| entry * x).sum();
         let sign = if side < 0 { -1 } else { 1 };
-        matrix.extend(row.into_iter().map(|entry| whole(entry * sign)));
+        matrix.extend(row.iter().map(|entry| whole(entry * sign)));
         right.push(whole(side.abs()));
     }
     Form { m, c, matrix, right, costs }

@@ -30,8 +30,9 @@ pub fn form(alloc: Global, seed: u32, size: &Size) -> Result<StdForm, BenchFault
     let mut draw = Draw::new(seed);
     let (m, c) = (usize::from(size.rows), usize::from(size.columns));
     let point = numbers(alloc, &mut draw, c, 4)?;
-    let costs = fractions(alloc, &numbers(alloc, &mut draw, c, 9)?)?;
-    let mut matrix = SparseRatios::new(alloc);
+    let costs = drawn_costs(alloc, &mut draw, c)?;
+    let cells = m.checked_mul(c).ok_or(BenchFault::Number)?;
+    let mut matrix = SparseRatios::with_capacity(alloc, cells)?;
     let mut right = Vec::with_capacity(alloc, m)?;
     put_rows(alloc, &mut draw, size, &point, &mut matrix, &mut right)?;
     checked(alloc, m, c, matrix, right, costs)
@@ -126,6 +127,15 @@ fn numbers(alloc: Global, draw: &mut Draw, count: usize, n: u32) -> Result<Vec<i
     Ok(drawn)
 }
 
+// Whole numbers below 9.
+fn drawn_costs(alloc: Global, draw: &mut Draw, count: usize) -> Result<Vec<Ratio>, BenchFault> {
+    let mut costs = Vec::with_capacity(alloc, count)?;
+    for _ in 0..count {
+        costs.push(whole(i64::from(draw.below(9)))?)?;
+    }
+    Ok(costs)
+}
+
 // Draws the entries of a row.
 fn draw_row(draw: &mut Draw, size: &Size, row: &mut Vec<i64>) -> Result<(), BenchFault> {
     let span = 2 * u32::from(size.greatest) + 1;
@@ -145,13 +155,4 @@ fn side(row: &[i64], point: &[i64]) -> i64 {
         sum = sum.wrapping_add(entry.wrapping_mul(*x));
     }
     sum
-}
-
-// Whole numbers as fractions.
-fn fractions(alloc: Global, numbers: &[i64]) -> Result<Vec<Ratio>, BenchFault> {
-    let mut made = Vec::with_capacity(alloc, numbers.len())?;
-    for number in numbers {
-        made.push(whole(*number)?)?;
-    }
-    Ok(made)
 }

@@ -9,6 +9,7 @@ pub mod PivotSteps
 pub mod BoardSteps
 pub mod StartSteps
 pub mod WholeStartSteps
+pub mod PlaceSteps
 pub mod ScanSteps
 pub mod WordSteps
 pub mod MarkSteps

@@ -9,13 +9,13 @@ use Rattle.simplex_laws.specs.BoundedSumLaws.{same_or_other}
 use Rattle.sparse_ratios.specs.Terms.{AreTerms, number_at}
 use Rattle.simplex_form.specs.Basis.{start}
 use Rattle.simplex_form.specs.Board.{entry}
-use Rattle.simplex_form.specs.Form.{Form}
+use Rattle.simplex_form.specs.Form.{Form, second_cost}
+use Rattle.simplex_laws.specs.TurnLaws.{second_cost_artificial, second_cost_real}
 use Rattle.tableau_core.specs.Row.{cell}
-use Rattle.tableau_core.specs.Start.{IsListOf}
+use Rattle.tableau_core.specs.Start.{IsListOf, form_of}
 use Rattle.tableau_core.specs.TermSteps.{AreTermsLeft, all_left, column_past, column_within, left_after, number_there, place_past, zero_at_end, zero_before}
 use Rattle.tableau_core.specs.StartLaws.{real-entry, unit-entry, zero-entry}
 use Rattle.sparse_board.specs.declared.board.Board.TheInside.{Inside}
-use Rattle.sparse_board.specs.declared.mixed_row.MixedRow.{MixedRow}
 use Rattle.sparse_board.specs.declared.sparse_row.SparseRow.{SparseRow}
 use Rattle.sparse_board.specs.Mixed as mixed
 use Rattle.sparse_board.specs.Numbers.{AppendsNumber, HoldsBelow, number_of, row_columns}
@@ -26,13 +26,27 @@ use Rattle.sparse_board.specs.Kept.{IsSparseBoardKept, columns_of}
 use Rattle.sparse_board.proofs.HeldLemmas.{below_less, held_next, held_past, held_same}
 
 -- a cost row has the numbers that it is made of
-pub costs_are : (n : ℕ) (f : ℕ → Rational) (numbers given : List Rational) (row : MixedRow)
+pub listed_are : (n : ℕ) (f : ℕ → Rational) (numbers given : List Rational) (row : ℕ → Rational)
     → numbers ≡ given → IsListOf n f given
-    → ((j : ℕ) → j < length numbers → mixed.number_of row j ≡ cell numbers j)
-    → (j : ℕ) → j < n → mixed.number_of row j ≡ f j
-costs_are n f numbers given row e h held j b =
+    → ((j : ℕ) → j < length numbers → row j ≡ cell numbers j) → (j : ℕ) → j < n → row j ≡ f j
+listed_are n f numbers given row e h held j b =
     held j (subst (λ k. j < k) (sym (ap length e ∙ h.long)) b) ∙ ap (λ l. cell l j) e
     ∙ h.cells j b
+
+-- the second cost row has the costs, and zeros behind them
+pub second_costs_are : (m : ℕ) (costs matrix right : List Rational) (numbers : ℕ → Rational)
+    → ((j : ℕ) → j < length costs → numbers j ≡ cell costs j)
+    → ((j : ℕ) → length costs ≤ j → j < length costs + m → numbers j ≡ zero_ℚ)
+    → (j : ℕ) → j < length costs + m
+    → numbers j ≡ second_cost (form_of m (length costs) matrix right costs) j
+second_costs_are m costs matrix right numbers reals zeros j b = by_kind (cases_lt j (length costs))
+  where
+    F : Form
+    F = form_of m (length costs) matrix right costs
+
+    by_kind : (j < length costs) ⊎ (length costs ≤ j) → numbers j ≡ second_cost F j
+    by_kind (inl d) = reals j d ∙ sym (second_cost_real F j d)
+    by_kind (inr d) = zeros j d b ∙ sym (second_cost_artificial F j d)
 
 module _ (F : Form) (i : ℕ) (row : i < F.rows) where
   abbrev entries : ℕ → Rational

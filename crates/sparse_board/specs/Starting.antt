@@ -1,6 +1,7 @@
 -- Whole numbers that a row starts with.
-use Rattle.std.specs.Prelude.{◌≡◌, ℕ, ◌≤◌}
+use Rattle.std.specs.Prelude.{◌≡◌, ℕ, ◌<◌, ◌≤◌, List}
 use Rattle.ratio_core.specs.Rational.{Rational}
+use Rattle.sparse_ratios.specs.Terms.{AreTerms, number_at}
 use Rattle.whole_rows.specs.declared.narrow_row.NarrowRow.{NarrowRow}
 use Rattle.whole_rows.specs.Rows.{number_of, width_of}
 
@@ -9,3 +10,8 @@ pub record IsNumberPut (column : ℕ) (value : Rational) (old new : NarrowRow) :
   pub width : width_of new ≡ width_of old
   pub here : number_of new column ≡ value
   pub elsewhere : (j : ℕ) → j ≤ width_of old → ¬ (j ≡ column) → number_of new j ≡ number_of old j
+
+-- the terms of the places from `low` on that are below `high`
+pub record AreTermsOf (low high : ℕ) (all some : List (ℕ × Rational)) : Type 0 where
+  pub terms : AreTerms low high some
+  pub numbers : (k : ℕ) → low ≤ k → k < high → number_at some k ≡ number_at all k

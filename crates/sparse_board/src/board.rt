@@ -7,13 +7,14 @@ use crate::marks::Marks;
 use crate::pivoting::{prepare_pivot, settle_pivot};
 use crate::row::Row;
 use crate::scan::{first_negative, first_nonzero};
-use crate::start::{cost_row, start_rows};
+use crate::start::start_rows;
+use crate::start_costs::start_costs;
 use crate::step::Step;
 use ratio_core::{NumberFault, Ratio};
 use sparse_ratios::SparseRatios;
 use std::alloc::Global;
 use std::marker::Model;
-use tableau_core::{CostRow, Tableau, first_prices, second_prices, start_basis};
+use tableau_core::{CostRow, Tableau, start_basis};
 
 /// A board of rows of whole numbers, each over one denominator, and of fractions where 64 bits are
 /// not enough.
@@ -58,21 +59,16 @@ impl Tableau for Board {
         if c + m >= u32::MAX as usize {
             return Err(NumberFault::Memory);
         }
-        let first = cost_row(alloc, &first_prices(alloc, m, c, matrix)?)?;
-        let second = cost_row(alloc, &second_prices(alloc, m, costs)?)?;
-        let rows = start_rows(alloc, m, c, matrix, right)?;
-        let step = Step::zeros(alloc, c + m)?;
-        let marks = marks_of(alloc, &rows, c + m + 1)?;
-        let changes = Changes::none(alloc, m)?;
         let basis = start_basis(alloc, m, c)?;
+        let changes = Changes::none(alloc, m)?;
+        let rows = start_rows(alloc, m, c, matrix, right)?;
+        let marks = marks_of(alloc, &rows, c + m + 1)?;
+        let step = Step::zeros(alloc, c + m)?;
+        let cost_rows = start_costs(alloc, m, c, matrix, costs)?;
         Ok(Board {
             reals: c,
             rows,
-            costs: CostRows {
-                in_first: true,
-                first,
-                second,
-            },
+            costs: cost_rows,
             step,
             marks,
             changes,

@@ -19,8 +19,10 @@ mod scan;
 mod sparse_row;
 mod spreading;
 mod start;
+mod start_costs;
 mod starting;
 mod step;
+mod terms;
 mod words;
 
 pub use board::Board;

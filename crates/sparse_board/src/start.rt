@@ -1,8 +1,9 @@
 //! The rows that a board starts with.
-ghost use Rattle.std.specs.Prelude.{◌≡◌, ◌+◌, ◌*◌, ◌<◌, ◌≤◌, ◌^◌, ℕ, [], length, IfOk};
+ghost use Rattle.std.specs.Prelude.{◌≡◌, ◌+◌, ◌*◌, ◌<◌, ◌≤◌, ◌^◌, ℕ, List, [], length, IfOk};
+ghost use Rattle.ratio_core.specs.Rational.{Rational};
 ghost use Rattle.sparse_ratios.specs.Terms.{AreTerms, number_at};
 ghost use Rattle.simplex_form.specs.Board.{entry};
-ghost use Rattle.tableau_core.specs.Row.{AllFit, cell};
+ghost use Rattle.tableau_core.specs.Row.{cell};
 ghost use Rattle.tableau_core.specs.Start.{AtEachStart};
 ghost use Rattle.sparse_board.specs.Mixed.{number_of, width_of};
 ghost use Rattle.sparse_board.specs.Numbers as sparse;
@@ -11,11 +12,11 @@ ghost use Rattle.sparse_board.specs.Rows.{AreSparseRowsWide, number_in_row};
 
 use crate::row::Row;
 use crate::sparse_row::SparseRow;
-use crate::starting::{put_numbers, put_row};
+use crate::starting::put_row;
+use crate::terms::{row_end, terms_between};
 use ratio_core::Ratio;
 use sparse_ratios::SparseRatios;
 use std::alloc::{AllocError, Global};
-use tableau_core::row_terms;
 use whole_rows::NarrowRow;
 
 // The rows, whose basis matrix is the unit matrix, each with its right side behind its columns.
@@ -36,36 +37,44 @@ pub(crate) fn start_rows(
     ensures sides { IfOk result (λ rows.
         (i : ℕ) → i < m → number_in_row rows.items i (c + m) ≡ cell right.now i) }
 {
+    let _fits = matrix.len();
     let mut rows = Vec::with_capacity(alloc, m)?;
     let mut room = SparseRow::closed(alloc);
+    let terms = matrix.terms();
+    let mut from = 0;
     for (i, side) in right.iter().enumerate() {
-        rows.push(start_row(alloc, m, c, matrix, i, side, &mut room)?)?;
+        let end = row_end(terms, from, i * c + c);
+        let entries = terms_between(terms, from, end);
+        rows.push(start_row(alloc, m, c, entries, i, side, &mut room)?)?;
+        from = end;
     }
     Ok(rows)
 }
 
-// Row i: its entries, the unit number of its artificial column, and its right side. All rows of
-// fractions are made in one room.
+// Row i, of whose entries these are the terms: the unit number of its artificial column and its right
+// side are put behind them. All rows of fractions are made in one room.
 fn start_row(
     alloc: Global,
     m: usize,
     c: usize,
-    matrix: &SparseRatios,
+    terms: &[(usize, Ratio)],
     i: usize,
     side: &Ratio,
     room: &mut SparseRow,
 ) -> Result<Row, AllocError>
-    requires long { length matrix.now ≡ m * c }
+    requires terms { AreTerms (i * c) (i * c + c) terms.now }
+    requires fits { i * c + c < 2 ^ 64 }
     requires within { i < m }
     requires few { c + m + 1 < 2 ^ 32 }
     requires room { sparse.width_of room.old ≤ c + m + 1 }
     ensures wide { IfOk result (λ row. width_of row.now ≡ c + m + 1) }
-    ensures entries { IfOk result (λ row. AtEachStart m c matrix.now (λ F s.
+    ensures entries { IfOk result (λ row. (matrix : List Rational)
+        → ((j : ℕ) → j < c → number_at terms.now (i * c + j) ≡ cell matrix (i * c + j))
+        → AtEachStart m c matrix (λ F s.
         (j : ℕ) → j < c + m → number_of row.now j ≡ entry F s j i)) }
     ensures side { IfOk result (λ row. number_of row.now (c + m) ≡ side.now) }
     ensures room { IfOk result (λ row. sparse.width_of room.new ≤ c + m + 1) }
 {
-    let terms = row_terms(m, c, matrix, i);
     let mut narrow = NarrowRow::zeros(alloc, c + m)?;
     if put_row(&mut narrow, terms, i * c, c, c + i, side) {
         return Ok(Row::of_whole(alloc, narrow, c + m + 1));
@@ -93,23 +102,4 @@ fn push_row(row: &mut SparseRow, terms: &[(usize, Ratio)], from: usize, c: usize
         let _fits = term.1.num();
         row.push_any(j as u32, term.1);
     }
-}
-
-// A cost row of these numbers.
-pub(crate) fn cost_row(alloc: Global, numbers: &[Ratio]) -> Result<Row, AllocError>
-    requires few { length numbers.now < 2 ^ 32 }
-    requires all_fit { AllFit numbers.now }
-    ensures wide { IfOk result (λ row. width_of row.now ≡ length numbers.now) }
-    ensures numbers { IfOk result (λ row.
-        (j : ℕ) → j < length numbers.now → number_of row.now j ≡ cell numbers.now j) }
-{
-    let mut narrow = NarrowRow::zeros(alloc, numbers.len())?;
-    if put_numbers(&mut narrow, numbers) {
-        return Ok(Row::of_whole(alloc, narrow, numbers.len()));
-    }
-    let mut room = SparseRow::zeros(alloc, numbers.len())?;
-    for j in 0..numbers.len() {
-        room.push_any(j as u32, numbers[j]);
-    }
-    Ok(Row::new(alloc, narrow, &mut room, numbers.len()))
 }

@@ -73,6 +73,8 @@ pub(crate) fn put_numbers(row: &mut NarrowRow, numbers: &[Ratio]) -> bool
     ensures width { width_of row.new ≡ width_of row.old }
     ensures numbers { IsTrue result → (j : ℕ) → j < length numbers.now
         → number_of row.new j ≡ cell numbers.now j }
+    ensures others { IsTrue result → (j : ℕ) → length numbers.now ≤ j → j ≤ width_of row.old
+        → number_of row.new j ≡ zero_ℚ }
 {
     for j in 0..numbers.len() {
         if !put_any(row, j, &numbers[j]) {

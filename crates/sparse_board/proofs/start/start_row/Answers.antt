@@ -14,24 +14,24 @@ push_any-requires-clause-above c =
     c.push_row.ensures.held.below (omega arith)
 
 pub returns-clause-entries : goal.returns-clause-entries
-returns-clause-entries c right costs j b =
-    let F : Form = form_of c.args.m c.args.c c.args.matrix.now right costs in
+returns-clause-entries c matrix same right costs j b =
+    let F : Form = form_of c.args.m c.args.c matrix right costs in
     c.new.ensures.numbers j (omega (arith, b))
     ∙ side_entries F c.args.i c.requires.within c.args.side.now c.push_any.new.self
     c.push_any-2.new.self
     (unit_added F c.args.i c.requires.within c.one.result c.push_row.new.row c.push_any.new.self
     c.one.ensures
     (reals_held F c.args.i c.requires.within
-    (λ k. number_at c.row_terms-terms.result.now (c.args.i * c.args.c + k))
-    (λ k d. c.row_terms-terms.ensures.numbers k d) c.push_row.new.row c.push_row.ensures.held)
+    (λ k. number_at c.args.terms.now (c.args.i * c.args.c + k))
+    same c.push_row.new.row c.push_row.ensures.held)
     c.push_any.ensures)
     c.push_any-2.ensures j b
 
 pub returns-then-put_row-clause-entries : goal.returns-then-put_row-clause-entries
-returns-then-put_row-clause-entries c right costs j b =
-    let F : Form = form_of c.args.m c.args.c c.args.matrix.now right costs in
+returns-then-put_row-clause-entries c matrix same right costs j b =
+    let F : Form = form_of c.args.m c.args.c matrix right costs in
     c.of_whole.ensures.numbers j
     ∙ entries_are F c.args.i c.requires.within (number_of c.put_row.new.row)
-    (λ k d. c.put_row.ensures.reals c.if-put_row.true k d ∙ c.row_terms-terms.ensures.numbers k d)
+    (λ k d. c.put_row.ensures.reals c.if-put_row.true k d ∙ same k d)
     (c.put_row.ensures.unit c.if-put_row.true)
     (λ k d e n. c.put_row.ensures.others c.if-put_row.true k d (omega (arith, e, c.in_ok-narrow.ensures.width)) n) j b

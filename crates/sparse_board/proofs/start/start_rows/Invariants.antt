@@ -1,4 +1,5 @@
-use Rattle.std.proofs.Common.{◌≡◌, ◌+◌, ◌<◌, ◌≤◌, ℕ, length}
+use Rattle.std.proofs.Common.{◌≡◌, ◌+◌, ◌*◌, ◌<◌, ◌≤◌, ℕ, length}
+use Rattle.sparse_ratios.specs.Terms.{AreTermsSplit}
 use Rattle.simplex_form.specs.Board.{entry}
 use Rattle.tableau_core.specs.Row.{cell}
 use Rattle.tableau_core.specs.Start.{AtEachStart}
@@ -8,6 +9,8 @@ use Rattle.sparse_board.proofs.start.start_rows.Given as goal
 
 abbrev pub invariant-loop-i : goal.invariant-loop-i
 invariant-loop-i l = record {
+  few : l.from ≤ length l.terms;
+  split : AreTermsSplit (l.i * l.c) l.from l.terms;
   room : sparse.width_of l.room ≤ l.c + l.m + 1;
   count : length l.rows.items ≡ l.i;
   wide : (k : ℕ) → k < l.i → width_at (now_at l.rows.items k) ≡ l.c + l.m + 1;

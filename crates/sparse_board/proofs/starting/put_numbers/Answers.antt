@@ -29,3 +29,8 @@ loop-j-preserved c = record {
 pub returns-clause-numbers : goal.returns-clause-numbers
 returns-clause-numbers c _ j b =
     c.loop-j.invariant.put.put j (omega (arith, b, c.loop-j-test.false))
+
+pub returns-clause-others : goal.returns-clause-others
+returns-clause-others c _ j b w =
+    c.loop-j.invariant.put.zeros j (omega (arith, b, c.loop-j.auto.j-end, c.loop-j-test.false))
+    (omega (arith, w, c.loop-j.invariant.width))

@@ -1,7 +1,7 @@
 use Rattle.std.proofs.Common.{arith, subst, sym, ◌∙◌}
 use Rattle.ratio_core.specs.Rational.{Fits}
 use Rattle.tableau_core.specs.ItemLaws.{item_is}
-use Rattle.sparse_board.proofs.start.cost_row.Goals as goal
+use Rattle.sparse_board.proofs.start_costs.row_of.Goals as goal
 
 pub returns-clause-numbers : goal.returns-clause-numbers
 returns-clause-numbers c j b =
