@@ -37,7 +37,8 @@ pub(crate) fn start_rows(
     ensures sides { IfOk result (λ rows.
         (i : ℕ) → i < m → number_in_row rows.items i (c + m) ≡ cell right.now i) }
 {
-    let _fits = matrix.len();
+    // what this ensures: its places fit
+    let _places = matrix.len();
     let mut rows = Vec::with_capacity(alloc, m)?;
     let mut room = SparseRow::closed(alloc);
     let terms = matrix.terms();
