@@ -56,38 +56,12 @@ pub fn carry_back<B: Bridge>(
         → IsRight (leaves_of can.bridging) (answer_of map.now a.now)
         → IfOk result (Good model.now.model) }
 {
-    let variables = Variables::of(alloc, model.groups())?;
-    let carried = carry_over(alloc, bridges, map, model, &variables, a);
-    drop(variables);
-    carried
-}
-
-// The same with the user's variables, which are lent, so that no way out frees them.
-fn carry_over<B: Bridge>(
-    alloc: Global,
-    bridges: &[B],
-    map: &AddressMap,
-    model: &UserModel,
-    variables: &Variables,
-    a: &LeafAnswer,
-) -> Result<Certificate, BackFault>
-    requires can { CanCarry (prelude.map B.state bridges.now) map.now model.now.model
-        (answer_of map.now a.now) }
-    requires variables { variables.now ≡ users model.now.model }
-    ensures carried { (can : CanCarry (prelude.map B.state bridges.now) map.now model.now.model
-        (answer_of map.now a.now))
-        → CarriesAnswerBack can.bridging (answer_of map.now a.now) result }
-    ensures right { (can : CanCarry (prelude.map B.state bridges.now) map.now model.now.model
-        (answer_of map.now a.now))
-        → IsRight (leaves_of can.bridging) (answer_of map.now a.now)
-        → IfOk result (Good model.now.model) }
-{
     // what this ensures of the model
     let _valid = model.objective();
     match a {
-        LeafAnswer::Optimal { x, y } => optimal(alloc, bridges, map, model, variables, x, y),
-        LeafAnswer::Infeasible { y } => infeasible(alloc, bridges, map, model, variables, y),
-        LeafAnswer::Unbounded { x, d } => unbounded(alloc, map, model, variables, x, d),
+        LeafAnswer::Optimal { x, y } => optimal(alloc, bridges, map, model, x, y),
+        LeafAnswer::Infeasible { y } => infeasible(alloc, bridges, map, model, y),
+        LeafAnswer::Unbounded { x, d } => unbounded(alloc, map, model, x, d),
     }
 }
 
@@ -96,13 +70,11 @@ fn optimal<B: Bridge>(
     bridges: &[B],
     places: &AddressMap,
     model: &UserModel,
-    variables: &Variables,
     x: &LeafPoint,
     y: &LeafDuals,
 ) -> Result<Certificate, BackFault>
-    requires within { AreRowsWithin (prelude.map B.state bridges.now) (duals_by places.now y.now)
+    requires { AreRowsWithin (prelude.map B.state bridges.now) (duals_by places.now y.now)
         model.now.model.rows }
-    requires variables { variables.now ≡ users model.now.model }
     ensures { let m = model.now.model in let f = expression_at places.now.exprs in
         let states = prelude.map B.state bridges.now in let leaf = duals_by places.now y.now in
         let duals = prelude.map (row_dual states leaf) m.rows in
@@ -114,10 +86,11 @@ fn optimal<B: Bridge>(
         (reduced m duals))
         (IsUnfitOptimal m duals fit unfit f values) }
 {
-    let x = values_at(alloc, places, variables, x)?;
+    let users = Variables::of(alloc, model.groups())?;
+    let x = values_at(alloc, places, &users, x)?;
     let rows = row_duals(alloc, bridges, places, y, model.rows())?;
-    let vars = reduced_costs(alloc, model.objective(), variables, model.rows(), &rows)?;
-    let value = value_at(model, variables, &x)?;
+    let vars = reduced_costs(alloc, model.objective(), &users, model.rows(), &rows)?;
+    let value = value_at(model, &users, &x)?;
     Ok(Certificate::Optimal {
         value,
         x: Sequence::from_vec(x),
@@ -166,12 +139,10 @@ fn infeasible<B: Bridge>(
     bridges: &[B],
     places: &AddressMap,
     model: &UserModel,
-    variables: &Variables,
     y: &LeafDuals,
 ) -> Result<Certificate, BackFault>
-    requires within { AreRowsWithin (prelude.map B.state bridges.now) (duals_by places.now y.now)
+    requires { AreRowsWithin (prelude.map B.state bridges.now) (duals_by places.now y.now)
         model.now.model.rows }
-    requires variables { variables.now ≡ users model.now.model }
     ensures { let m = model.now.model in
         let states = prelude.map B.state bridges.now in let leaf = duals_by places.now y.now in
         let duals = prelude.map (row_dual states leaf) m.rows in
@@ -181,8 +152,9 @@ fn infeasible<B: Bridge>(
         (λ c. c ≡ Infeasible (dual_gap m duals (cancelled m duals)) duals (cancelled m duals))
         (IsUnfitInfeasible m duals fit unfit) }
 {
+    let users = Variables::of(alloc, model.groups())?;
     let rows = row_duals(alloc, bridges, places, y, model.rows())?;
-    let vars = cancelling(alloc, variables, model.rows(), &rows)?;
+    let vars = cancelling(alloc, &users, model.rows(), &rows)?;
     let gap = gap(model, &rows, &vars)?;
     Ok(Certificate::Infeasible {
         gap,
@@ -195,23 +167,22 @@ fn unbounded(
     alloc: Global,
     places: &AddressMap,
     model: &UserModel,
-    variables: &Variables,
     x: &LeafPoint,
     d: &LeafPoint,
 ) -> Result<Certificate, BackFault>
-    requires { variables.now ≡ users model.now.model }
     ensures { let m = model.now.model in let f = expression_at places.now.exprs in
         let values = numbers_by places.now x.now in let along = numbers_by places.now d.now in
         TellsCarried result (prelude.All (PointAndRayFit m f values along) (users m))
         (λ c. c ≡ Unbounded (point m f values) (ray m f along))
         (FirstNot (PointAndRayFit m f values along) (λ v. v) (users m)) }
 {
+    let users = Variables::of(alloc, model.groups())?;
     let leaf = LeafNumbers::of(alloc, places, x)?;
     let along = LeafNumbers::of(alloc, places, d)?;
     let both = values_and_entries(
         alloc,
         places,
-        variables.addresses(),
+        users.addresses(),
         &leaf.point(),
         &along.point(),
     )?;

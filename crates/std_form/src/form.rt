@@ -1,12 +1,11 @@
 //! The equality form of variables and rows.
 ghost use Rattle.std.specs.Prelude.{flat_map, map};
 ghost use Rattle.std.specs.Option.{option_copied};
-ghost use Rattle.std_form.specs.Borrowed.{equation_in, row_in};
+ghost use Rattle.std_form.specs.Borrowed.{row_in};
 ghost use Rattle.std_form.specs.Indexed.{cost_in, equations_in};
 ghost use Rattle.std_form.specs.Told.{TellsBuilt};
 
 use crate::cells::{cell_count, costs, slacks};
-use crate::equation::Equation;
 use crate::fault::FormFault;
 use crate::leaves::{Row, Variable, equations};
 use crate::rights::sides_of;
@@ -31,30 +30,14 @@ pub(crate) fn form_by_index(
         (cost_in (option_copied objective.entry)) result }
 {
     let equations = equations(alloc, rows)?;
-    let form = form_of_equations(alloc, variables, &equations, objective);
-    drop(equations);
-    form
-}
-
-// The same of equations that are lent, so that no way out frees them.
-fn form_of_equations(
-    alloc: Global,
-    variables: &[Variable],
-    equations: &[Equation],
-    objective: Option<&LeafObjective>,
-) -> Result<StdForm, FormFault>
-    ensures { TellsBuilt variables.now (map equation_in equations.now)
-        (cost_in (option_copied objective.entry)) result }
-{
-    let slacks = slacks(alloc, equations)?;
+    let slacks = slacks(alloc, &equations)?;
     let cells = cell_count(variables, slacks.len(), equations.len());
     if cells > CELL_LIMIT {
         return Err(FormFault::TooLarge { cells });
     }
+    let sides = sides_of(alloc, &equations)?;
     let costs = costs(alloc, variables, &slacks, objective)?;
-    drop(slacks);
-    let sides = sides_of(alloc, equations)?;
-    let matrix = matrix(alloc, variables, equations, &sides.flips)?;
+    let matrix = matrix(alloc, variables, &equations, &sides.flips)?;
     Ok(StdForm {
         m: equations.len(),
         c: costs.len(),

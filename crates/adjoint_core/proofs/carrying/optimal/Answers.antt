@@ -5,7 +5,7 @@ use Rattle.aff_core.specs.Address.{Address}
 use Rattle.aff_core.specs.Function.{coefficient}
 use Rattle.cert_core.specs.Folds.{AddUp, CostFits, EvaluationFits, ObjectiveValueFits, adjoint_parts}
 use Rattle.certificates.specs.Duals.{reduced_cost, rows_with}
-use Rattle.certificates.specs.Points.{objective_function, objective_value, sense_of}
+use Rattle.certificates.specs.Points.{all_addresses, objective_function, objective_value, sense_of}
 use Rattle.dual_laws.specs.Held.{adjoint}
 use Rattle.user_model.specs.declared.objective.Objective.{Objective}
 use Rattle.user_model.specs.declared.row.Row.{Row}
@@ -20,7 +20,8 @@ use Rattle.adjoint_core.proofs.carrying.optimal.Goals as goal
 pub returns-in_err-x : goal.returns-in_err-x
 returns-in_err-x g c =
     let m = c.args.model.now.model in
-    let same : c.args.variables.now ≡ users m = c.requires.variables in
+    let same : c.in_ok-users.users ≡ users m = c.in_ok-users.ensures
+    ∙ ap all_addresses c.groups.ensures.value in
     let f = expression_at c.args.places.now.exprs in
     let x = numbers_by c.args.places.now c.args.x.now in
     let states = map g.B.Bridge.state c.args.bridges.now in
@@ -28,9 +29,9 @@ returns-in_err-x g c =
     let duals = map (row_dual states leaf) m.rows in
     let Fit = All (RowDualFits states leaf) m.rows in
     let Unfit = IsUnfitAmong states leaf m.rows in
-    told_on c.from_residual.result c.in_err-x.field-0.0 _
+    told_on c.from_residual-in_err-x.result c.in_err-x.field-0.0 _
     (OptimalBackFits m duals Fit Unfit f x) _ _ _ (IsUnfitOptimal m duals Fit Unfit f x)
-    c.from_residual.ensures.1 c.in_err-x.ensures
+    c.from_residual-in_err-x.ensures.1 c.in_err-x.ensures
     (λ at h. inl
     (subst (λ (us : List Address). FirstNot (λ v. EvaluationFits one_ℚ (f v) x) (λ v. v) us at)
     same h))
@@ -38,7 +39,8 @@ returns-in_err-x g c =
 pub returns-in_err-vars : goal.returns-in_err-vars
 returns-in_err-vars g c =
     let m = c.args.model.now.model in
-    let same : c.args.variables.now ≡ users m = c.requires.variables in
+    let same : c.in_ok-users.users ≡ users m = c.in_ok-users.ensures
+    ∙ ap all_addresses c.groups.ensures.value in
     let f = expression_at c.args.places.now.exprs in
     let x = numbers_by c.args.places.now c.args.x.now in
     let states = map g.B.Bridge.state c.args.bridges.now in
@@ -71,7 +73,8 @@ returns-in_err-vars g c =
 pub returns-in_err-value : goal.returns-in_err-value
 returns-in_err-value g c =
     let m = c.args.model.now.model in
-    let same : c.args.variables.now ≡ users m = c.requires.variables in
+    let same : c.in_ok-users.users ≡ users m = c.in_ok-users.ensures
+    ∙ ap all_addresses c.groups.ensures.value in
     let f = expression_at c.args.places.now.exprs in
     let x = numbers_by c.args.places.now c.args.x.now in
     let states = map g.B.Bridge.state c.args.bridges.now in
@@ -112,7 +115,8 @@ returns-in_err-value g c =
 pub returns : goal.returns
 returns g c =
     let m = c.args.model.now.model in
-    let same : c.args.variables.now ≡ users m = c.requires.variables in
+    let same : c.in_ok-users.users ≡ users m = c.in_ok-users.ensures
+    ∙ ap all_addresses c.groups.ensures.value in
     let f = expression_at c.args.places.now.exprs in
     let x = numbers_by c.args.places.now c.args.x.now in
     let states = map g.B.Bridge.state c.args.bridges.now in

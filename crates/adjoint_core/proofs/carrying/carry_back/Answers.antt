@@ -9,10 +9,10 @@ use Rattle.adjoint_core.specs.CarriedBack.{CarriesAnswerBack}
 use Rattle.adjoint_core.specs.Read.{duals_by, numbers_by}
 use Rattle.adjoint_core.proofs.CarriedOver.{good_if_ok, infeasible_told, optimal_told, unbounded_told}
 use Rattle.adjoint_core.proofs.RowDuals.{rows_carried}
-use Rattle.adjoint_core.proofs.carrying.carry_over.Goals as goal
+use Rattle.adjoint_core.proofs.carrying.carry_back.Goals as goal
 
-pub optimal-requires-clause-within : goal.optimal-requires-clause-within
-optimal-requires-clause-within g c =
+pub optimal-requires : goal.optimal-requires
+optimal-requires g c =
     let states = map g.B.Bridge.state c.args.bridges.now in
     let places = c.args.map.now in
     let m = c.args.model.now.model in
@@ -20,12 +20,12 @@ optimal-requires-clause-within g c =
     let now = optimal (numbers_by places c.in-Optimal.x) y in
     let can : CanCarry states places m now =
     subst (λ (a : LeafAnswer). CanCarry states places m (answer_of places a)) c.in-Optimal.is
-    c.requires.can in
+    c.requires in
     (rows_carried states places m now can c.objective-valid.ensures.valid
     (optimal_duals can.bridging y) can.duals).within
 
-pub infeasible-requires-clause-within : goal.infeasible-requires-clause-within
-infeasible-requires-clause-within g c =
+pub infeasible-requires : goal.infeasible-requires
+infeasible-requires g c =
     let states = map g.B.Bridge.state c.args.bridges.now in
     let places = c.args.map.now in
     let m = c.args.model.now.model in
@@ -33,7 +33,7 @@ infeasible-requires-clause-within g c =
     let now = infeasible y in
     let can : CanCarry states places m now =
     subst (λ (a : LeafAnswer). CanCarry states places m (answer_of places a)) c.in-Infeasible.is
-    c.requires.can in
+    c.requires in
     (rows_carried states places m now can c.objective-valid.ensures.valid
     (infeasible_duals can.bridging y) can.duals).within
 
