@@ -16,6 +16,7 @@ pub mod MarkSteps
 pub mod MarkingSteps
 pub mod WordMarkSteps
 pub mod MixedSteps
+pub mod StaySteps
 pub mod LeavingSteps
 pub mod NarrowingSteps
 pub mod EachSteps

@@ -17,7 +17,7 @@ use Rattle.sparse_board.specs.declared.mixed_row.MixedRow.{MixedRow}
 use Rattle.sparse_board.specs.declared.step.Step.{Step}
 use Rattle.sparse_board.specs.Mixed.{IsLeft, number_of, units_of, width_of}
 use Rattle.tableau_core.specs.BoardNumbers.{differences_fit}
-use Rattle.sparse_board.specs.Lowering.{IsFinished, IsMixedPrepared, IsMixedReady}
+use Rattle.sparse_board.specs.Lowering.{IsFinished, IsMixedReady}
 use Rattle.sparse_board.specs.Rows.{AreSparseRowsLowered, AreSparseRowsWide, IsPreparedAt, IsStepLeftAt, OnRows, now_at, now_of, number_in_row, numbers, rows_fit, width_at}
 use Rattle.sparse_board.specs.Changes.{AreChanged, AreChangesPrepared, AreLeft, AreRowsListed, ListsChanges}
 use Rattle.sparse_board.proofs.MixedSteps.{mixed_fits}
@@ -141,7 +141,7 @@ module _ (w q : ℕ) (step : Step) (items : List ℕ) (before rows : List Row) (
         → new.now ≡ (slice_index_or rows i d).now
         → true ≡ differences_fit (width_of (slice_index_or rows i d).now)
         (number_of (slice_index_or rows i d).now) (number_of (slice_index_or rows i d).now q)
-        (units_of step) → IsMixedPrepared q step new
+        (units_of step) → IsPreparedAt q step (Some new)
         → ArePreparedTo w q step items before (slice_set rows i new) (k + 1)
     prepared-more new is same fits made = record {
       long = length-set rows i new ∙ h.long;
@@ -246,7 +246,7 @@ changed-all P items count before rows k h e = record {
 -- the row that is read was worked out
 pub prepared_read : (q : ℕ) (step : Step) (items : List ℕ) (count : ℕ) (before : List Row)
     (k i : ℕ) (row : Row) → Some row ≡ slice_get before i → i ≡ slice_index items k → k < count
-    → AreChangesPrepared q step items count before → IsMixedPrepared q step row
+    → AreChangesPrepared q step items count before → IsPreparedAt q step (Some row)
 prepared_read q step items count before k i row stands is b p =
     subst (IsPreparedAt q step)
     (sym (stands ∙ ap (slice_get before) is)) (p k b)

@@ -3,7 +3,7 @@ use Rattle.std.specs.Prelude.{◌≡◌, ℕ, ◌<◌, ◌≤◌, ◌⊎◌, Lis
 use Rattle.ratio_core.specs.Rational.{zero_ℚ}
 use Rattle.sparse_board.specs.declared.row.Row.{Row}
 use Rattle.sparse_board.specs.declared.step.Step.{Step}
-use Rattle.sparse_board.specs.Rows.{IsPreparedAt, IsStepLeftAt, OnRows, number_in_row}
+use Rattle.sparse_board.specs.Rows.{IsPreparedAt, IsStepLeftAt, OnRows, StaysWholeAt, now_at, number_in_row}
 
 -- the first `count` are numbers below n, rising
 pub record AreRowsListed (n : ℕ) (items : List ℕ) (count : ℕ) : Type 0 where
@@ -28,6 +28,11 @@ pub record AreChangesNoted (rows : List Row) (r q : ℕ) (items : List ℕ) (cou
     pub others : (k : ℕ) → k < count → ¬ (slice_index items k ≡ r)
     pub found : (j : ℕ) → j < i → ¬ (j ≡ r) → (number_in_row rows j q ≡ zero_ℚ)
         ⊎ ((k : ℕ) × (k < count) × (slice_index items k ≡ j))
+
+-- each of them is known to stay a row of whole numbers
+abbrev pub AllStay : ℕ → Step → List ℕ → ℕ → List Row → Type 0
+AllStay q step items count rows =
+    (k : ℕ) → k < count → StaysWholeAt q step (now_at rows (slice_index items k))
 
 -- each of them is worked out
 abbrev pub AreChangesPrepared : ℕ → Step → List ℕ → ℕ → List Row → Type 0

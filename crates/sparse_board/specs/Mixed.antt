@@ -1,5 +1,5 @@
 -- What a row of whole numbers or of fractions stands for.
-use Rattle.std.specs.Prelude.{◌≡◌, ℕ, ◌^◌, ◌<◌, true, false, List, MatchOption, Option, if◌then◌else◌, ℤ, pos}
+use Rattle.std.specs.Prelude.{◌≡◌, ℕ, ◌^◌, ◌<◌, true, false, List, MatchOption, Option, if◌then◌else◌, Bool, not, ◌&&◌, nat_eq, ℤ, pos}
 use Rattle.std.specs.Int.{◌∣◌}
 use Rattle.ratio_core.specs.Rational.{Rational, ◌*ℚ◌, ◌-ℚ◌}
 use Rattle.tableau_core.specs.Row.{cell}
@@ -50,6 +50,25 @@ IsPlanned q step row plan room =
 abbrev pub units_of : Step → ℕ → Rational
 units_of step j =
     if step.is_narrow then whole.number_of step.narrow.row j else sparse.number_of step.wide j
+
+-- a row of whole numbers in this number of columns that are small
+abbrev pub is_small : ℕ → MixedRow → Bool
+is_small columns row =
+    not row.is_wide && nat_eq (whole.width_of row.narrow) columns && whole.is_small row.narrow
+
+-- a step of small whole numbers over 1
+abbrev pub is_unit : Step → Bool
+is_unit step =
+    step.is_narrow && nat_eq step.narrow.row.den 1 && whole.is_small step.narrow.row
+
+-- a row of whole numbers is lowered by whole numbers over 1 and stays one
+pub record StaysWhole (q : ℕ) (step : Step) (row : MixedRow) : Type 0 where
+  pub narrow : row.is_wide ≡ false
+  pub step_narrow : step.is_narrow ≡ true
+  pub unit : step.narrow.row.den ≡ 1
+  pub column : q < whole.width_of row.narrow
+  pub width : whole.width_of step.narrow.row ≡ whole.width_of row.narrow
+  pub stays : whole.stays_narrow q step.narrow.row row.narrow ≡ true
 
 -- the fractions of a step, where they are worked out, are its numbers
 abbrev pub IsBoth : Step → Type 0

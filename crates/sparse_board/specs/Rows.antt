@@ -1,11 +1,11 @@
 -- The rows of a board: what stands, and what is worked out for the next.
-use Rattle.std.specs.Prelude.{◌≡◌, ℕ, ◌<◌, Bool, ◌||◌, nat_eq, List, length, Option, Some, None, slice_get}
+use Rattle.std.specs.Prelude.{◌≡◌, ℕ, ◌<◌, Bool, MatchBool, ◌||◌, nat_eq, List, length, Option, Some, None, slice_get}
 use Rattle.ratio_core.specs.Rational.{Rational, zero_ℚ, ◌*ℚ◌, ◌-ℚ◌}
 use Rattle.simplex_form.specs.Search.{all_below}
 use Rattle.sparse_board.specs.declared.row.Row.{Row}
 use Rattle.sparse_board.specs.declared.mixed_row.MixedRow.{MixedRow}
 use Rattle.sparse_board.specs.declared.step.Step.{Step}
-use Rattle.sparse_board.specs.Mixed.{IsLeft, number_of, width_of}
+use Rattle.sparse_board.specs.Mixed.{IsLeft, StaysWhole, number_of, width_of}
 use Rattle.tableau_core.specs.BoardNumbers.{BoardNumbers, differences_fit}
 use Rattle.sparse_board.specs.Lowering.{IsMixedPrepared}
 
@@ -51,9 +51,15 @@ rows_fit w r q units rows =
     all_below (length rows)
     (λ i. nat_eq i r || differences_fit w (number_in_row rows i) (number_in_row rows i q) units)
 
+abbrev pub StaysWholeAt : ℕ → Step → Option MixedRow → Type 0
+StaysWholeAt q step None = Unit {0}
+StaysWholeAt q step (Some row) = StaysWhole q step row
+
+-- nothing is worked out of a row that is known to stay one of whole numbers
 abbrev pub IsPreparedAt : ℕ → Step → Option Row → Type 0
 IsPreparedAt q step None = Unit {0}
-IsPreparedAt q step (Some row) = IsMixedPrepared q step row
+IsPreparedAt q step (Some row) =
+    MatchBool step.all_stay (StaysWhole q step row.now) (IsMixedPrepared q step row)
 
 -- the rows other than r are lowered
 abbrev pub AreSparseRowsLowered : ℕ → ℕ → (ℕ → Rational) → List Row → List Row → Type 0

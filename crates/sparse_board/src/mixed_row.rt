@@ -30,7 +30,7 @@ impl MixedRow {
     ghost use Rattle.std.specs.Prelude.{ℕ, false, IfOk};
     ghost use Rattle.ratio_core.specs.Rational.{◌*ℚ◌, ◌-ℚ◌};
     ghost use Rattle.whole_rows.specs.Rows.{CanLower, can_stay, lowered_by};
-    ghost use Rattle.sparse_board.specs.Mixed.{IsLeft, IsPlanned, IsSame, number_left, number_of, units_of, width_of};
+    ghost use Rattle.sparse_board.specs.Mixed.{IsLeft, IsPlanned, IsSame, is_small, number_left, number_of, units_of, width_of};
 
     // A row of the fractions in `room`: of whole numbers, with room for them in `narrow`, where 64 bits
     // are enough. Else it keeps the fractions' room.
@@ -65,6 +65,14 @@ impl MixedRow {
             wide,
             is_wide: true,
         }
+    }
+
+    // Whether it is one of whole numbers in this number of columns that are small.
+    #[inline(always)]
+    pub(crate) fn is_small(&self, columns: usize) -> bool
+        ensures { result ≡ is_small columns self.now }
+    {
+        !self.is_wide && self.narrow.numbers.len() == columns && self.narrow.is_small()
     }
 
     // The number of a column.

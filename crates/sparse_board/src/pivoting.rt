@@ -14,7 +14,7 @@ use crate::cost_rows::CostRows;
 use crate::marking::mark_step;
 use crate::marks::Marks;
 use crate::row::Row;
-use crate::rows::{prepare_rows, settle_rows};
+use crate::rows::{all_stay, prepare_rows, settle_rows};
 use crate::step::Step;
 use ratio_core::NumberFault;
 
@@ -55,6 +55,7 @@ pub(crate) fn prepare_pivot(
     let has_wide = changes.note(rows, r, q, marks);
     let asked = has_wide || costs.first.now.is_wide || costs.second.now.is_wide;
     divide_row(rows, r, q, asked, step)?;
+    step.all_stay = all_stay(rows, q, step, changes);
     prepare_rows(rows, q, step, changes)?;
     costs.prepare(q, step)
 }

@@ -28,7 +28,7 @@ pub(crate) struct Row {
 
 impl Row {
     ghost use Rattle.tableau_core.specs.BoardNumbers.{differences_fit};
-    ghost use Rattle.sparse_board.specs.Mixed.{IsLeft, IsMixedLowered};
+    ghost use Rattle.sparse_board.specs.Mixed.{IsLeft, IsMixedLowered, StaysWhole};
     ghost use Rattle.sparse_board.specs.Lowering.{IsFinished, IsMixedPrepared, IsMixedReady, IsRowPlanned};
     ghost use Rattle.sparse_board.specs.Testing.{IsTest};
 
@@ -152,6 +152,18 @@ impl Row {
         if self.changes {
             self.now.take(&mut self.next);
         }
+    }
+
+    // The same of a row that is known to stay one of whole numbers, of which nothing was worked out.
+    #[inline(always)]
+    pub(crate) fn ready_unit(&mut self, q: u32, step: &Step)
+        requires { StaysWhole q step.now self.old.now }
+        ensures { IsMixedReady q step.now self.old self.new }
+    {
+        let plan = self.now.narrow.unit_plan(&step.narrow, q as usize);
+        self.left = self
+            .now
+            .ready(&step.narrow, q as usize, Some(plan), &mut self.next);
     }
 
     // Lowers the row by the multiple of the step that is left.

@@ -1,8 +1,8 @@
 //! The rows other than the pivot's.
-ghost use Rattle.std.specs.Prelude.{◌≡◌, ◌<◌, ℕ, length, OnOk};
+ghost use Rattle.std.specs.Prelude.{◌≡◌, ◌+◌, ◌<◌, ℕ, IsTrue, length, OnOk};
 ghost use Rattle.sparse_board.specs.Mixed.{IsBoth, units_of};
 ghost use Rattle.sparse_board.specs.Rows.{AreSparseRowsLowered, AreSparseRowsWide, SameNow, SameWidths, rows_fit};
-ghost use Rattle.sparse_board.specs.Changes.{AreChanged, AreChangesPrepared, AreLeft, AreRowsListed, ListsChanges};
+ghost use Rattle.sparse_board.specs.Changes.{AllStay, AreChanged, AreChangesPrepared, AreLeft, AreRowsListed, ListsChanges};
 ghost use Rattle.sparse_board.specs.Lowering.{IsFinished, IsMixedReady};
 ghost use Rattle.sparse_board.specs.Testing.{IsTest};
 
@@ -11,7 +11,28 @@ use crate::row::Row;
 use crate::step::Step;
 use ratio_core::NumberFault;
 
-// Works out each row that changes, where `step` is the pivot's new row.
+// Whether each row that changes is known to stay one of whole numbers: it is small, and `step`, which
+// is the pivot's new row, is so over 1. No entry is looked at.
+pub(crate) fn all_stay(rows: &[Row], q: u32, step: &Step, changes: &Changes) -> bool
+    requires column { q + 1 < step.now.width }
+    requires listed { AreRowsListed (length rows.now) changes.now.rows.items changes.now.count }
+    ensures { IsTrue result → AllStay q step.now changes.now.rows.items changes.now.count rows.now }
+{
+    if !step.is_unit() {
+        return false;
+    }
+    let columns = step.narrow.row.numbers.len();
+    for k in 0..changes.count {
+        let i = changes.rows[k] as usize;
+        let row = &rows[i].now;
+        if !row.is_small(columns) {
+            return false;
+        }
+    }
+    true
+}
+
+// Works out each row that changes, unless all are known to stay rows of whole numbers.
 #[inline(never)]
 pub(crate) fn prepare_rows(
     rows: &mut [Row],
@@ -23,12 +44,17 @@ pub(crate) fn prepare_rows(
     requires column { q < step.now.width }
     requires listed { AreRowsListed (length rows.old) changes.now.rows.items changes.now.count }
     requires both { IsBoth step.now }
+    requires staying { IsTrue step.now.all_stay
+        → AllStay q step.now changes.now.rows.items changes.now.count rows.old }
     ensures stays { SameNow rows.old rows.new }
     ensures fits { (r : ℕ) → ListsChanges rows.old r q changes.now.rows.items changes.now.count
         → IsTest (rows_fit step.now.width r q (units_of step.now) rows.old) result }
     ensures ok { OnOk result (AreChangesPrepared q step.now changes.now.rows.items
         changes.now.count rows.new) }
 {
+    if step.all_stay {
+        return Ok(());
+    }
     for k in 0..changes.count {
         let i = changes.rows[k] as usize;
         let row = &mut rows[i];
@@ -60,10 +86,27 @@ fn ready_rows(rows: &mut [Row], q: u32, step: &Step, changes: &Changes)
     ensures { AreChanged (IsMixedReady q step.now) changes.now.rows.items changes.now.count
         rows.old rows.new }
 {
+    if step.all_stay {
+        return ready_units(rows, q, step, changes);
+    }
     for k in 0..changes.count {
         let i = changes.rows[k] as usize;
         let row = &mut rows[i];
         row.ready(q, step);
+    }
+}
+
+// The same of rows that are known to stay rows of whole numbers, in a loop that asks nothing of each.
+fn ready_units(rows: &mut [Row], q: u32, step: &Step, changes: &Changes)
+    requires listed { AreRowsListed (length rows.old) changes.now.rows.items changes.now.count }
+    requires staying { AllStay q step.now changes.now.rows.items changes.now.count rows.old }
+    ensures { AreChanged (IsMixedReady q step.now) changes.now.rows.items changes.now.count
+        rows.old rows.new }
+{
+    for k in 0..changes.count {
+        let i = changes.rows[k] as usize;
+        let row = &mut rows[i];
+        row.ready_unit(q, step);
     }
 }
 

@@ -20,6 +20,8 @@ pub(crate) struct Step {
     pub(crate) narrow: NarrowStep,
     pub(crate) is_narrow: bool,
     pub(crate) is_spread: bool,
+    // whether each row that a pivot changes is known to stay one of whole numbers
+    pub(crate) all_stay: bool,
     ghost few: { width < 2 ^ 32 },
     ghost room: { width ≡ whole.width_of narrow.row + 1 },
     ghost most: { width_of wide ≤ width },
@@ -45,7 +47,16 @@ impl Step {
             narrow: NarrowStep::zeros(alloc, width)?,
             is_narrow: true,
             is_spread: false,
+            all_stay: false,
         })
+    }
+
+    // Whether it is one of small whole numbers over 1.
+    #[inline]
+    pub(crate) fn is_unit(&self) -> bool
+        ensures { result ≡ mixed.is_unit self.now }
+    {
+        self.is_narrow && self.narrow.row.den == 1 && self.narrow.row.is_small()
     }
 
     // The number of a column.

@@ -4,6 +4,7 @@ pub mod MarkSteps
 pub mod WordSteps
 pub mod RowSteps
 pub mod PlanSteps
+pub mod UnitSteps
 pub mod OnceSteps
 pub mod DividingSteps
 pub mod DivisionSteps

@@ -69,6 +69,10 @@ abbrev pub can_stay : ℕ → NarrowRow → NarrowRow → Bool
 can_stay q step row =
     nat_lt q (width_of row) && nat_eq (width_of step) (width_of row) && stays_narrow q step row
 
+-- the row's denominator and its bound are below 2^31
+abbrev pub is_small : NarrowRow → Bool
+is_small row = nat_lt row.den (2 ^ 31) && nat_lt row.bound (2 ^ 31)
+
 -- by the plan the row is lowered by its number of column q times the step, and stays narrow
 pub record IsLoweringPlan (q : ℕ) (step row : NarrowRow) (plan : LoweringPlan) : Type 0 where
   pub column : q < width_of row

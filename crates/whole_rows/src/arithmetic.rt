@@ -56,6 +56,15 @@ pub(crate) fn multiplied(number: i64, over: u64) -> i64
     number * over as i64
 }
 
+// The bound of numerators that are lowered and stay below 2^63, where they aren't multiplied.
+#[inline]
+pub(crate) fn raised(bound: u64, size: u64, greatest: u64) -> u64
+    requires { bound + size * greatest < 2 ^ 63 }
+    ensures { result ≡ bound + size * greatest }
+{
+    bound + size * greatest
+}
+
 // The bound of numerators that are lowered, where it stays below 2^63.
 #[inline]
 pub(crate) fn next_bound(bound: u64, over: u64, size: u64, greatest: u64) -> Option<u64>

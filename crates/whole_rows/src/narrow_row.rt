@@ -3,7 +3,7 @@ ghost use Rattle.std.specs.Prelude.{◌≡◌, ◌+◌, ◌/◌, ◌<◌, ◌≤
 ghost use Rattle.whole_rows.specs.ColumnMarks.{MarksCover, words_of};
 ghost use Rattle.whole_rows.specs.Numerators.{AreNumeratorsWithin};
 
-use crate::arithmetic::{common_divisor, exact, multiplied, next_bound, next_den, part};
+use crate::arithmetic::{common_divisor, exact, multiplied, next_bound, next_den, part, raised};
 use crate::clearing::{clear_columns, clear_numbers, copy_marked};
 use crate::dividing::{divide_numbers, greater, measured, quotient, with_sign};
 use crate::listed::{less, lower_listed, note_columns, take_columns};
@@ -14,6 +14,9 @@ use crate::shrinking::{shrink_numbers, shrunk, shrunk_measure};
 use crate::step::NarrowStep;
 use crate::widening::numerator;
 use std::alloc::{AllocError, Global};
+
+// 2^31: the product of two sizes below it is below 2^62.
+const SMALL: u64 = 2147483648;
 
 /// A row of numbers, and a right side behind them: numerators over one denominator, not in lowest
 /// terms. No numerator is larger than the bound.
@@ -41,7 +44,7 @@ impl NarrowRow {
     ghost use Rattle.std.specs.Prelude.{◌≢◌, ℕ, IsTrue, false, is_some, map, pos, take, true, unsigned_abs, IfOk, IfSome};
     ghost use Rattle.whole_rows.specs.Listed.{AreZeros, ListsNonzeros};
     ghost use Rattle.whole_rows.specs.Shrinking.{IsLongPlan};
-    ghost use Rattle.whole_rows.specs.Rows.{CanLower, IsDivision, IsLoweringPlan, IsNarrowDivided, IsNarrowLowered, IsNarrowReady, can_stay, lowered_by, number_of, numerator_of, stays_narrow, width_of};
+    ghost use Rattle.whole_rows.specs.Rows.{CanLower, IsDivision, IsLoweringPlan, IsNarrowDivided, IsNarrowLowered, IsNarrowReady, can_stay, is_small, lowered_by, number_of, numerator_of, stays_narrow, width_of};
 
     /// Zeros in this number of columns, over 1.
     pub fn zeros(alloc: Global, width: usize) -> Result<NarrowRow, AllocError>
@@ -141,6 +144,36 @@ impl NarrowRow {
             return None;
         }
         self.plan(&step.row, q)
+    }
+
+    /// Whether the denominator and the bound are below 2^31. A row stays below 2^63 where it and a step
+    /// over 1 are so small.
+    #[inline(always)]
+    pub fn is_small(&self) -> bool
+        ensures { result ≡ is_small self.now }
+    {
+        self.den < SMALL && self.bound < SMALL
+    }
+
+    /// How the row is lowered by its number of column q times a step over 1, where it is known to stay
+    /// below 2^63.
+    #[inline(always)]
+    pub fn unit_plan(&self, step: &NarrowStep, q: usize) -> LoweringPlan
+        requires column { q < width_of self.now }
+        requires width { width_of step.now.row ≡ width_of self.now }
+        requires unit { step.now.row.den ≡ 1 }
+        requires stays { stays_narrow q step.now.row self.now ≡ true }
+        ensures { IsLoweringPlan q step.now.row self.now result }
+    {
+        let by = self.numbers[q];
+        let size = by.unsigned_abs();
+        let bound = raised(self.bound, size, step.row.bound);
+        LoweringPlan {
+            over: 1,
+            by,
+            bound,
+            den: self.den,
+        }
     }
 
     /// Brings the row over the denominator of the one that it is lowered to by a plan. What is left

@@ -1,12 +1,13 @@
 use Rattle.std.specs.Prelude.{Err, IsTrue, Ok, OnOk, Result}
-use Rattle.std.proofs.Common.{◌≡◌, ◌<◌, ap, arith, false, subst, sym, true, ◌∙◌}
+use Rattle.std.proofs.Common.{◌≡◌, ◌+◌, ◌<◌, ap, arith, false, refl, slice_index, subst, sym, true, ◌∙◌}
 use Rattle.ratio_core.specs.Rational.{◌/ℚ◌}
 use Rattle.tableau_core.specs.BoardNumbers.{quotients_fit}
 use Rattle.tableau_core.specs.TestLaws.{costs-decide, others-refused}
 use Rattle.sparse_board.specs.Marking.{AreNumbersMarked}
 use Rattle.sparse_board.specs.Mixed.{units_of, width_of}
-use Rattle.sparse_board.specs.Rows.{number_in_row, numbers, numbers_in, rows_fit}
+use Rattle.sparse_board.specs.Rows.{now_at, number_in_row, numbers, numbers_in, rows_fit}
 use Rattle.sparse_board.proofs.ChangeSteps.{lists_same}
+use Rattle.sparse_board.proofs.StaySteps.{stays_same}
 use Rattle.sparse_board.proofs.TestSteps.{left_fails, refused_on, test_same}
 use Rattle.sparse_board.proofs.pivoting.prepare_pivot.Goals as goal
 
@@ -91,3 +92,16 @@ returns-in_err-prepare_rows-clause-marked c =
 pub returns-clause-marked : goal.returns-clause-marked
 returns-clause-marked c =
     c.note-has_wide.ensures.marked c.args.step.now.width c.requires.marked
+
+pub all_stay-step-requires-clause-column : goal.all_stay-step-requires-clause-column
+all_stay-step-requires-clause-column c =
+    subst (λ n. c.args.q + 1 < n) (sym c.in_ok-divide_row.ensures.width) c.requires.column
+
+pub all_stay-step-requires-clause-listed : goal.all_stay-step-requires-clause-listed
+all_stay-step-requires-clause-listed c = c.note-has_wide.ensures.lists.listed
+
+pub prepare_rows-requires-clause-staying : goal.prepare_rows-requires-clause-staying
+prepare_rows-requires-clause-staying c = λ t k b.
+    stays_same c.args.q c.divide_row.new.step _
+    (now_at c.args.rows.now (slice_index c.note-has_wide.new.self.rows.items k)) refl refl
+    (c.all_stay-step.ensures t k b)

@@ -1,6 +1,7 @@
 use Rattle.std.proofs.Common.{◌≡◌, ◌<◌, arith, length, slice_index, subst, sym}
 use Rattle.sparse_board.proofs.TestSteps.{refused_on}
 use Rattle.sparse_board.proofs.RowsSteps.{listed_is, listed_within, prepared-all, prepared-more, prepared-none, prepared_stays, prepared_wide, rows-refused}
+use Rattle.sparse_board.proofs.StaySteps.{stay_prepared, stay_to, worked_out}
 use Rattle.sparse_board.proofs.rows.prepare_rows.Goals as goal
 use Rattle.sparse_board.proofs.rows.prepare_rows.Goals.{After-index}
 
@@ -41,7 +42,8 @@ loop-k-preserved c =
     prepared-more step.width c.args.q step c.args.changes.now.rows.items c.args.rows.now
     c.loop-k.rows c.loop-k.k c.loop-k.invariant c.requires.wide c.index.result.now
     c.index-rows-i.result (item_within at) c.prepare.new.self (item_is at)
-    c.in_ok-prepare.ensures.stays (sym c.in_ok-prepare.ensures.fits) c.in_ok-prepare.ensures.ok
+    c.in_ok-prepare.ensures.stays (sym c.in_ok-prepare.ensures.fits)
+    (worked_out c.args.q step c.prepare.new.self c.if-step.false c.in_ok-prepare.ensures.ok)
 
 pub returns-in_err-prepare-clause-stays : goal.returns-in_err-prepare-clause-stays
 returns-in_err-prepare-clause-stays c =
@@ -72,3 +74,18 @@ returns-clause-fits c = λ r lists.
 
 pub returns-clause-ok : goal.returns-clause-ok
 returns-clause-ok c = λ l b. c.loop-k.invariant.prepared l (omega (arith, b, c.loop-k-test.false))
+
+pub returns-then-step-clause-fits : goal.returns-then-step-clause-fits
+returns-then-step-clause-fits c = λ r lists.
+    let step = c.args.step.now in
+    let items = c.args.changes.now.rows.items in
+    let count = c.args.changes.now.count in
+    prepared-all step.width c.args.q step items c.args.rows.now c.args.rows.now count
+    (stay_to step.width c.args.q step c.requires.column items count c.args.rows.now c.requires.wide
+    c.requires.listed c.if-step.true (c.requires.staying c.if-step.true))
+    c.requires.wide r count (omega arith) lists
+
+pub returns-then-step-clause-ok : goal.returns-then-step-clause-ok
+returns-then-step-clause-ok c =
+    stay_prepared c.args.q c.args.step.now c.args.changes.now.rows.items c.args.changes.now.count
+    c.args.rows.now c.if-step.true (c.requires.staying c.if-step.true)
