@@ -11,8 +11,8 @@ use crate::row::Row;
 use crate::step::Step;
 use ratio_core::NumberFault;
 
-// Whether each row that changes is known to stay one of whole numbers: it is small, and `step`, which
-// is the pivot's new row, is so over 1. No entry is looked at.
+// Whether each row that changes is known to stay one of whole numbers: its numbers are small, and those
+// of `step`, the pivot's new row, are small and over 1. No entry is looked at.
 pub(crate) fn all_stay(rows: &[Row], q: u32, step: &Step, changes: &Changes) -> bool
     requires column { q + 1 < step.now.width }
     requires listed { AreRowsListed (length rows.now) changes.now.rows.items changes.now.count }

@@ -19,7 +19,7 @@ use std::alloc::{AllocError, Global};
 use tableau_core::{first_prices, second_prices};
 use whole_rows::NarrowRow;
 
-// Both, of which the first is in use.
+// Both cost rows. The first phase's is in use.
 pub(crate) fn start_costs(
     alloc: Global,
     m: usize,

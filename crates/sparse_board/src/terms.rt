@@ -6,7 +6,7 @@ ghost use Rattle.sparse_board.specs.Starting.{AreTermsOf};
 
 use ratio_core::Ratio;
 
-// How many terms are at places below `to`, of which the first `from` are known to be.
+// How many terms are at places below `to`. The first `from` terms are known to be.
 pub(crate) fn row_end(terms: &[(usize, Ratio)], from: usize, to: usize) -> usize
     requires { from ≤ length terms.now }
     ensures past { from ≤ result }
