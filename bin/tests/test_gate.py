@@ -67,6 +67,31 @@ class Gate(unittest.TestCase):
         self.assertEqual(changed, {("low", "tests"): ([("low", "proof")], 0, 1, None)})
         self.assertEqual([*given], [*tasks])
 
+    def test_the_proofs_of_the_longest_chain_get_more_jobs(self):
+        def task(lines, *below):
+            return [(it, "proof") for it in below], lines, 2, lambda given, jobs: jobs
+
+        tasks = {("low", "proof"): task(9), ("aside", "proof"): task(1), ("beside", "proof"): task(9)}
+        tasks["high", "proof"] = task(45, "low", "aside", "beside")
+        tasks["high", "tests"] = task(45, "low", "aside", "beside")
+
+        class Kit:
+            memory = 4
+
+            @staticmethod
+            def processors():
+                return 4
+
+            @classmethod
+            def free(cls):
+                return cls.memory
+
+        lanes = loaded().with_chains_shared(lambda tasks: {key: task[3](None, 1) for key, task in tasks.items()}, Kit)
+        several = {("low", "proof"): 3, ("beside", "proof"): 3, ("high", "proof"): 3}
+        self.assertEqual(lanes(tasks), {key: several.get(key, 1) for key in tasks})
+        Kit.memory = 3
+        self.assertEqual(lanes(tasks), dict.fromkeys(tasks, 1))
+
 
 if __name__ == "__main__":
     unittest.main()
