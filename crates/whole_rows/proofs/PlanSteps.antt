@@ -8,11 +8,14 @@ use Rattle.std.proofs.lemmas.List.{get_or_default, get_or_past}
 use Rattle.ratio_core.specs.Gcd.{gcd, part_pos}
 use Rattle.ratio_core.specs.Rational.{reduce}
 use Rattle.whole_rows.specs.declared.narrow_row.NarrowRow.{NarrowRow}
+use Rattle.whole_rows.specs.declared.plan.LongPlan.{LongPlan}
+use Rattle.whole_rows.specs.declared.plan.LoweringPlan.{LoweringPlan}
+use Rattle.whole_rows.specs.declared.plan.LoweringPlan.TheVariants.{Long, Short}
 use Rattle.whole_rows.specs.declared.plan.ShortPlan.{ShortPlan}
 use Rattle.whole_rows.specs.ColumnMarks.{AreScaled, MarksCover}
 use Rattle.whole_rows.specs.Listed.{lowered_once}
 use Rattle.whole_rows.specs.Numerators.{AreNumeratorsWithin, numerator}
-use Rattle.whole_rows.specs.Plans.{IsShortPlan}
+use Rattle.whole_rows.specs.Plans.{IsLongPlan, IsLoweringPlan, IsShortPlan}
 use Rattle.whole_rows.specs.Rows.{IsNarrowReady, numerator_of, width_of}
 use Rattle.whole_rows.proofs.RowSteps.{number_over, part_fits, size_int_div}
 
@@ -143,3 +146,12 @@ module _ (q : ℕ) (step row : NarrowRow) (plan : ShortPlan)
 
         same_lem : (j : ℕ) → numerator_of next j ≡ numerator items side j
         same_lem j = ap₂ (λ x y. slice_index_or x j y) next_items next_side
+
+-- the plan that there is
+pub by_short : (q : ℕ) (step row : NarrowRow) (plan : LoweringPlan) (short : ShortPlan)
+    → plan ≡ Short short → IsLoweringPlan q step row plan → IsShortPlan q step row short
+by_short q step row plan short is h = subst (IsLoweringPlan q step row) is h
+
+pub by_long : (q : ℕ) (step row : NarrowRow) (plan : LoweringPlan) (long : LongPlan)
+    → plan ≡ Long long → IsLoweringPlan q step row plan → IsLongPlan q step row long
+by_long q step row plan long is h = subst (IsLoweringPlan q step row) is h

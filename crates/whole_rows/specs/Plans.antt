@@ -17,11 +17,11 @@ stays_by over size step row =
     nat_lt (row.bound * over + size * step.bound) (2 ^ 63) && nat_lt (row.den * over) (2 ^ 63)
 
 -- by the plan the row is multiplied and lowered by these, and stays narrow
-pub record IsPlanBy (over : ℕ) (by : ℤ) (step row : NarrowRow) (plan : ShortPlan) : Type 0 where
-  pub over : plan.over ≡ over
-  pub by : plan.by ≡ by
-  pub bound : plan.bound ≡ row.bound * over + unsigned_abs by * step.bound
-  pub den : plan.den ≡ row.den * over
+pub record IsPlanBy (o : ℕ) (b : ℤ) (step row : NarrowRow) (plan : ShortPlan) : Type 0 where
+  pub over : plan.over ≡ o
+  pub by : plan.by ≡ b
+  pub bound : plan.bound ≡ row.bound * o + unsigned_abs b * step.bound
+  pub den : plan.den ≡ row.den * o
   pub small_bound : plan.bound < 2 ^ 63
   pub small_den : plan.den < 2 ^ 63
 
