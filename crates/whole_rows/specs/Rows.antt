@@ -1,7 +1,6 @@
 -- What a row of whole numbers stands for, and what a pivot makes of it.
-use Rattle.std.specs.Prelude.{◌≡◌, ◌≢◌, ℕ, ◌+◌, ◌*◌, ◌^◌, ◌<◌, ◌≤◌, Bool, ◌&&◌, nat_eq, nat_lt, ℤ, pos, ◌*ℤ◌, int_div, length, unsigned_abs}
+use Rattle.std.specs.Prelude.{◌≡◌, ◌≢◌, ℕ, ◌+◌, ◌*◌, ◌^◌, ◌<◌, ◌≤◌, Bool, ◌&&◌, nat_eq, nat_lt, ℤ, pos, ◌*ℤ◌, length, unsigned_abs}
 use Rattle.ratio_core.specs.Rational.{Rational, reduce, ◌*ℚ◌, ◌-ℚ◌, ◌/ℚ◌}
-use Rattle.ratio_core.specs.Gcd.{gcd}
 use Rattle.whole_rows.specs.declared.narrow_row.NarrowRow.{NarrowRow}
 use Rattle.std.specs.Int.{◌∣◌}
 use Rattle.whole_rows.specs.declared.plan.Division.{Division}
