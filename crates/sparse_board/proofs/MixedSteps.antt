@@ -12,6 +12,7 @@ use Rattle.whole_rows.specs.declared.narrow_row.NarrowRow.{NarrowRow}
 use Rattle.whole_rows.specs.declared.plan.LoweringPlan.{LoweringPlan}
 use Rattle.whole_rows.specs.FitLaws.{Fits_over}
 use Rattle.whole_rows.specs.NarrowFit.{narrow_quotients_fit}
+use Rattle.whole_rows.specs.Plans.{IsLoweringPlan}
 use Rattle.whole_rows.specs.RowLaws.{row_fits, row_narrow}
 use Rattle.whole_rows.specs.Rows as whole
 use Rattle.sparse_board.specs.declared.mixed_row.MixedRow.{MixedRow}
@@ -208,7 +209,7 @@ ready_numbers q step row is_wide wide narrow by e f ready j b =
 -- by the plan that there is
 pub planned_by : (q : ℕ) (step : NarrowRow) (row : MixedRow) (o : Option LoweringPlan)
     (plan : LoweringPlan) (room : SparseRow) → o ≡ Some plan → IsPlanned q step row o room
-    → whole.IsLoweringPlan q step row.narrow plan
+    → IsLoweringPlan q step row.narrow plan
 planned_by q step row o plan room is h = subst (λ p. IsPlanned q step row p room) is h
 
 -- or in the room that there is

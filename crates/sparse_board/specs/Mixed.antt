@@ -6,6 +6,7 @@ use Rattle.tableau_core.specs.Row.{cell}
 use Rattle.whole_rows.specs.Rows as whole
 use Rattle.whole_rows.specs.declared.narrow_row.NarrowRow.{NarrowRow}
 use Rattle.whole_rows.specs.declared.plan.LoweringPlan.{LoweringPlan}
+use Rattle.whole_rows.specs.Plans.{IsLoweringPlan}
 use Rattle.sparse_board.specs.declared.mixed_row.MixedRow.{MixedRow}
 use Rattle.sparse_board.specs.declared.sparse_row.SparseRow.{SparseRow}
 use Rattle.sparse_board.specs.declared.step.Step.{Step}
@@ -44,7 +45,7 @@ IsLeft step row by =
 -- fractions
 abbrev pub IsPlanned : ℕ → NarrowRow → MixedRow → Option LoweringPlan → SparseRow → Type 0
 IsPlanned q step row plan room =
-    MatchOption plan (sparse.width_of room ≡ width_of row) (whole.IsLoweringPlan q step row.narrow)
+    MatchOption plan (sparse.width_of room ≡ width_of row) (IsLoweringPlan q step row.narrow)
 
 -- the numbers of a step
 abbrev pub units_of : Step → ℕ → Rational

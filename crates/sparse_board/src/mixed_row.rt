@@ -29,7 +29,7 @@ pub(crate) struct MixedRow {
 impl MixedRow {
     ghost use Rattle.std.specs.Prelude.{ℕ, false, IfOk};
     ghost use Rattle.ratio_core.specs.Rational.{◌*ℚ◌, ◌-ℚ◌};
-    ghost use Rattle.whole_rows.specs.Rows.{CanLower, can_stay, lowered_by};
+    ghost use Rattle.whole_rows.specs.Rows.{CanLower, lowered_by};
     ghost use Rattle.sparse_board.specs.Mixed.{IsLeft, IsPlanned, IsSame, is_small, number_left, number_of, units_of, width_of};
 
     // A row of the fractions in `room`: of whole numbers, with room for them in `narrow`, where 64 bits
@@ -128,7 +128,7 @@ impl MixedRow {
 
     // Brings a row of whole numbers over the denominator of the one that it is lowered to by its
     // number of column q times the step, and tells by what multiple of the step it is to be lowered
-    // then. Where there is no plan for that it is lowered at once, and nothing is left.
+    // then. Where there is no plan for that it becomes one of fractions, and nothing is left.
     #[inline(always)]
     pub(crate) fn ready(
         &mut self,
@@ -148,10 +148,9 @@ impl MixedRow {
             ≡ number_of self.old j -ℚ number_of self.old q *ℚ whole.number_of step.now.row j }
     {
         if let Some(plan) = plan {
-            self.narrow.ready(step, plan);
-            return plan.by;
+            return self.narrow.ready(step, plan);
         }
-        self.lower(step, q, room);
+        self.widen(step, q, room);
         0
     }
 
@@ -167,22 +166,17 @@ impl MixedRow {
         self.narrow.lower_by(by, step);
     }
 
-    // Lowers a row of whole numbers by its number of column q times the step. It can't fail: where
-    // the row doesn't stay narrow, each of its fractions fits, and there is room for them.
+    // Lowers a row of whole numbers by its number of column q times the step, in fractions. It can't
+    // fail: each of them fits, and there is room for them.
     #[inline(never)]
-    fn lower(&mut self, step: &NarrowStep, q: usize, room: &mut SparseRow)
+    fn widen(&mut self, step: &NarrowStep, q: usize, room: &mut SparseRow)
         requires narrow { self.old.is_wide ≡ false }
-        requires most { sparse.width_of room.old ≤ width_of self.old }
-        requires room { can_stay q step.now.row self.old.narrow ≡ false
-            → sparse.width_of room.old ≡ width_of self.old }
+        requires room { sparse.width_of room.old ≡ width_of self.old }
         ensures width { width_of self.new ≡ width_of self.old }
         ensures most { sparse.width_of room.new ≤ width_of self.old }
         ensures numbers { (j : ℕ) → j < width_of self.old → number_of self.new j
             ≡ number_of self.old j -ℚ number_of self.old q *ℚ whole.number_of step.now.row j }
     {
-        if self.narrow.lower(step, q) {
-            return;
-        }
         spread_lowered(&self.narrow, &step.row, q, room);
         self.take(room);
     }

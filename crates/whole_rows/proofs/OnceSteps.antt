@@ -10,7 +10,7 @@ use Rattle.whole_rows.specs.declared.narrow_row.NarrowRow.{NarrowRow}
 use Rattle.whole_rows.specs.ColumnMarks.{MarksCover}
 use Rattle.whole_rows.specs.Listed.{lowered_once}
 use Rattle.whole_rows.specs.Numerators.{AreNumeratorsLowered, AreNumeratorsWithin, LoweringFits, numerator}
-use Rattle.whole_rows.specs.Rows.{CanLower, IsNarrowLowered, IsNarrowReady, lowered_by, number_of, numerator_of, width_of}
+use Rattle.whole_rows.specs.Rows.{CanLower, lowered_by, number_of, numerator_of, width_of}
 use Rattle.whole_rows.proofs.BitLaws.{lowered_size}
 use Rattle.whole_rows.proofs.MarkSteps.{covers_lowered, zero_times}
 use Rattle.whole_rows.proofs.ListedSteps.{lowered_once_is}
@@ -118,12 +118,3 @@ lowered_none step row by e j =
   where
     once_none : (N n : ℤ) → lowered_once N (pos 0) n ≡ N
     once_none N n = ap (λ x. N +ℤ neg_ℤ x) (zero_times n) ∙ +ℤ_idr N
-
--- a row that is brought over and then lowered by what is left
-pub ready_lowered : (q : ℕ) (step row middle next : NarrowRow) (by : ℤ)
-    → IsNarrowReady q step row middle by → width_of next ≡ width_of middle
-    → ((j : ℕ) → number_of next j ≡ lowered_by step middle by j) → IsNarrowLowered q step row next
-ready_lowered q step row middle next by ready width lowered = record {
-  width = width ∙ ready.width;
-  numbers = λ j b. lowered j ∙ ready.numbers j b;
-}

@@ -8,13 +8,15 @@ use Rattle.std.proofs.lemmas.List.{get_or_default, get_or_past}
 use Rattle.ratio_core.specs.Gcd.{gcd, part_pos}
 use Rattle.ratio_core.specs.Rational.{reduce}
 use Rattle.whole_rows.specs.declared.narrow_row.NarrowRow.{NarrowRow}
+use Rattle.whole_rows.specs.declared.plan.LongPlan.{LongPlan}
 use Rattle.whole_rows.specs.declared.plan.LoweringPlan.{LoweringPlan}
+use Rattle.whole_rows.specs.declared.plan.LoweringPlan.TheVariants.{Long, Short}
+use Rattle.whole_rows.specs.declared.plan.ShortPlan.{ShortPlan}
 use Rattle.whole_rows.specs.ColumnMarks.{AreScaled, MarksCover}
 use Rattle.whole_rows.specs.Listed.{lowered_once}
 use Rattle.whole_rows.specs.Numerators.{AreNumeratorsWithin, numerator}
-use Rattle.whole_rows.specs.Rows.{IsLoweringPlan, IsNarrowLowered, IsNarrowReady, number_of, numerator_of, width_of}
-use Rattle.rational_laws.specs.Over.{over-zero_ℚ}
-use Rattle.tableau_core.specs.LoweringLaws.{lowered-zero, zero-step}
+use Rattle.whole_rows.specs.Plans.{IsLongPlan, IsLoweringPlan, IsShortPlan}
+use Rattle.whole_rows.specs.Rows.{IsNarrowReady, numerator_of, width_of}
 use Rattle.whole_rows.proofs.RowSteps.{number_over, part_fits, size_int_div}
 
 below_lem : (x s o w m : ℕ) → x ≤ s → s * o + w ≡ m → m < 2 ^ 63 → x * o < 2 ^ 63
@@ -30,8 +32,8 @@ at_most_lem y x s o w m i h e =
 sum_lem : (y p w r m n : ℕ) → y ≡ p → p + w ≤ r → r ≡ m → n ≡ m → y + w ≤ n
 sum_lem y p w r m n e h f g = omega (arith, e, h, f, g)
 
-module _ (q : ℕ) (step row : NarrowRow) (plan : LoweringPlan)
-    (planned : IsLoweringPlan q step row plan) where
+module _ (q : ℕ) (step row : NarrowRow) (plan : ShortPlan)
+    (planned : IsShortPlan q step row plan) where
   room_is : (by : ℤ) → by ≡ plan.by
       → row.bound * plan.over + unsigned_abs by * step.bound ≡ plan.bound
   room_is by by_is =
@@ -145,12 +147,11 @@ module _ (q : ℕ) (step row : NarrowRow) (plan : LoweringPlan)
         same_lem : (j : ℕ) → numerator_of next j ≡ numerator items side j
         same_lem j = ap₂ (λ x y. slice_index_or x j y) next_items next_side
 
--- a row whose number of the column is 0 stays
-pub zero_lowered : (q : ℕ) (step row : NarrowRow) → numerator_of row q ≡ pos 0
-    → IsNarrowLowered q step row row
-zero_lowered q step row z = record {
-  width = refl;
-  numbers = λ j b. sym (lowered-zero (number_of row j) (number_of row q) (number_of step j)
-      (zero-step (number_of row q) (number_of step j)
-      (ap (λ n. reduce n row.den) z ∙ sym (over-zero_ℚ row.den row.above))));
-}
+-- the plan that there is
+pub by_short : (q : ℕ) (step row : NarrowRow) (plan : LoweringPlan) (short : ShortPlan)
+    → plan ≡ Short short → IsLoweringPlan q step row plan → IsShortPlan q step row short
+by_short q step row plan short is h = subst (IsLoweringPlan q step row) is h
+
+pub by_long : (q : ℕ) (step row : NarrowRow) (plan : LoweringPlan) (long : LongPlan)
+    → plan ≡ Long long → IsLoweringPlan q step row plan → IsLongPlan q step row long
+by_long q step row plan long is h = subst (IsLoweringPlan q step row) is h

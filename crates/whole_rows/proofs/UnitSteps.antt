@@ -6,9 +6,10 @@ use Rattle.std.proofs.Math.Nat.{div-one}
 use Rattle.std.proofs.lemmas.Bool.{and_parts, lt-ltb, ltb-true}
 use Rattle.ratio_core.specs.Gcd.{gcd, gcd-one}
 use Rattle.whole_rows.specs.declared.narrow_row.NarrowRow.{NarrowRow}
-use Rattle.whole_rows.specs.declared.plan.LoweringPlan.{LoweringPlan}
+use Rattle.whole_rows.specs.declared.plan.ShortPlan.{ShortPlan}
 use Rattle.whole_rows.specs.Numerators.{over_left, size_left}
-use Rattle.whole_rows.specs.Rows.{IsLoweringPlan, is_small, next_bound, next_den, numerator_of, stays_narrow, width_of}
+use Rattle.whole_rows.specs.Plans.{IsShortPlan}
+use Rattle.whole_rows.specs.Rows.{is_small, next_bound, next_den, numerator_of, stays_narrow, width_of}
 
 int_div_one : (n : ℤ) → int_div n (pos 1) ≡ n
 int_div_one (pos n) = ap pos (div-one n)
@@ -64,10 +65,10 @@ module _ (q : ℕ) (step row : NarrowRow) (unit : step.den ≡ 1) where
       stays).0)
 
   pub unit_planned : stays_narrow q step row ≡ true → q < width_of row
-      → width_of step ≡ width_of row → (plan : LoweringPlan)
+      → width_of step ≡ width_of row → (plan : ShortPlan)
       → plan.over ≡ 1 → plan.by ≡ numerator_of row q
       → plan.bound ≡ row.bound + unsigned_abs (numerator_of row q) * step.bound
-      → plan.den ≡ row.den → IsLoweringPlan q step row plan
+      → plan.den ≡ row.den → IsShortPlan q step row plan
   unit_planned stays column width plan over by bound den = record {
     column = column;
     width = width;

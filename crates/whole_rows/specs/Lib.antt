@@ -8,6 +8,7 @@ pub mod Rows
 pub mod RatioLaws
 pub mod RowLaws
 pub mod Shrinking
+pub mod Plans
 pub mod Listed
 pub mod Common
 pub mod Bits

@@ -1,11 +1,9 @@
 -- What a row of whole numbers stands for, and what a pivot makes of it.
-use Rattle.std.specs.Prelude.{◌≡◌, ◌≢◌, ℕ, ◌+◌, ◌*◌, ◌^◌, ◌<◌, ◌≤◌, Bool, ◌&&◌, nat_eq, nat_lt, ℤ, pos, ◌*ℤ◌, int_div, length, unsigned_abs}
+use Rattle.std.specs.Prelude.{◌≡◌, ◌≢◌, ℕ, ◌+◌, ◌*◌, ◌^◌, ◌<◌, ◌≤◌, Bool, ◌&&◌, nat_eq, nat_lt, ℤ, pos, ◌*ℤ◌, length, unsigned_abs}
 use Rattle.ratio_core.specs.Rational.{Rational, reduce, ◌*ℚ◌, ◌-ℚ◌, ◌/ℚ◌}
-use Rattle.ratio_core.specs.Gcd.{gcd}
 use Rattle.whole_rows.specs.declared.narrow_row.NarrowRow.{NarrowRow}
 use Rattle.std.specs.Int.{◌∣◌}
 use Rattle.whole_rows.specs.declared.plan.Division.{Division}
-use Rattle.whole_rows.specs.declared.plan.LoweringPlan.{LoweringPlan}
 use Rattle.whole_rows.specs.ColumnMarks.{MarksCover}
 use Rattle.whole_rows.specs.Listed.{lowered_once}
 use Rattle.whole_rows.specs.Numerators.{numerator, over_left, size_left}
@@ -19,12 +17,6 @@ numerator_of row j = numerator row.numbers.items row.side j
 
 abbrev pub number_of : NarrowRow → ℕ → Rational
 number_of row j = reduce (numerator_of row j) row.den
-
--- each number is lowered by a multiple of the step's
-pub record IsNarrowLowered (q : ℕ) (step row next : NarrowRow) : Type 0 where
-  pub width : width_of next ≡ width_of row
-  pub numbers : (j : ℕ) → j < width_of row + 1 →
-      number_of next j ≡ number_of row j -ℚ number_of row q *ℚ number_of step j
 
 -- the number of column j, lowered by a multiple of the step's numerator over the row's denominator
 abbrev pub lowered_by : NarrowRow → NarrowRow → ℤ → ℕ → Rational
@@ -72,18 +64,6 @@ can_stay q step row =
 -- the row's denominator and its bound are below 2^31
 abbrev pub is_small : NarrowRow → Bool
 is_small row = nat_lt row.den (2 ^ 31) && nat_lt row.bound (2 ^ 31)
-
--- by the plan the row is lowered by its number of column q times the step, and stays narrow
-pub record IsLoweringPlan (q : ℕ) (step row : NarrowRow) (plan : LoweringPlan) : Type 0 where
-  pub column : q < width_of row
-  pub width : width_of step ≡ width_of row
-  pub over : plan.over ≡ over_left (numerator_of row q) step.den
-  pub by : plan.by ≡ int_div (numerator_of row q)
-      (pos (gcd (unsigned_abs (numerator_of row q)) step.den))
-  pub bound : plan.bound ≡ next_bound q step row
-  pub den : plan.den ≡ next_den q step row
-  pub small_bound : plan.bound < 2 ^ 63
-  pub small_den : plan.den < 2 ^ 63
 
 -- what all numerators of the row are divided by, with the sign of the one of column q
 pub record IsDivision (q : ℕ) (row : NarrowRow) (division : Division) : Type 0 where

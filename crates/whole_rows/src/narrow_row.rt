@@ -8,7 +8,7 @@ use crate::clearing::{clear_columns, clear_numbers, copy_marked};
 use crate::dividing::{divide_numbers, greater, measured, quotient, with_sign};
 use crate::listed::{less, lower_listed, note_columns, take_columns};
 use crate::marks::{clear_marks, join_marks, mark, scale_numbers, word_count};
-use crate::plan::{Division, LongPlan, LoweringPlan};
+use crate::plan::{Division, LongPlan, LoweringPlan, ShortPlan};
 use crate::quotients::inverse_of;
 use crate::shrinking::{shrink_numbers, shrunk, shrunk_measure};
 use crate::step::NarrowStep;
@@ -43,8 +43,8 @@ pub struct NarrowRow {
 impl NarrowRow {
     ghost use Rattle.std.specs.Prelude.{◌≢◌, ℕ, IsTrue, false, is_some, map, pos, take, true, unsigned_abs, IfOk, IfSome};
     ghost use Rattle.whole_rows.specs.Listed.{AreZeros, ListsNonzeros};
-    ghost use Rattle.whole_rows.specs.Shrinking.{IsLongPlan};
-    ghost use Rattle.whole_rows.specs.Rows.{CanLower, IsDivision, IsLoweringPlan, IsNarrowDivided, IsNarrowLowered, IsNarrowReady, can_stay, is_small, lowered_by, number_of, numerator_of, stays_narrow, width_of};
+    ghost use Rattle.whole_rows.specs.Plans.{IsLongPlan, IsLoweringPlan, IsPlanBy, IsShortPlan, is_short, stays_by};
+    ghost use Rattle.whole_rows.specs.Rows.{CanLower, IsDivision, IsNarrowDivided, IsNarrowReady, can_stay, is_small, lowered_by, number_of, numerator_of, stays_narrow, width_of};
 
     /// Zeros in this number of columns, over 1.
     pub fn zeros(alloc: Global, width: usize) -> Result<NarrowRow, AllocError>
@@ -111,33 +111,12 @@ impl NarrowRow {
         }
     }
 
-    /// Lowers the row by its number of column q times the step, or changes nothing where its
-    /// numerators and its denominator then don't stay below 2^63, or the two have other columns.
-    #[inline(always)]
-    pub fn lower(&mut self, step: &NarrowStep, q: usize) -> bool
-        ensures lowered { IsTrue result → IsNarrowLowered q step.now.row self.old self.new }
-        ensures kept { result ≡ false → self.new ≡ self.old }
-        ensures tight { result ≡ false → can_stay q step.now.row self.old ≡ false }
-    {
-        let width = self.numbers.len();
-        if q >= width || step.row.numbers.len() != width {
-            return false;
-        }
-        if self.numbers[q] == 0 {
-            return true;
-        }
-        if self.lower_short(step, q) {
-            return true;
-        }
-        self.lower_long(&step.row, &step.words[..step.words_used], q)
-    }
-
-    /// How the row is lowered by its number of column q times the step, where its bound and its
-    /// denominator stay below 2^63, and the two have the same columns.
+    /// How the row is lowered by its number of column q times the step and stays within 64 bits. There
+    /// is no plan where it doesn't, or where the two have other columns.
     #[inline(always)]
     pub fn plan_for(&self, step: &NarrowStep, q: usize) -> Option<LoweringPlan>
         ensures planned { IfSome result (IsLoweringPlan q step.now.row self.now) }
-        ensures exact { is_some result ≡ can_stay q step.now.row self.now }
+        ensures exact { is_short result ≡ can_stay q step.now.row self.now }
     {
         let width = self.numbers.len();
         if q >= width || step.row.numbers.len() != width {
@@ -168,24 +147,35 @@ impl NarrowRow {
         let by = self.numbers[q];
         let size = by.unsigned_abs();
         let bound = raised(self.bound, size, step.row.bound);
-        LoweringPlan {
+        LoweringPlan::Short(ShortPlan {
             over: 1,
             by,
             bound,
             den: self.den,
-        }
+        })
     }
 
-    /// Brings the row over the denominator of the one that it is lowered to by a plan. What is left
-    /// is to lower it by the plan's multiple of the step's numerators.
+    /// Brings the row over the denominator of the one that it is lowered to by a plan, and tells by
+    /// what multiple of the step's numerators it is to be lowered then. By a long plan it is lowered at
+    /// once, and nothing is left.
     #[inline(always)]
-    pub fn ready(&mut self, step: &NarrowStep, plan: LoweringPlan)
+    pub fn ready(&mut self, step: &NarrowStep, plan: LoweringPlan) -> i64
         requires { (q : ℕ) × IsLoweringPlan q step.now.row self.old plan }
         ensures width { width_of self.new ≡ width_of self.old }
         ensures ready { (q : ℕ) → IsLoweringPlan q step.now.row self.old plan
-            → IsNarrowReady q step.now.row self.old self.new plan.by }
+            → IsNarrowReady q step.now.row self.old self.new result }
     {
-        self.bring_over(&step.row, &step.words[..step.words_used], plan);
+        let words = &step.words[..step.words_used];
+        match plan {
+            LoweringPlan::Short(plan) => {
+                self.bring_over(&step.row, words, plan);
+                plan.by
+            }
+            LoweringPlan::Long(plan) => {
+                self.lower_long(&step.row, words, plan);
+                0
+            }
+        }
     }
 
     /// Lowers the row by a multiple of the step's numerators.
@@ -204,32 +194,14 @@ impl NarrowRow {
         self.side = less(self.side, by, step.row.side);
     }
 
-    // Lowers the row by its number of column q times the step, where the bound and the denominator
-    // stay below 2^63. Else nothing changes.
+    // The same as `ready` by a short plan: where the row may differ from 0 then it is marked, by the
+    // words of the step that have a mark.
     #[inline(always)]
-    fn lower_short(&mut self, step: &NarrowStep, q: usize) -> bool
-        requires column { q < width_of self.old }
-        requires width { width_of step.now.row ≡ width_of self.old }
-        ensures narrow { result ≡ stays_narrow q step.now.row self.old }
-        ensures lowered { IsTrue result → IsNarrowLowered q step.now.row self.old self.new }
-        ensures kept { result ≡ false → self.new ≡ self.old }
-    {
-        let Some(plan) = self.plan(&step.row, q) else {
-            return false;
-        };
-        self.ready(step, plan);
-        self.lower_by(plan.by, step);
-        true
-    }
-
-    // The same as `ready`: where the row may differ from 0 then it is marked, by the words of the
-    // step that have a mark.
-    #[inline(always)]
-    fn bring_over(&mut self, step: &NarrowRow, words: &[u32], plan: LoweringPlan)
-        requires planned { (q : ℕ) × IsLoweringPlan q step.now self.old plan }
+    fn bring_over(&mut self, step: &NarrowRow, words: &[u32], plan: ShortPlan)
+        requires planned { (q : ℕ) × IsShortPlan q step.now self.old plan }
         requires words { ListsNonzeros words.now (map pos step.now.marks.items) }
         ensures width { width_of self.new ≡ width_of self.old }
-        ensures ready { (q : ℕ) → IsLoweringPlan q step.now self.old plan
+        ensures ready { (q : ℕ) → IsShortPlan q step.now self.old plan
             → IsNarrowReady q step.now self.old self.new plan.by }
     {
         scale_numbers(&mut self.numbers, &self.marks, plan.over);
@@ -239,18 +211,15 @@ impl NarrowRow {
         self.bound = plan.bound;
     }
 
-    // The same in 128 bits, where the row stays narrow once it is divided by what divides it.
+    // The same by a long plan, and nothing is left.
     #[inline(never)]
-    fn lower_long(&mut self, step: &NarrowRow, words: &[u32], q: usize) -> bool
-        requires column { q < width_of self.old }
-        requires width { width_of step.now ≡ width_of self.old }
+    fn lower_long(&mut self, step: &NarrowRow, words: &[u32], plan: LongPlan)
+        requires planned { (q : ℕ) × IsLongPlan q step.now self.old plan }
         requires words { ListsNonzeros words.now (map pos step.now.marks.items) }
-        ensures lowered { IsTrue result → IsNarrowLowered q step.now self.old self.new }
-        ensures kept { result ≡ false → self.new ≡ self.old }
+        ensures width { width_of self.new ≡ width_of self.old }
+        ensures ready { (q : ℕ) → IsLongPlan q step.now self.old plan
+            → IsNarrowReady q step.now self.old self.new (pos 0) }
     {
-        let Some(plan) = self.long_plan(step, q) else {
-            return false;
-        };
         let inverse = inverse_of(plan.common);
         join_marks(&mut self.marks, &step.marks, words);
         shrink_numbers(
@@ -272,27 +241,6 @@ impl NarrowRow {
         );
         self.den = plan.den;
         self.bound = plan.bound;
-        true
-    }
-
-    fn long_plan(&self, step: &NarrowRow, q: usize) -> Option<LongPlan>
-        requires column { q < width_of self.now }
-        requires width { width_of step.now ≡ width_of self.now }
-        ensures { IfSome result (λ plan. IsLongPlan q step.now self.now plan) }
-    {
-        let entry = self.numbers[q];
-        let divisor = common_divisor(entry.unsigned_abs(), step.den);
-        let over = part(step.den, divisor);
-        let by = exact(entry, divisor);
-        let measure = shrunk_measure(self, step, over, by)?;
-        let den = next_den(part(self.den, measure.common), over)?;
-        Some(LongPlan {
-            over,
-            by,
-            common: measure.common,
-            bound: measure.greatest,
-            den,
-        })
     }
 
     // The same as `plan_for`, of rows of the same columns.
@@ -300,16 +248,39 @@ impl NarrowRow {
     fn plan(&self, step: &NarrowRow, q: usize) -> Option<LoweringPlan>
         requires column { q < width_of self.now }
         requires width { width_of step.now ≡ width_of self.now }
-        ensures room { is_some result ≡ stays_narrow q step.now self.now }
-        ensures plan { IfSome result (IsLoweringPlan q step.now self.now) }
+        ensures planned { IfSome result (IsLoweringPlan q step.now self.now) }
+        ensures exact { is_short result ≡ stays_narrow q step.now self.now }
     {
         let entry = self.numbers[q];
-        let common = common_divisor(entry.unsigned_abs(), step.den);
-        let over = part(step.den, common);
-        let by = exact(entry, common);
+        let divisor = common_divisor(entry.unsigned_abs(), step.den);
+        let over = part(step.den, divisor);
+        let by = exact(entry, divisor);
+        if let Some(plan) = self.short_plan(step, over, by) {
+            return Some(LoweringPlan::Short(plan));
+        }
+        let measure = shrunk_measure(self, step, over, by)?;
+        let den = next_den(part(self.den, measure.common), over)?;
+        Some(LoweringPlan::Long(LongPlan {
+            over,
+            by,
+            common: measure.common,
+            bound: measure.greatest,
+            den,
+        }))
+    }
+
+    // How the row is lowered by this multiple in 64 bits, where its bound and its denominator stay
+    // below 2^63.
+    #[inline(always)]
+    fn short_plan(&self, step: &NarrowRow, over: u64, by: i64) -> Option<ShortPlan>
+        requires over { over < 2 ^ 63 }
+        requires by { unsigned_abs by < 2 ^ 63 }
+        ensures exact { is_some result ≡ stays_by over (unsigned_abs by) step.now self.now }
+        ensures planned { IfSome result (IsPlanBy over by step.now self.now) }
+    {
         let bound = next_bound(self.bound, over, by.unsigned_abs(), step.bound)?;
         let den = next_den(self.den, over)?;
-        Some(LoweringPlan {
+        Some(ShortPlan {
             over,
             by,
             bound,

@@ -14,9 +14,9 @@ ready-requires c = (
 pub returns-in-Some-clause-left : goal.returns-in-Some-clause-left
 returns-in-Some-clause-left c = λ _. (
   c.requires.narrow,
-  let by_fits : FitsSigned w64 c.in-Some.plan.by = search rules in
+  let by_fits : FitsSigned w64 c.ready.result = search rules in
       subst (CanLower c.args.step.now.row c.ready.new.self)
-      (sym (to_z-of_z w64 c.in-Some.plan.by by_fits))
+      (sym (to_z-of_z w64 c.ready.result by_fits))
       (c.ready.ensures.ready c.args.q (planned_by c.args.q c.args.step.now.row c.args.self.now
       c.args.plan c.in-Some.plan c.args.room.now c.in-Some.is c.requires.planned)).left,
 )
@@ -24,20 +24,20 @@ returns-in-Some-clause-left c = λ _. (
 pub returns-in-Some-clause-numbers : goal.returns-in-Some-clause-numbers
 returns-in-Some-clause-numbers c = λ j b.
     let row = c.args.self.now in
-    let by_fits : FitsSigned w64 c.in-Some.plan.by = search rules in
+    let by_fits : FitsSigned w64 c.ready.result = search rules in
     ready_numbers c.args.q c.args.step.now.row row row.is_wide row.wide c.ready.new.self _
     c.requires.narrow c.requires.narrow
     (subst (IsNarrowReady c.args.q c.args.step.now.row row.narrow c.ready.new.self)
-    (sym (to_z-of_z w64 c.in-Some.plan.by by_fits))
+    (sym (to_z-of_z w64 c.ready.result by_fits))
     (c.ready.ensures.ready c.args.q (planned_by c.args.q c.args.step.now.row row c.args.plan
     c.in-Some.plan c.args.room.now c.in-Some.is c.requires.planned))) j b
 
-pub lower-requires-clause-room : goal.lower-requires-clause-room
-lower-requires-clause-room c = λ _.
+pub widen-requires-clause-room : goal.widen-requires-clause-room
+widen-requires-clause-room c =
     let is : c.args.plan ≡ None = search rules in
     planned_beside c.args.q c.args.step.now.row c.args.self.now c.args.plan c.args.room.now is
     c.requires.planned
 
 pub returns-clause-numbers : goal.returns-clause-numbers
 returns-clause-numbers c = λ j b.
-    left_none c.args.step.now.row c.lower.new.self (pos 0) refl j ∙ c.lower.ensures.numbers j b
+    left_none c.args.step.now.row c.widen.new.self (pos 0) refl j ∙ c.widen.ensures.numbers j b
