@@ -78,7 +78,7 @@ pub(crate) fn scaled(a: i64, by: u64) -> i128
 }
 
 #[inline]
-fn product(a: i64, b: i64) -> i128
+pub(crate) fn product(a: i64, b: i64) -> i128
     ensures value { result ≡ a *ℤ b }
     ensures fits { unsigned_abs result ≤ 2 ^ 126 }
 {
