@@ -77,14 +77,14 @@ impl Tableau for DenseBoard {
         let (m, c) = (form.m, form.c);
         let mut rows = Vec::with_capacity(m);
         let mut first = vec![ZERO; c + m];
-        for i in 0..m {
+        for (i, entries) in form.rows().enumerate() {
             let mut row = vec![ZERO; c + m + 1];
-            row[..c].copy_from_slice(&form.matrix[i * c..(i + 1) * c]);
+            for (j, entry) in entries {
+                row[j] = entry;
+                first[j] = first[j].add(&entry).ok()?;
+            }
             row[c + i] = ONE;
             row[c + m] = form.right[i];
-            for j in 0..c {
-                first[j] = first[j].add(&row[j]).ok()?;
-            }
             rows.push(Row::new(row));
         }
         for price in &mut first[..c] {

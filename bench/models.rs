@@ -4,7 +4,7 @@ use crate::{Draw, Form, whole};
 
 /// The form of a kind with so many rows and columns.
 pub fn model(kind: &str, m: usize, c: usize) -> Option<Form> {
-    let mut form = Form { m, c, matrix: vec![ZERO; m * c], right: vec![ZERO; m], costs: vec![ZERO; c] };
+    let mut form = Form { m, c, terms: Vec::new(), right: vec![ZERO; m], costs: vec![ZERO; c] };
     let mut draw = Draw { state: 1 };
     match kind {
         "chain" => chain(&mut form, &mut draw),
@@ -12,12 +12,15 @@ pub fn model(kind: &str, m: usize, c: usize) -> Option<Form> {
         "blend" => blend(&mut form, &mut draw),
         _ => return None,
     }
+    // A transport puts them column by column. A place that was put twice has its first entry.
+    form.terms.sort_by_key(|term| term.0);
+    form.terms.dedup_by_key(|term| term.0);
     Some(form)
 }
 
 impl Form {
     fn put(&mut self, row: usize, column: usize, entry: i64) {
-        self.matrix[row * self.c + column] = whole(entry);
+        self.terms.push((row * self.c + column, whole(entry)));
     }
 
     fn add_side(&mut self, row: usize, side: u64) {

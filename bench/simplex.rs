@@ -16,9 +16,24 @@ use whole_board::WholeBoard;
 struct Form {
     m: usize,
     c: usize,
-    matrix: Vec<Ratio>,
+    /// The entries that aren't 0, each beside its place in the matrix, row by row.
+    terms: Vec<(usize, Ratio)>,
     right: Vec<Ratio>,
     costs: Vec<Ratio>,
+}
+
+impl Form {
+    /// The entries of each row that aren't 0, each beside its column.
+    fn rows(&self) -> impl Iterator<Item = impl Iterator<Item = (usize, Ratio)> + Clone + '_> + '_ {
+        let mut rest = &self.terms[..];
+        (0..self.m).map(move |i| {
+            let from = i * self.c;
+            let count = rest.iter().take_while(|term| term.0 < from + self.c).count();
+            let (row, others) = rest.split_at(count);
+            rest = others;
+            row.iter().map(move |&(place, entry)| (place - from, entry))
+        })
+    }
 }
 
 const ALLOWANCE: u64 = 1_000_000;
@@ -190,10 +205,10 @@ fn form(seed: u64, m: usize, c: usize, sparse: u64, greatest: u64) -> Form {
     let mut draw = Draw { state: seed };
     let point: Vec<i64> = (0..c).map(|_| draw.below(4) as i64).collect();
     let costs = (0..c).map(|_| whole(draw.below(9) as i64)).collect();
-    let mut matrix = Vec::with_capacity(m * c);
+    let mut terms = Vec::with_capacity(m * c);
     let mut right = Vec::with_capacity(m);
     let mut row = Vec::with_capacity(c);
-    for _ in 0..m {
+    for i in 0..m {
         let mut entry = |_| {
             let stands = draw.below(sparse) == 0;
             let number = draw.below(2 * greatest + 1) as i64 - greatest as i64;
@@ -203,10 +218,11 @@ fn form(seed: u64, m: usize, c: usize, sparse: u64, greatest: u64) -> Form {
         row.extend((0..c).map(&mut entry));
         let side: i64 = row.iter().zip(&point).map(|(entry, x)| entry * x).sum();
         let sign = if side < 0 { -1 } else { 1 };
-        matrix.extend(row.iter().map(|entry| whole(entry * sign)));
+        let entries = row.iter().enumerate().filter(|(_, entry)| **entry != 0);
+        terms.extend(entries.map(|(j, entry)| (i * c + j, whole(entry * sign))));
         right.push(whole(side.abs()));
     }
-    Form { m, c, matrix, right, costs }
+    Form { m, c, terms, right, costs }
 }
 
 fn whole(n: i64) -> Ratio {

@@ -44,13 +44,11 @@ impl Tableau for SparseBoard {
         let mut sums = vec![ZERO; c];
         let mut rows = Vec::with_capacity(m);
         let mut marks = vec![false; (c + m + 1) * m];
-        for i in 0..m {
+        for (i, entries) in form.rows().enumerate() {
             let mut row = Row::default();
-            for (j, entry) in form.matrix[i * c..(i + 1) * c].iter().enumerate() {
-                if !entry.is_zero() {
-                    row.push(j as u32, *entry);
-                    sums[j] = sums[j].add(entry).ok()?;
-                }
+            for (j, entry) in entries {
+                row.push(j as u32, entry);
+                sums[j] = sums[j].add(&entry).ok()?;
             }
             row.push((c + i) as u32, ONE);
             row.push_any((c + m) as u32, form.right[i]);

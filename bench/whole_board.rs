@@ -647,20 +647,19 @@ impl WholeBoard {
 
 // The start.
 impl WholeBoard {
-    fn start_row(&mut self, i: usize, entries: &[Ratio], side: &Ratio) {
+    /// The entries aren't 0, and each is beside its column.
+    fn start_row(&mut self, i: usize, entries: impl Iterator<Item = (usize, Ratio)> + Clone, side: &Ratio) {
         let (base, own) = (i * self.width, self.c + i);
         let mut den = common(1, side);
         let mut is_whole = is_narrow_whole(side);
         let mut bound = 1 | side.num.unsigned_abs();
         let bits = &mut self.bits[i * self.words..][..self.words];
-        for (j, entry) in entries.iter().enumerate() {
-            if entry.num != 0 {
-                bits[j / 64] |= 1 << (j % 64);
-                is_whole &= is_narrow_whole(entry);
-                bound |= entry.num.unsigned_abs();
-                den = den.and_then(|den| common(den, entry));
-                self.cells[base + j] = entry.num as i64;
-            }
+        for (j, entry) in entries.clone() {
+            bits[j / 64] |= 1 << (j % 64);
+            is_whole &= is_narrow_whole(&entry);
+            bound |= entry.num.unsigned_abs();
+            den = den.and_then(|den| common(den, &entry));
+            self.cells[base + j] = entry.num as i64;
         }
         let has_own = i < self.m;
         if has_own {
@@ -675,17 +674,24 @@ impl WholeBoard {
             return;
         }
         let wide = room_for(&mut self.wides[i], self.width);
-        let cells = &mut self.cells;
-        each(&self.bits, self.words, i, |j| {
-            wide[j] = if j < entries.len() { entries[j] } else { ONE };
-            cells[base + j] = 0;
-        });
+        for (j, entry) in entries {
+            wide[j] = entry;
+            self.cells[base + j] = 0;
+        }
+        if has_own {
+            wide[own] = ONE;
+        }
         wide[self.width] = *side;
         self.become_wide(i);
         if den.is_some() {
             self.come_back(i);
         }
     }
+}
+
+/// The numbers that aren't 0, each beside its column.
+fn present(numbers: &[Ratio]) -> impl Iterator<Item = (usize, Ratio)> + Clone + '_ {
+    numbers.iter().copied().enumerate().filter(|(_, number)| !number.is_zero())
 }
 
 impl Tableau for WholeBoard {
@@ -719,29 +725,17 @@ impl Tableau for WholeBoard {
             basis: (c..c + m).collect(),
         };
         let mut sums = vec![ZERO; c];
-        for i in 0..m {
-            let entries = &form.matrix[i * c..(i + 1) * c];
-            board.start_row(i, entries, &form.right[i]);
-            // Of the row's own numbers, which are few.
-            let mut is_right = true;
-            all_of(&board.bits, words, i, |j| {
-                if j < c {
-                    match sums[j].add(&entries[j]) {
-                        Ok(sum) => sums[j] = sum,
-                        Err(_) => is_right = false,
-                    }
-                }
-                is_right
-            });
-            if !is_right {
-                return None;
+        for (i, entries) in form.rows().enumerate() {
+            board.start_row(i, entries.clone(), &form.right[i]);
+            for (j, entry) in entries {
+                sums[j] = sums[j].add(&entry).ok()?;
             }
         }
         for sum in &mut sums {
             *sum = sum.neg();
         }
-        board.start_row(m, &form.costs, &ZERO);
-        board.start_row(m + 1, &sums, &ZERO);
+        board.start_row(m, present(&form.costs), &ZERO);
+        board.start_row(m + 1, present(&sums), &ZERO);
         Some(board)
     }
 

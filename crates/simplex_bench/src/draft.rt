@@ -1,38 +1,51 @@
-// The numbers of a form that is being written.
+// A form that is being written.
 use crate::fault::BenchFault;
 use ratio_core::{Ratio, RatioFault};
+use sparse_ratios::SparseRatios;
 use std::alloc::{AllocError, Global};
 
 #[derive(Drop)]
 pub struct Draft {
     columns: u32,
-    pub matrix: Vec<Ratio>,
+    /// How many entries the matrix has, those that are 0 among them.
+    pub cells: usize,
     pub right: Vec<Ratio>,
     pub costs: Vec<Ratio>,
+    /// The entries that were put, each beside its place in the matrix, row by row.
+    pub terms: Vec<(usize, i64)>,
 }
 
 impl Draft {
+    /// A form of zeros.
     pub fn zeros(alloc: Global, m: u16, c: u16) -> Result<Draft, AllocError> {
         let (rows, columns) = (usize::from(m), usize::from(c));
         Ok(Draft {
             columns: u32::from(c),
-            matrix: zeros(alloc, rows * columns)?,
+            cells: rows * columns,
             right: zeros(alloc, rows)?,
             costs: zeros(alloc, columns)?,
+            terms: Vec::new(alloc),
         })
     }
 
-    /// Writes an entry of the matrix.
+    /// Puts an entry into the matrix.
     pub fn put(&mut self, row: u32, column: u32, entry: i64) -> Result<(), BenchFault> {
-        if column >= self.columns {
+        let place = u64::from(row) * u64::from(self.columns) + u64::from(column);
+        let place = place as usize;
+        if column >= self.columns || place >= self.cells {
             return Err(BenchFault::Number);
         }
-        let place = u64::from(row) * u64::from(self.columns) + u64::from(column);
-        write(&mut self.matrix, place as usize, entry)
+        self.terms.push((place, entry))?;
+        Ok(())
     }
 
     pub fn put_cost(&mut self, column: u32, cost: i64) -> Result<(), BenchFault> {
-        write(&mut self.costs, column as usize, cost)
+        let place = column as usize;
+        if place >= self.costs.len() {
+            return Err(BenchFault::Number);
+        }
+        self.costs[place] = whole(cost)?;
+        Ok(())
     }
 
     /// Adds to a right side.
@@ -54,12 +67,29 @@ fn zeros(alloc: Global, count: usize) -> Result<Vec<Ratio>, AllocError> {
     Ok(numbers)
 }
 
-fn write(numbers: &mut [Ratio], place: usize, number: i64) -> Result<(), BenchFault> {
-    let number = whole(number)?;
-    if place >= numbers.len() {
-        return Err(BenchFault::Number);
+/// The matrix of this number of cells that has these entries, each at its place. A transport puts
+/// them column by column, so they are sorted first.
+pub fn matrix_of(
+    alloc: Global,
+    cells: usize,
+    mut terms: Vec<(usize, i64)>,
+) -> Result<SparseRatios, BenchFault> {
+    terms.sort_by_key(|term| term.0)?;
+    let mut matrix = SparseRatios::with_capacity(alloc, terms.len())?;
+    put_terms(&terms, &mut matrix)?;
+    if matrix.len() < cells {
+        matrix.pad(cells);
     }
-    numbers[place] = number;
+    Ok(matrix)
+}
+
+// A place that was put twice has its first entry.
+fn put_terms(terms: &[(usize, i64)], matrix: &mut SparseRatios) -> Result<(), BenchFault> {
+    for term in terms {
+        if term.0 >= matrix.len() {
+            matrix.put(term.0, whole(term.1)?)?;
+        }
+    }
     Ok(())
 }
 

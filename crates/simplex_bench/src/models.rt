@@ -2,12 +2,11 @@
 ghost use Rattle.std.specs.Prelude.{◌<◌, ◌^◌, IfOk};
 ghost use Rattle.simplex_core.specs.StdForm.{IsWellShaped};
 
-use crate::draft::Draft;
+use crate::draft::{Draft, matrix_of};
 use crate::draw::Draw;
 use crate::fault::BenchFault;
 use crate::forms::checked;
 use simplex_core::StdForm;
-use sparse_ratios::SparseRatios;
 use std::alloc::Global;
 
 /// What is modelled.
@@ -39,12 +38,13 @@ pub fn model(alloc: Global, kind: Kind, m: u16, c: u16) -> Result<StdForm, Bench
     let mut draft = Draft::zeros(alloc, m, c)?;
     draw(kind, m, c, &mut draft)?;
     let Draft {
-        matrix,
+        cells,
         right,
         costs,
+        terms,
         ..
     } = draft;
-    let matrix = SparseRatios::from_slice(alloc, &matrix)?;
+    let matrix = matrix_of(alloc, cells, terms)?;
     checked(alloc, usize::from(m), usize::from(c), matrix, right, costs)
 }
 
