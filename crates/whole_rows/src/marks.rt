@@ -1,6 +1,6 @@
 //! Marks of columns, as bits of words: a row of many columns has few numbers other than 0, and a
 //! number without a mark isn't read.
-ghost use Rattle.std.specs.Prelude.{◌≡◌, ◌≢◌, ◌*◌, ◌/◌, ◌<◌, ◌≤◌, ◌^◌, ℕ, ◌*ℤ◌, length, map, pos, slice_index, slice_index_or, take, unsigned_abs};
+ghost use Rattle.std.specs.Prelude.{◌≡◌, ◌≢◌, ◌+◌, ◌*◌, ◌/◌, ◌<◌, ◌≤◌, ◌^◌, ℕ, ◌*ℤ◌, length, map, pos, slice_index, slice_index_or, take, unsigned_abs};
 ghost use Rattle.whole_rows.specs.ColumnMarks.{AreMarksJoined, AreScaled, IsColumnMarked, IsRangeChanged, IsWordChanged, MarksCover, WordCovers, mark_of, words_of};
 ghost use Rattle.whole_rows.specs.Listed.{ListsNonzeros};
 

@@ -22,6 +22,16 @@ listed_quotient-requires-clause-exact c =
     (λ k b e. absurd (apart_lem _ _ (c.requires.lists.rising k c.loop-k.k b c.loop-k-test.true) e))))
     (c.requires.exact j)
 
+pub listed_quotient-requires-clause-small : goal.listed_quotient-requires-clause-small
+listed_quotient-requires-clause-small c =
+    let j = slice_index c.args.columns.now c.loop-k.k in
+    let n : ℤ = slice_index_or c.loop-k.numbers j (pos 0) in
+    let n_fits : FitsSigned w64 n = search rules in
+    subst (λ x. unsigned_abs x < 9223372036854775808)
+    (sym (to_z-of_z w64 n n_fits ∙ c.loop-k.invariant.others j
+    (λ k b e. absurd (apart_lem _ _ (c.requires.lists.rising k c.loop-k.k b c.loop-k-test.true) e))))
+    (c.requires.small j)
+
 pub loop-k-preserved : goal.loop-k-preserved
 loop-k-preserved c =
     let j = slice_index c.args.columns.now c.loop-k.k in
