@@ -9,6 +9,7 @@ pub mod PivotSteps
 pub mod BoardSteps
 pub mod StartSteps
 pub mod WholeStartSteps
+pub mod FirstCostSteps
 pub mod PlaceSteps
 pub mod ScanSteps
 pub mod WordSteps

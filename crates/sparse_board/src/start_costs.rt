@@ -1,5 +1,5 @@
 //! The cost rows that a board starts with.
-ghost use Rattle.std.specs.Prelude.{◌≡◌, ◌+◌, ◌*◌, ◌<◌, ◌≤◌, ◌^◌, ℕ, List, length, false, true, IfOk, IsErrOf, OnOk};
+ghost use Rattle.std.specs.Prelude.{◌≡◌, ◌+◌, ◌*◌, ◌<◌, ◌≤◌, ◌^◌, ℕ, List, length, false, pos, true, IfOk, IsErrOf, IsTrue, OnOk};
 ghost use Rattle.ratio_core.specs.Rational.{Rational};
 ghost use Rattle.simplex_form.specs.Board.{price};
 ghost use Rattle.simplex_form.specs.Fit.{start_fits};
@@ -12,7 +12,8 @@ ghost use Rattle.whole_rows.specs.Rows as whole;
 use crate::cost_rows::CostRows;
 use crate::row::Row;
 use crate::sparse_row::SparseRow;
-use crate::starting::put_numbers;
+use crate::starting::{lower_terms, put_numbers};
+use crate::terms::{row_end, terms_between};
 use ratio_core::{NumberFault, Ratio};
 use sparse_ratios::SparseRatios;
 use std::alloc::{AllocError, Global};
@@ -62,12 +63,40 @@ fn first_row(alloc: Global, m: usize, c: usize, matrix: &SparseRatios) -> Result
     ensures overflow { IsErrOf result NumberFault.Overflow
         → AtEachStart m c matrix.now (λ F _. start_fits F ≡ false) }
 {
-    let prices = first_prices(alloc, m, c, matrix)?;
     let mut narrow = NarrowRow::zeros(alloc, c + m)?;
-    if put_numbers(&mut narrow, &prices) {
+    if lower_by_rows(&mut narrow, m, c, matrix) {
         return Ok(Row::of_whole(alloc, narrow, c + m));
     }
+    let prices = first_prices(alloc, m, c, matrix)?;
     Ok(row_of(alloc, narrow, &prices)?)
+}
+
+// Lowers zeros by each row of the matrix: the first cost row, where all numbers and all sums are whole
+// numbers of 64 bits. Tells whether they are.
+fn lower_by_rows(row: &mut NarrowRow, m: usize, c: usize, matrix: &SparseRatios) -> bool
+    requires long { length matrix.now ≡ m * c }
+    requires wide { whole.width_of row.old ≡ c + m }
+    requires den { row.old.den ≡ 1 }
+    requires zeros { (j : ℕ) → whole.numerator_of row.old j ≡ pos 0 }
+    ensures width { whole.width_of row.new ≡ c + m }
+    ensures prices { IsTrue result → AtEachStart m c matrix.now (λ F s.
+        (j : ℕ) → j < c + m → whole.number_of row.new j ≡ price F s (first_cost F) j) }
+    ensures fits { IsTrue result
+        → AtEachStart m c matrix.now (λ F _. start_fits F ≡ true) }
+{
+    // what this ensures: its places fit
+    let _places = matrix.len();
+    let terms = matrix.terms();
+    let mut from = 0;
+    for i in 0..m {
+        let end = row_end(terms, from, i * c + c);
+        let entries = terms_between(terms, from, end);
+        if !lower_terms(row, entries, i * c, c) {
+            return false;
+        }
+        from = end;
+    }
+    true
 }
 
 // The second: the costs, and 0 in each artificial column.

@@ -7,7 +7,7 @@ use Rattle.std.proofs.lemmas.List.{get_or-set_other, get_or-set_same, get_or_pas
 use Rattle.std.proofs.lemmas.Nat.Bits.{bit_at-zero}
 use Rattle.simplex_laws.specs.BoundedSumLaws.{same_or_other}
 use Rattle.whole_rows.specs.Bits.{IsBitCleared, IsLowestBit}
-use Rattle.whole_rows.specs.ColumnMarks.{AreScaled, IsWordChanged, WordCovers}
+use Rattle.whole_rows.specs.ColumnMarks.{AreScaled, IsRangeChanged, IsWordChanged, WordCovers}
 use Rattle.whole_rows.specs.Numerators.{AreShrunk}
 use Rattle.whole_rows.specs.Over.{lowered_num}
 use Rattle.whole_rows.proofs.BitSteps.{one_zero}
@@ -149,6 +149,9 @@ module _ (P : ℕ → ℤ → Type 0) (n : ℕ) (old new : List ℤ) (h : AreCol
 pub words_past : (w n k : ℕ) → n ≡ w / 64 + 1 → n ≤ k → w ≤ k * 64
 words_past w n k e b = omega (arith, e, b)
 
+pub word_start : (w n k : ℕ) → n ≡ w / 64 + 1 → k < n → k * 64 ≤ w
+word_start w n k e b = omega (arith, e, b)
+
 -- ---- numbers that are multiplied
 
 abbrev pub ScaledTo : ℤ → List ℤ → ℕ → ℤ → Type 0
@@ -217,3 +220,64 @@ shrunk_all over by step common n old new h past = record {
   where
     below_lem : (a b c : ℕ) → a < b → b ≤ c → a < c
     below_lem a b c x y = omega (arith, x, y)
+
+-- ---- a range of columns
+
+pub range_none : (P : ℕ → ℤ → Type 0) (start : ℕ) (old : List ℤ) → IsRangeChanged P start start old old
+range_none P start old = record {
+  long = refl;
+  changed = λ j b c. absurd (omega (arith, b, c));
+  before = λ j b. refl;
+  after = λ j b. refl;
+}
+
+module _ (P : ℕ → ℤ → Type 0) (start j : ℕ) (old now : List ℤ)
+    (h : IsRangeChanged P start j old now) where
+  pub range_next : (x : ℤ) → start ≤ j → j < length now → P j x
+      → IsRangeChanged P start (j + 1) old (slice_set now j x)
+  range_next x past within made = record {
+    long = length-set now j x ∙ h.long;
+    changed = λ i b c. same_or_other (P i (slice_index_or (slice_set now j x) i (pos 0))) i j
+        (λ e. subst (λ k. P k (slice_index_or (slice_set now j x) k (pos 0))) (sym e)
+        (subst (P j) (sym (get_or-set_same now j x (pos 0) within)) made))
+        (λ n. subst (P i) (sym (get_or-set_other now j i x (pos 0) n))
+        (h.changed i b (less_lem i j c n)));
+    before = λ i b. get_or-set_other now j i x (pos 0) (before_lem i b) ∙ h.before i b;
+    after = λ i b. get_or-set_other now j i x (pos 0) (after_lem i j b)
+        ∙ h.after i (omega (arith, b));
+  }
+    where
+      less_lem : (i j : ℕ) → i < j + 1 → ¬ (i ≡ j) → i < j
+      less_lem i j b n = omega (arith, b, n)
+
+      before_lem : (i : ℕ) → i < start → ¬ (i ≡ j)
+      before_lem i b e = omega (arith, b, e, past)
+
+      after_lem : (i j : ℕ) → j + 1 ≤ i → ¬ (i ≡ j)
+      after_lem i j b e = omega (arith, b, e)
+
+-- the columns of a word are multiplied; past the end there are none
+pub scaled_range : (over : ℤ) (start end : ℕ) (old new : List ℤ)
+    → IsRangeChanged (ScaledTo over old) start end old new → end ≤ start + 64
+    → (end < start + 64 → end ≡ length old) → IsWordChanged (ScaledTo over old) start old new
+scaled_range over start end old new h most last = record {
+  long = h.long;
+  changed = λ i b. by_place i b (cases_lt (start + i) end);
+  before = h.before;
+  after = λ j b. h.after j (past_lem end start j most b);
+}
+  where
+    past_lem : (end start j : ℕ) → end ≤ start + 64 → start + 64 ≤ j → end ≤ j
+    past_lem end start j b c = omega (arith, b, c)
+
+    short_lem : (end start i : ℕ) → i < 64 → end ≤ start + i → end < start + 64
+    short_lem end start i b c = omega (arith, b, c)
+
+    by_place : (i : ℕ) → i < 64 → (start + i < end) ⊎ (end ≤ start + i)
+        → ScaledTo over old (start + i) (slice_index_or new (start + i) (pos 0))
+    by_place i b (inl c) = h.changed (start + i) (omega arith) c
+    by_place i b (inr c) =
+        let none : slice_index_or old (start + i) (pos 0) ≡ pos 0 =
+        get_or_past old (start + i) (pos 0)
+        (subst (λ n. n ≤ start + i) (last (short_lem end start i b c)) c) in
+        h.after (start + i) c ∙ none ∙ sym (ap (λ x. x *ℤ over) none ∙ zero_times over)

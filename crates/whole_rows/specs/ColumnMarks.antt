@@ -40,6 +40,13 @@ pub record IsWordChanged (P : ℕ → ℤ → Type 0) (start : ℕ) (old new : L
   pub after : (j : ℕ) → start + 64 ≤ j →
       slice_index_or new j (pos 0) ≡ slice_index_or old j (pos 0)
 
+-- the numbers of the columns from `start` up to `end` are changed to such, and each other is as it was
+pub record IsRangeChanged (P : ℕ → ℤ → Type 0) (start end : ℕ) (old new : List ℤ) : Type 0 where
+  pub long : length new ≡ length old
+  pub changed : (j : ℕ) → start ≤ j → j < end → P j (slice_index_or new j (pos 0))
+  pub before : (j : ℕ) → j < start → slice_index_or new j (pos 0) ≡ slice_index_or old j (pos 0)
+  pub after : (j : ℕ) → end ≤ j → slice_index_or new j (pos 0) ≡ slice_index_or old j (pos 0)
+
 -- the first n numbers are multiplied, and each other is as it was
 pub record AreScaled (over : ℤ) (n : ℕ) (old new : List ℤ) : Type 0 where
   pub long : length new ≡ length old

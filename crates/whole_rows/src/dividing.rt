@@ -1,5 +1,5 @@
 //! A list of numerators that is divided by what divides all.
-ghost use Rattle.std.specs.Prelude.{◌≡◌, ◌≢◌, ◌<◌, ◌≤◌, ◌^◌, ℕ, ◌*ℤ◌, length, pos, slice_index_or, unsigned_abs};
+ghost use Rattle.std.specs.Prelude.{◌≡◌, ◌≢◌, ◌<◌, ◌≤◌, ◌^◌, ℕ, ◌*ℤ◌, IsTrue, length, pos, slice_index_or, unsigned_abs};
 ghost use Rattle.std.specs.Int.{◌∣◌};
 ghost use Rattle.ratio_core.specs.Gcd.{gcd};
 ghost use Rattle.ratio_core.specs.Rational.{signed};
@@ -9,6 +9,8 @@ ghost use Rattle.whole_rows.specs.Numerators.{AreDivided, AreSized, DividesAll, 
 
 use crate::arithmetic::common_divisor;
 use crate::plan::Measure;
+use crate::quotients::inverse_of;
+use crate::widening::product;
 
 // A row's bound below it is good enough when the row is divided: its greatest numerator isn't sought.
 const SMALL: u64 = 1024;
@@ -144,8 +146,44 @@ pub(crate) fn divide_numbers(numbers: &mut [i64], columns: &[u32], by: i64)
     if by == 1 {
         return;
     }
+    let inverse = signed_inverse(by);
     for k in 0..columns.len() {
         let j = columns[k] as usize;
-        numbers[j] = quotient(numbers[j], by);
+        numbers[j] = listed_quotient(numbers[j], by, inverse);
     }
+}
+
+// The inverse modulo 2^64 of the odd part of a number, with the number's sign.
+fn signed_inverse(by: i64) -> i64 {
+    let inverse = inverse_of(by.unsigned_abs()).cast_signed();
+    if by < 0 {
+        inverse.wrapping_neg()
+    } else {
+        inverse
+    }
+}
+
+// The numerator of which `a` is a multiple, by the inverse of the divisor: the product is tested, so
+// nothing rests on the inverse.
+#[inline]
+fn listed_quotient(a: i64, by: i64, inverse: i64) -> i64
+    requires nonzero { by ≢ pos 0 }
+    requires exact { unsigned_abs by ∣ unsigned_abs a }
+    requires small { unsigned_abs a < 2 ^ 63 }
+    ensures { a ≡ result *ℤ by }
+{
+    let guess = a
+        .wrapping_shr(by.trailing_zeros() % 64)
+        .wrapping_mul(inverse);
+    if is_product(guess, by, a) {
+        return guess;
+    }
+    quotient(a, by)
+}
+
+#[inline]
+fn is_product(guess: i64, by: i64, a: i64) -> bool
+    ensures { IsTrue result → a ≡ guess *ℤ by }
+{
+    product(guess, by) == a as i128
 }

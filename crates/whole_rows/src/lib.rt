@@ -22,4 +22,4 @@ pub use narrow_row::NarrowRow;
 pub use plan::{LongPlan, LoweringPlan, ShortPlan};
 pub use ratio::{has_negative, has_positive, is_before, is_negative_at, is_nonzero_at};
 pub use step::NarrowStep;
-pub use widening::{lowered_number, number};
+pub use widening::{lowered_number, number, numerator};

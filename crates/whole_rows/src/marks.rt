@@ -1,7 +1,7 @@
 //! Marks of columns, as bits of words: a row of many columns has few numbers other than 0, and a
 //! number without a mark isn't read.
-ghost use Rattle.std.specs.Prelude.{◌≡◌, ◌≢◌, ◌*◌, ◌/◌, ◌<◌, ◌≤◌, ◌^◌, ℕ, ◌*ℤ◌, length, map, pos, slice_index, slice_index_or, take, unsigned_abs};
-ghost use Rattle.whole_rows.specs.ColumnMarks.{AreMarksJoined, AreScaled, IsColumnMarked, IsWordChanged, MarksCover, WordCovers, mark_of, words_of};
+ghost use Rattle.std.specs.Prelude.{◌≡◌, ◌≢◌, ◌+◌, ◌*◌, ◌/◌, ◌<◌, ◌≤◌, ◌^◌, ℕ, ◌*ℤ◌, length, map, pos, slice_index, slice_index_or, take, unsigned_abs};
+ghost use Rattle.whole_rows.specs.ColumnMarks.{AreMarksJoined, AreScaled, IsColumnMarked, IsRangeChanged, IsWordChanged, MarksCover, WordCovers, mark_of, words_of};
 ghost use Rattle.whole_rows.specs.Listed.{ListsNonzeros};
 
 use crate::bits::{lowest, with_bit, without_lowest};
@@ -114,7 +114,64 @@ fn scale_marked(numbers: &mut [i64], marks: &[u64], over: i64)
     ensures { AreScaled over (length numbers.old) numbers.old numbers.new }
 {
     for k in 0..marks.len() {
-        scale_word(numbers, k * WORD, marks[k], over);
+        scale_columns(numbers, k * WORD, marks[k], over);
+    }
+}
+
+// Multiplies the numbers of a word's columns, of which those that aren't 0 are at its bits; the first
+// bit is of column `start`. Where many bits are set the zeros between them are multiplied too: the
+// next number needn't be found then.
+#[inline]
+fn scale_columns(numbers: &mut [i64], start: usize, word: u64, over: i64)
+    requires start { start ≤ length numbers.old }
+    requires covers { WordCovers word start numbers.old }
+    requires fits { (j : ℕ) → start ≤ j → j < length numbers.old
+        → unsigned_abs (slice_index_or numbers.old j (pos 0)) * unsigned_abs over < 2 ^ 63 }
+    ensures { IsWordChanged (λ j x. x ≡ slice_index_or numbers.old j (pos 0) *ℤ over) start
+        numbers.old numbers.new }
+{
+    let end = word_end(numbers.len(), start);
+    if is_dense(word, end - start) {
+        scale_all(numbers, start, end, over);
+    } else {
+        scale_word(numbers, start, word, over);
+    }
+}
+
+// Where the columns of a word end of which the first is column `start`.
+#[inline]
+fn word_end(width: usize, start: usize) -> usize
+    requires { start ≤ width }
+    ensures past { start ≤ result }
+    ensures within { result ≤ width }
+    ensures most { result ≤ start + 64 }
+    ensures end { result < start + 64 → result ≡ width }
+{
+    if width - start < WORD {
+        width
+    } else {
+        start + WORD
+    }
+}
+
+// Whether a quarter of this number of columns have a bit.
+#[inline]
+fn is_dense(word: u64, columns: usize) -> bool {
+    word.count_ones() as usize >= columns / 4
+}
+
+// Multiplies the numbers of the columns from `start` up to `end`.
+#[inline]
+fn scale_all(numbers: &mut [i64], start: usize, end: usize, over: i64)
+    requires start { start ≤ end }
+    requires end { end ≤ length numbers.old }
+    requires fits { (j : ℕ) → start ≤ j → j < length numbers.old
+        → unsigned_abs (slice_index_or numbers.old j (pos 0)) * unsigned_abs over < 2 ^ 63 }
+    ensures { IsRangeChanged (λ j x. x ≡ slice_index_or numbers.old j (pos 0) *ℤ over) start end
+        numbers.old numbers.new }
+{
+    for j in start..end {
+        numbers[j] = scaled(numbers[j], over);
     }
 }
 

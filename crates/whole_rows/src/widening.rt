@@ -21,9 +21,9 @@ fn fraction_of(num: i128, den: u128) -> Ratio
     }
 }
 
-// The numerator of column j; that of the right side stands behind the columns.
+/// The numerator of column j; that of the right side stands behind the columns.
 #[inline]
-pub(crate) fn numerator(row: &NarrowRow, j: usize) -> i64
+pub fn numerator(row: &NarrowRow, j: usize) -> i64
     ensures { result ≡ numerator_of row.now j }
 {
     if j < row.numbers.len() {
@@ -78,7 +78,7 @@ pub(crate) fn scaled(a: i64, by: u64) -> i128
 }
 
 #[inline]
-fn product(a: i64, b: i64) -> i128
+pub(crate) fn product(a: i64, b: i64) -> i128
     ensures value { result ≡ a *ℤ b }
     ensures fits { unsigned_abs result ≤ 2 ^ 126 }
 {

@@ -11,8 +11,8 @@ apart_lem x y b e = omega (arith, b, e)
 pub loop-k-init : goal.loop-k-init
 loop-k-init c = divided_none (to_z w64 (of_z w64 c.args.by)) c.args.columns.now c.args.numbers.now
 
-pub quotient-requires-clause-exact : goal.quotient-requires-clause-exact
-quotient-requires-clause-exact c =
+pub listed_quotient-requires-clause-exact : goal.listed_quotient-requires-clause-exact
+listed_quotient-requires-clause-exact c =
     let j = slice_index c.args.columns.now c.loop-k.k in
     let n : ℤ = slice_index_or c.loop-k.numbers j (pos 0) in
     let n_fits : FitsSigned w64 n = search rules in
@@ -22,20 +22,30 @@ quotient-requires-clause-exact c =
     (λ k b e. absurd (apart_lem _ _ (c.requires.lists.rising k c.loop-k.k b c.loop-k-test.true) e))))
     (c.requires.exact j)
 
+pub listed_quotient-requires-clause-small : goal.listed_quotient-requires-clause-small
+listed_quotient-requires-clause-small c =
+    let j = slice_index c.args.columns.now c.loop-k.k in
+    let n : ℤ = slice_index_or c.loop-k.numbers j (pos 0) in
+    let n_fits : FitsSigned w64 n = search rules in
+    subst (λ x. unsigned_abs x < 9223372036854775808)
+    (sym (to_z-of_z w64 n n_fits ∙ c.loop-k.invariant.others j
+    (λ k b e. absurd (apart_lem _ _ (c.requires.lists.rising k c.loop-k.k b c.loop-k-test.true) e))))
+    (c.requires.small j)
+
 pub loop-k-preserved : goal.loop-k-preserved
 loop-k-preserved c =
     let j = slice_index c.args.columns.now c.loop-k.k in
     let n : ℤ = slice_index_or c.loop-k.numbers j (pos 0) in
     let n_fits : FitsSigned w64 n = search rules in
-    let result_fits : FitsSigned w64 c.quotient.result = search rules in
+    let result_fits : FitsSigned w64 c.listed_quotient.result = search rules in
     divided_next (to_z w64 (of_z w64 c.args.by)) c.args.columns.now c.loop-k.k c.args.numbers.now
     c.loop-k.numbers _ c.loop-k.invariant
     (subst (λ m. j < m) (sym c.loop-k.invariant.long)
     (c.requires.lists.within c.loop-k.k c.loop-k-test.true))
     (λ k b e. absurd (apart_lem _ _ (c.requires.lists.rising k c.loop-k.k b c.loop-k-test.true) e))
-    (sym (to_z-of_z w64 n n_fits) ∙ c.quotient.ensures
+    (sym (to_z-of_z w64 n n_fits) ∙ c.listed_quotient.ensures
     ∙ ap (λ z. z *ℤ to_z w64 (of_z w64 c.args.by))
-    (sym (to_z-of_z w64 c.quotient.result result_fits)))
+    (sym (to_z-of_z w64 c.listed_quotient.result result_fits)))
 
 pub returns : goal.returns
 returns c =
