@@ -138,7 +138,7 @@ fn scale_columns(numbers: &mut [i64], start: usize, word: u64, over: i64)
     }
 }
 
-// Where the columns of a word end of which the first is column `start`.
+// The end of the columns of a word whose first is column `start`.
 #[inline]
 fn word_end(width: usize, start: usize) -> usize
     requires { start ≤ width }
